@@ -1,0 +1,58 @@
+-- The outcome's text (01, Outcome).
+-- Assumes nothing.
+use mathlib.Core.List.{List, [], _∷_, _++_, reverse}
+use Prim.Native.Nat.{ℕ}
+use lib.ListN.{length}
+use Rattle.semantics.specs.Text.{bytes, decimal}
+use Rattle.semantics.specs.Values.{Value}
+use Rattle.semantics.specs.Machine.{Machine}
+use Rattle.semantics.specs.Printing.{item}
+use Rattle.semantics.specs.Held.{heldCells}
+use Rattle.semantics.specs.Steps.{State, Ending, finished, stopped, outOfFuel, failed, Run}
+use Rattle.semantics.specs.declared.Error.{Error}
+use Rattle.semantics.specs.declared.Error.the-variants.{SyntaxError, LimitCheck, Undefined, StackUnderflow, TypeCheck, RangeCheck, UndefinedResult, UnmatchedMark, ExecStackOverflow, StackOverflow, VmError, IoError}
+
+-- The paper's name of each error.
+unfoldable pub errorText : Error → List ℕ
+errorText SyntaxError = bytes "syntaxerror"
+errorText LimitCheck = bytes "limitcheck"
+errorText Undefined = bytes "undefined"
+errorText StackUnderflow = bytes "stackunderflow"
+errorText TypeCheck = bytes "typecheck"
+errorText RangeCheck = bytes "rangecheck"
+errorText UndefinedResult = bytes "undefinedresult"
+errorText UnmatchedMark = bytes "unmatchedmark"
+errorText ExecStackOverflow = bytes "execstackoverflow"
+errorText StackOverflow = bytes "stackoverflow"
+errorText VmError = bytes "VMerror"
+errorText IoError = bytes "ioerror"
+
+unfoldable pub line : List ℕ → List ℕ → List ℕ
+line key value = key ++ bytes "=" ++ value ++ bytes "\n"
+
+unfoldable pub endingLines : Ending → List ℕ
+endingLines finished = bytes "ending=finished\nerror=none\ncommand=\n"
+endingLines stopped = bytes "ending=stopped\nerror=none\ncommand=\n"
+endingLines outOfFuel = bytes "ending=fuel\nerror=none\ncommand=\n"
+endingLines (failed e c) = bytes "ending=error\n" ++ line (bytes "error") (errorText e) ++ line (bytes "command") c
+
+unfoldable pub items : Machine → List Value → List ℕ
+items m [] = []
+items m (v ∷ vs) = line (bytes "item") (item m v) ++ items m vs
+
+unfoldable pub outcome : Run → List ℕ
+outcome r =
+    let σ = r .final in
+    let m = σ .machine in
+    endingLines (r .ending)
+    ++ line (bytes "at") (decimal (σ .at))
+    ++ line (bytes "steps") (decimal (σ .steps))
+    ++ line (bytes "depth") (decimal (length (m .stack)))
+    ++ line (bytes "held") (decimal (heldCells m))
+    ++ line (bytes "log") (decimal (length (m .log)))
+    ++ items m (reverse (m .stack))
+
+-- Opens every definition of this file.
+unfoldable pub outcomes : Unit {0}
+unfolding errorText line endingLines items outcome
+outcomes = tt

@@ -1,0 +1,232 @@
+-- Steps and runs (01, Steps, Order within a step, Room).
+-- Assumes nothing.
+use mathlib.Core.Bool.{Bool, true, false}
+use mathlib.Core.List.{List, [], _∷_, _++_, map}
+use mathlib.Core.Option.{Option, none, some}
+use Prim.Native.Nat.{ℕ, zero, suc, _-_}
+use lib.IntN.{ℤ, _+ℤ_}
+use lib.Signed.{ltZ, nonNeg}
+use lib.ListN.{length, drop, getElem?}
+use lib.Dec.{leb, eqb}
+use Rattle.semantics.specs.Text.{bytes}
+use Rattle.semantics.specs.Words.{signed, word}
+use Rattle.semantics.specs.Values.{Result, ok, fault, _>>=_, check, given, Value, integer, boolean, null, mark, operator, name, string, array, cells}
+use Rattle.semantics.specs.Machine.{Machine, Frame, pending, running, looping, repeating, counting, Slot, withExec, push, enter, object, elementsOf, lookup}
+use Rattle.semantics.specs.Printing.{nameText}
+use Rattle.semantics.specs.Operators.{perform, table, Entry}
+use Rattle.semantics.specs.Held.{heldCells, sumOf}
+use Rattle.semantics.specs.Groups.{Taken, skip, takeToken}
+use Rattle.semantics.specs.declared.Error.{Error}
+use Rattle.semantics.specs.declared.Error.the-variants.{LimitCheck, Undefined, ExecStackOverflow, StackOverflow, VmError, IoError}
+
+-- What is lent, in slots, cells and bytes.
+pub record Limits : Type 0 where
+  pub stackSlots : ℕ
+  pub execSlots : ℕ
+  pub dictionarySlots : ℕ
+  pub cellCount : ℕ
+  pub logBytes : ℕ
+
+pub record State : Type 0 where
+  pub machine : Machine
+  pub next : ℕ  -- the offset of the script bytes that are left
+  pub at : ℕ  -- the offset of the token last taken
+  pub steps : ℕ
+
+-- What a step does to the machine; and the operator or executable name that it executes, as text, else nothing.
+pub record Move : Type 0 where
+  pub command : List ℕ
+  pub result : Result Machine
+
+-- ---- executing
+
+unfoldable pub commandOf : Value → List ℕ
+commandOf (integer w) = []
+commandOf (boolean b) = []
+commandOf null = []
+commandOf mark = []
+commandOf (operator o) = o
+commandOf (name true n) = nameText true n
+commandOf (name false n) = []
+commandOf (string i) = []
+commandOf (array x i) = []
+
+-- Executing a name makes its binding pending; a pending procedure becomes a running one; literals are pushed.
+unfoldable pub execute : Value → Machine → Result Machine
+execute (integer w) m = ok (push (integer w) m)
+execute (boolean b) m = ok (push (boolean b) m)
+execute null m = ok (push null m)
+execute mark m = ok (push mark m)
+execute (operator o) m = perform o m
+execute (name true n) m = do
+  v ← given (lookup n (m .dictionary)) Undefined
+  ok (enter (pending v) m)
+execute (name false n) m = ok (push (name false n) m)
+execute (string i) m = ok (push (string i) m)
+execute (array true i) m = ok (enter (running i 0) m)
+execute (array false i) m = ok (push (array false i) m)
+
+unfoldable pub isProcedure : Value → Bool
+isProcedure (integer w) = false
+isProcedure (boolean b) = false
+isProcedure null = false
+isProcedure mark = false
+isProcedure (operator o) = false
+isProcedure (name x n) = false
+isProcedure (string i) = false
+isProcedure (array x i) = x
+
+-- Taken from a procedure or the script: executable names and operators are executed; all else, procedures too, is pushed.
+unfoldable pub treat : Value → Machine → Result Machine
+treat v m = elim (isProcedure v) [ true ↦ ok (push v m) | false ↦ execute v m ]
+
+-- ---- the top of the execution stack
+
+-- A step in which no operator or name is executed.
+unfoldable pub silent : Result Machine → Move
+silent r = record { command = []; result = r }
+
+-- `for` ends above the final for an increment of zero or more, below it for a negative one.
+unfoldable pub beyond : ℤ → ℤ → ℤ → Bool
+beyond next increment final = elim (nonNeg increment) [ true ↦ ltZ final next | false ↦ ltZ next final ]
+
+-- `for` holds the wrapped sum as its next number.
+unfoldable pub following : ℕ → ℕ → ℕ
+following next increment = word (signed next +ℤ signed increment)
+
+-- The frame acts; it has been dropped from the machine.
+unfoldable pub resume : Frame → Machine → Move
+resume (pending v) m = record { command = commandOf v; result = execute v m }
+resume (running i k) m =
+    elim (getElem? (elementsOf (object m i)) k) [
+      | none ↦ silent (ok m)
+      | some v ↦ record { command = commandOf v; result = treat v (enter (running i (suc k)) m) }
+    ]
+resume (looping b) m = silent (ok (enter (pending b) (enter (looping b) m)))
+resume (repeating zero b) m = silent (ok m)
+resume (repeating (suc n) b) m = silent (ok (enter (pending b) (enter (repeating n b) m)))
+resume (counting n i f b) m =
+    elim (beyond (signed n) (signed i) (signed f)) [
+      | true ↦ silent (ok m)
+      | false ↦ silent (ok (enter (pending b) (enter (counting (following n i) i f b) (push (integer n) m))))
+    ]
+
+-- ---- room
+
+-- The cells of the objects that the step makes.
+unfoldable pub newCells : Machine → Machine → ℕ
+newCells before after = sumOf cells (drop (length (before .store)) (after .store))
+
+-- VMerror goes by the cells that are lent, less those of the objects held before the step. A step that makes nothing wants none.
+unfoldable pub cellsFor : Limits → Machine → ℕ → Result (Unit {0})
+cellsFor l before zero = ok tt
+cellsFor l before (suc n) = check (leb (suc n) (l .cellCount - heldCells before)) VmError
+
+-- The last errors in the order, by what the machine after the step would need.
+unfoldable pub roomFor : Limits → Machine → Machine → Result Machine
+roomFor l before after = do
+  _ ← check (leb (length (after .dictionary)) (l .dictionarySlots)) LimitCheck
+  _ ← check (leb (length (after .exec)) (l .execSlots)) ExecStackOverflow
+  _ ← check (leb (length (after .stack)) (l .stackSlots)) StackOverflow
+  _ ← cellsFor l before (newCells before after)
+  _ ← check (leb (length (after .log)) (l .logBytes)) IoError
+  ok after
+
+-- ---- a step
+
+pub data Step : Type 0 where
+  goes : State → Step
+  fails : Error → List ℕ → State → Step  -- the error, the command, and the state that is left
+
+-- The step's end: the state after it, or the state before it with the step counted and `at` set.
+unfoldable pub ended : Limits → State → ℕ → ℕ → Move → Step
+ended l σ at next v =
+    elim (v .result >>= roomFor l (σ .machine)) [
+      | ok m ↦ goes (record { machine = m; next = next; at = at; steps = suc (σ .steps) })
+      | fault e ↦ fails e (v .command) (record { machine = σ .machine; next = σ .next; at = at; steps = suc (σ .steps) })
+    ]
+
+-- What taking a token comes to.
+unfoldable pub tokenMove : Result Taken → Move
+tokenMove (fault e) = silent (fault e)
+tokenMove (ok t) = record { command = commandOf (t .value); result = treat (t .value) (t .machine) }
+
+unfoldable pub offsetAfter : ℕ → Result Taken → ℕ
+offsetAfter start (fault e) = start
+offsetAfter start (ok t) = t .after
+
+-- One step acts once on the top of the execution stack. With an empty one the next script token is taken.
+unfoldable pub step : Limits → List ℕ → State → Step
+step l script σ =
+    let m = σ .machine in
+    elim (m .exec) [
+      | f ∷ fs ↦ ended l σ (σ .at) (σ .next) (resume f (withExec fs m))
+      | [] ↦
+          let start = skip script (σ .next) in
+          let t = takeToken script start m in
+          ended l σ start (offsetAfter start t) (tokenMove t)
+    ]
+
+-- ---- a run
+
+pub data Ending : Type 0 where
+  finished stopped outOfFuel : Ending
+  failed : Error → List ℕ → Ending  -- the error and the command
+
+pub record Run : Type 0 where
+  pub ending : Ending
+  pub final : State
+
+unfoldable pub isEmpty : {A : Type 0} → List A → Bool
+isEmpty [] = true
+isEmpty (a ∷ l) = false
+
+-- Only space and comment are left, and the execution stack is empty.
+unfoldable pub isFinished : List ℕ → State → Bool
+isFinished script σ = elim (isEmpty (σ .machine .exec)) [ true ↦ eqb (skip script (σ .next)) (length script) | false ↦ false ]
+
+unfoldable pub finish : List ℕ → State → Run
+finish script σ = record { ending = finished; final = record { machine = σ .machine; next = σ .next; at = length script; steps = σ .steps } }
+
+-- Whether the run is finished is asked before fuel is looked at. Each step costs 1 fuel.
+unfoldable pub run : Limits → List ℕ → ℕ → State → Run
+run l script zero σ =
+    elim (isFinished script σ) [ true ↦ finish script σ | false ↦ record { ending = outOfFuel; final = σ } ]
+run l script (suc fuel) σ =
+    elim (isFinished script σ) [
+      | true ↦ finish script σ
+      | false ↦ elim (step l script σ) [
+        | fails e c τ ↦ record { ending = failed e c; final = τ }
+        | goes τ ↦ elim (τ .machine .stopped) [ true ↦ record { ending = stopped; final = τ } | false ↦ run l script fuel τ ]
+      ]
+    ]
+
+-- ---- the start
+
+unfoldable pub slot : List ℕ → Value → Slot
+slot n v = record { key = n; binding = some v }
+
+-- The operators by their names, and [, true, false and null.
+unfoldable pub predefined : List Slot
+predefined =
+    map (λ (e : Entry). slot (e .title) (operator (e .title))) table
+    ++ (slot (bytes "[") (operator (bytes "mark"))
+    ∷ slot (bytes "true") (boolean true)
+    ∷ slot (bytes "false") (boolean false)
+    ∷ slot (bytes "null") null
+    ∷ [])
+
+-- Both stacks empty, the predefined names and no object.
+unfoldable pub initial : State
+initial =
+    record {
+      machine = record { stack = []; dictionary = predefined; exec = []; store = []; log = []; stopped = false };
+      next = 0;
+      at = 0;
+      steps = 0;
+    }
+
+-- Opens every definition of this file.
+unfoldable pub stepping : Unit {0}
+unfolding commandOf execute isProcedure treat silent beyond following resume newCells cellsFor roomFor ended tokenMove offsetAfter step isEmpty isFinished finish run slot predefined initial
+stepping = tt
