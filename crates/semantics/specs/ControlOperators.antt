@@ -1,10 +1,10 @@
 -- The dictionary and the flow of control (000, 6.5 and 6.6; 01, Steps and House rules).
 -- Assumes nothing.
-use mathlib.Core.Bool.{Bool, true, false, cond}
+use mathlib.Core.Bool.{true, false, cond}
 use mathlib.Core.List.{List, [], _∷_, map}
 use mathlib.Core.Option.{Option, none, some}
 use Rattle.semantics.specs.Words.{word}
-use Rattle.semantics.specs.Values.{Result, ok, _>>=_, given, Value, integer, boolean, null, mark, operator, name, string, array, elements, int, bool, literalName, procedureId, count}
+use Rattle.semantics.specs.Values.{ok, _>>=_, given, Value, integer, boolean, null, mark, operator, name, string, array, elements, int, bool, literalName, procedureId, count}
 use Rattle.semantics.specs.Machine.{Machine, Frame, pending, running, looping, repeating, counting, withExec, withDictionary, halt, push, enter, pop1, pop2, pop3, pop4, object, elementsOf, change, lookup, assign}
 use Rattle.semantics.specs.StackOperators.{Operator}
 use Rattle.semantics.specs.declared.Error.the-variants.{Undefined}

@@ -15,7 +15,7 @@ use Rattle.semantics.specs.Held.{holding}
 use Rattle.semantics.specs.Groups.{grouping}
 use Rattle.semantics.specs.Steps.{Run, run, initial, stepping}
 use Rattle.semantics.specs.Outcome.{outcomes}
-use Rattle.semantics.specs.Setup.{Lent, limits, refusal, printed, Reading, refused, faulty, read, reading, settings}
+use Rattle.semantics.specs.Setup.{Lent, limits, refusal, printed, refused, faulty, read, reading, settings}
 use Rattle.semantics.specs.declared.Error.the-variants.{SyntaxError}
 use Rattle.semantics.specs.declared.Kind.the-variants.{String as StringKind, LiteralName, End}
 

@@ -4,7 +4,7 @@ use mathlib.Core.Bool.{true, false}
 use mathlib.Core.List.{List, [], _∷_, reverse}
 use Prim.Native.Nat.{ℕ, zero, suc, _+_}
 use lib.ListN.{length, drop}
-use Rattle.semantics.specs.Tokens.{Token, Lexeme, lex, blanks}
+use Rattle.semantics.specs.Tokens.{Token, lex, blanks}
 use Rattle.semantics.specs.Values.{Result, ok, fault, _>>=_, Value, integer, name, string, array, elements, text}
 use Rattle.semantics.specs.Machine.{Machine, make, made, intern}
 use Rattle.semantics.specs.declared.Error.the-variants.{SyntaxError, LimitCheck}
@@ -22,43 +22,48 @@ taken v m n = ok (record { value = v; machine = m; after = n })
 unfoldable pub skip : List ℕ → ℕ → ℕ
 skip script offset = offset + blanks (drop offset script)
 
--- The rest of a brace group, up to its closing brace: `vs` are the elements already read, the last first; `depth` is how many groups may
--- still be opened inside. `fuel` bounds the tokens read; `GroupLaws` proves that it is never spent.
-unfoldable pub group : List ℕ → ℕ → ℕ → ℕ → List Value → Machine → Result Taken
-group script zero depth offset vs m = fault SyntaxError
-group script (suc fuel) depth offset vs m =
-    let start = skip script offset in
-    lex (drop start script) >>= λ l.
-    let after = start + l .size in
-    elim (l .token) [
-      | Token.integer w ↦ group script fuel depth after (integer w ∷ vs) m
-      | Token.string bs ↦ group script fuel depth after (string (made m) ∷ vs) (make (text bs) m)
-      | Token.name x n ↦ group script fuel depth after (name x n ∷ vs) (intern n m)
-      | Token.openBrace ↦
-          elim depth [
-            | zero ↦ fault LimitCheck
-            | suc d ↦ group script fuel d after [] m >>= λ t. group script fuel (suc d) (t .after) (t .value ∷ vs) (t .machine)
-          ]
-      | Token.closeBrace ↦ taken (array true (made m)) (make (elements (reverse vs)) m) after
-      | Token.end ↦ fault SyntaxError
-    ]
+-- What reads on in a brace group: given how many groups may still be opened inside, the offset, the elements read so far, the last
+-- first, and the machine.
+abbrev pub Reader : Type 0
+Reader = ℕ → ℕ → List Value → Machine → Result Taken
 
--- The value of the token at `start`, which is neither space nor comment. Braces nest at most 16 deep.
+-- A token of a brace group, which ends at `after`: one element more, an inner group and what follows it, or the group's end.
+unfoldable pub element : Reader → ℕ → ℕ → List Value → Machine → Token → Result Taken
+element rest depth after vs m (Token.integer w) = rest depth after (integer w ∷ vs) m
+element rest depth after vs m (Token.string bs) = rest depth after (string (made m) ∷ vs) (make (text bs) m)
+element rest depth after vs m (Token.name x n) = rest depth after (name x n ∷ vs) (intern n m)
+element rest zero after vs m Token.openBrace = fault LimitCheck
+element rest (suc d) after vs m Token.openBrace = do
+  t ← rest d after [] m
+  rest (suc d) (t .after) (t .value ∷ vs) (t .machine)
+element rest depth after vs m Token.closeBrace = taken (array true (made m)) (make (elements (reverse vs)) m) after
+element rest depth after vs m Token.end = fault SyntaxError
+
+-- The rest of a brace group. `fuel` bounds the tokens read; `GroupLaws` proves that it is never spent.
+unfoldable pub group : List ℕ → ℕ → Reader
+group script zero depth offset vs m = fault SyntaxError
+group script (suc fuel) depth offset vs m = do
+  let start = skip script offset
+  l ← lex (drop start script)
+  element (group script fuel) depth (start + l .size) vs m (l .token)
+
+-- A token of the script outside braces, which ends at `after`. Braces nest at most 16 deep.
+unfoldable pub tokenValue : List ℕ → Machine → ℕ → Token → Result Taken
+tokenValue script m after (Token.integer w) = taken (integer w) m after
+tokenValue script m after (Token.string bs) = taken (string (made m)) (make (text bs) m) after
+tokenValue script m after (Token.name true n) = taken (name true n) m after
+tokenValue script m after (Token.name false n) = taken (name false n) (intern n m) after
+tokenValue script m after Token.openBrace = group script (length script) 15 after [] m
+tokenValue script m after Token.closeBrace = fault SyntaxError
+tokenValue script m after Token.end = fault SyntaxError
+
+-- The value of the token at `start`, which is neither space nor comment.
 unfoldable pub takeToken : List ℕ → ℕ → Machine → Result Taken
-takeToken script start m =
-    lex (drop start script) >>= λ l.
-    let after = start + l .size in
-    elim (l .token) [
-      | Token.integer w ↦ taken (integer w) m after
-      | Token.string bs ↦ taken (string (made m)) (make (text bs) m) after
-      | Token.name true n ↦ taken (name true n) m after
-      | Token.name false n ↦ taken (name false n) (intern n m) after
-      | Token.openBrace ↦ group script (length script) 15 after [] m
-      | Token.closeBrace ↦ fault SyntaxError
-      | Token.end ↦ fault SyntaxError
-    ]
+takeToken script start m = do
+  l ← lex (drop start script)
+  tokenValue script m (start + l .size) (l .token)
 
 -- Opens every definition of this file.
 unfoldable pub grouping : Unit {0}
-unfolding taken skip group takeToken
+unfolding taken skip element group tokenValue takeToken
 grouping = tt

@@ -19,4 +19,15 @@ pub mod Outcome
 pub mod Setup
 -- Worked cases, and what is proved of the definition.
 pub mod Examples
+pub mod ResultLaws
+pub mod ListLaws
+pub mod TokenLaws
+pub mod GroupLaws
+pub mod RunLaws
+pub mod TextLaws
+pub mod ShortLaws
+pub mod ShortOperators
+pub mod ShortSteps
+pub mod OutcomeLaws
+pub mod NameLaws
 pub mod HeldLaws

@@ -4,7 +4,6 @@ use mathlib.Core.Bool.{Bool, true, false, not}
 use mathlib.Core.List.{List, [], _∷_}
 use Prim.Native.Nat.{ℕ, _-_, _^_}
 use lib.IntN.{ℤ, natAbs}
-use lib.Signed.{quotZ, remZ}
 use lib.Dec.{eqb}
 use Rattle.semantics.specs.Text.{same}
 use Rattle.semantics.specs.Words.{word, shift}

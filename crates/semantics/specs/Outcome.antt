@@ -8,7 +8,7 @@ use Rattle.semantics.specs.Values.{Value}
 use Rattle.semantics.specs.Machine.{Machine}
 use Rattle.semantics.specs.Printing.{item}
 use Rattle.semantics.specs.Held.{heldCells}
-use Rattle.semantics.specs.Steps.{State, Ending, finished, stopped, outOfFuel, failed, Run}
+use Rattle.semantics.specs.Steps.{Ending, finished, stopped, outOfFuel, failed, Run}
 use Rattle.semantics.specs.declared.Error.{Error}
 use Rattle.semantics.specs.declared.Error.the-variants.{SyntaxError, LimitCheck, Undefined, StackUnderflow, TypeCheck, RangeCheck, UndefinedResult, UnmatchedMark, ExecStackOverflow, StackOverflow, VmError, IoError}
 

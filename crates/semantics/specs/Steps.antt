@@ -2,7 +2,7 @@
 -- Assumes nothing.
 use mathlib.Core.Bool.{Bool, true, false}
 use mathlib.Core.List.{List, [], _∷_, _++_, map}
-use mathlib.Core.Option.{Option, none, some}
+use mathlib.Core.Option.{none, some}
 use Prim.Native.Nat.{ℕ, zero, suc, _-_}
 use lib.IntN.{ℤ, _+ℤ_}
 use lib.Signed.{ltZ, nonNeg}
@@ -139,12 +139,13 @@ pub data Step : Type 0 where
   fails : Error → List ℕ → State → Step  -- the error, the command, and the state that is left
 
 -- The step's end: the state after it, or the state before it with the step counted and `at` set.
-unfoldable pub ended : Limits → State → ℕ → ℕ → Move → Step
-ended l σ at next v =
-    elim (v .result >>= roomFor l (σ .machine)) [
-      | ok m ↦ goes (record { machine = m; next = next; at = at; steps = suc (σ .steps) })
-      | fault e ↦ fails e (v .command) (record { machine = σ .machine; next = σ .next; at = at; steps = suc (σ .steps) })
-    ]
+unfoldable pub ended : State → ℕ → ℕ → List ℕ → Result Machine → Step
+ended σ at next command (ok m) = goes (record { machine = m; next = next; at = at; steps = suc (σ .steps) })
+ended σ at next command (fault e) =
+    fails e command (record { machine = σ .machine; next = σ .next; at = at; steps = suc (σ .steps) })
+
+unfoldable pub moved : Limits → State → ℕ → ℕ → Move → Step
+moved l σ at next v = ended σ at next (v .command) (v .result >>= roomFor l (σ .machine))
 
 -- What taking a token comes to.
 unfoldable pub tokenMove : Result Taken → Move
@@ -156,16 +157,15 @@ offsetAfter start (fault e) = start
 offsetAfter start (ok t) = t .after
 
 -- One step acts once on the top of the execution stack. With an empty one the next script token is taken.
+unfoldable pub stepOn : Limits → List ℕ → State → List Frame → Step
+stepOn l script σ (f ∷ fs) = moved l σ (σ .at) (σ .next) (resume f (withExec fs (σ .machine)))
+stepOn l script σ [] =
+    let start = skip script (σ .next) in
+    let t = takeToken script start (σ .machine) in
+    moved l σ start (offsetAfter start t) (tokenMove t)
+
 unfoldable pub step : Limits → List ℕ → State → Step
-step l script σ =
-    let m = σ .machine in
-    elim (m .exec) [
-      | f ∷ fs ↦ ended l σ (σ .at) (σ .next) (resume f (withExec fs m))
-      | [] ↦
-          let start = skip script (σ .next) in
-          let t = takeToken script start m in
-          ended l σ start (offsetAfter start t) (tokenMove t)
-    ]
+step l script σ = stepOn l script σ (σ .machine .exec)
 
 -- ---- a run
 
@@ -188,18 +188,17 @@ isFinished script σ = elim (isEmpty (σ .machine .exec)) [ true ↦ eqb (skip s
 unfoldable pub finish : List ℕ → State → Run
 finish script σ = record { ending = finished; final = record { machine = σ .machine; next = σ .next; at = length script; steps = σ .steps } }
 
+-- The run from a step on, given its rest.
+unfoldable pub goOn : (State → Run) → Step → Run
+goOn rest (fails e c τ) = record { ending = failed e c; final = τ }
+goOn rest (goes τ) = elim (τ .machine .stopped) [ true ↦ record { ending = stopped; final = τ } | false ↦ rest τ ]
+
 -- Whether the run is finished is asked before fuel is looked at. Each step costs 1 fuel.
 unfoldable pub run : Limits → List ℕ → ℕ → State → Run
 run l script zero σ =
     elim (isFinished script σ) [ true ↦ finish script σ | false ↦ record { ending = outOfFuel; final = σ } ]
 run l script (suc fuel) σ =
-    elim (isFinished script σ) [
-      | true ↦ finish script σ
-      | false ↦ elim (step l script σ) [
-        | fails e c τ ↦ record { ending = failed e c; final = τ }
-        | goes τ ↦ elim (τ .machine .stopped) [ true ↦ record { ending = stopped; final = τ } | false ↦ run l script fuel τ ]
-      ]
-    ]
+    elim (isFinished script σ) [ true ↦ finish script σ | false ↦ goOn (run l script fuel) (step l script σ) ]
 
 -- ---- the start
 
@@ -228,5 +227,5 @@ initial =
 
 -- Opens every definition of this file.
 unfoldable pub stepping : Unit {0}
-unfolding commandOf execute isProcedure treat silent beyond following resume newCells cellsFor roomFor ended tokenMove offsetAfter step isEmpty isFinished finish run slot predefined initial
+unfolding commandOf execute isProcedure treat silent beyond following resume newCells cellsFor roomFor ended moved tokenMove offsetAfter stepOn step isEmpty isFinished finish goOn run slot predefined initial
 stepping = tt

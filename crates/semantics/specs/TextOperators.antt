@@ -6,8 +6,8 @@ use Prim.Native.Nat.{ℕ}
 use lib.ListN.{length, drop, set}
 use lib.Dec.{leb}
 use Rattle.semantics.specs.Text.{bytes}
-use Rattle.semantics.specs.Values.{Result, ok, _>>=_, check, Value, integer, boolean, null, mark, operator, name, string, array, text, current, stringId}
-use Rattle.semantics.specs.Machine.{Machine, write, push, pop1, pop2, object, bytesOf, change, intern}
+use Rattle.semantics.specs.Values.{ok, _>>=_, check, Value, integer, boolean, null, mark, operator, name, string, array, text, current, stringId}
+use Rattle.semantics.specs.Machine.{write, push, pop1, pop2, object, bytesOf, change, intern}
 use Rattle.semantics.specs.Printing.{joined, echoed, stringval}
 use Rattle.semantics.specs.StackOperators.{Operator}
 use Rattle.semantics.specs.declared.Error.the-variants.{LimitCheck, RangeCheck}

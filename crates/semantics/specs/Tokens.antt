@@ -153,15 +153,20 @@ pub record Quoted : Type 0 where
   pub contents : List ℕ
   pub taken : ℕ
 
+-- The string from an act on, given its reading after what was met.
+unfoldable pub quotedOn : (Met → Result Quoted) → Act → Result Quoted
+quotedOn rest (byte c) = do
+  q ← rest nothing
+  ok (record { contents = c ∷ q .contents; taken = suc (q .taken) })
+quotedOn rest (go met) = do
+  q ← rest met
+  ok (record { contents = q .contents; taken = suc (q .taken) })
+quotedOn rest close = ok (record { contents = []; taken = 1 })
+quotedOn rest bad = fault SyntaxError
+
 unfoldable pub quoted : Met → List ℕ → Result Quoted
-quoted m [] = fault SyntaxError
-quoted m (b ∷ s) =
-    elim (act m b) [
-      | byte c ↦ quoted nothing s >>= λ q. ok (record { contents = c ∷ q .contents; taken = suc (q .taken) })
-      | go n ↦ quoted n s >>= λ q. ok (record { contents = q .contents; taken = suc (q .taken) })
-      | close ↦ ok (record { contents = []; taken = 1 })
-      | bad ↦ fault SyntaxError
-    ]
+quoted met [] = fault SyntaxError
+quoted met (b ∷ s) = quotedOn (λ next. quoted next s) (act met b)
 
 -- ---- tokens
 
@@ -185,31 +190,46 @@ nameOf executable n = do
   _ ← check (leb (length n) 31) LimitCheck
   ok (name executable n)
 
+-- A run of name bytes: a number, which must be a whole one, or an executable name.
+unfoldable pub runToken : List ℕ → Result Token
+runToken n =
+    elim (startsNumber n) [
+      | true ↦ number n >>= λ w. ok (integer w)
+      | false ↦ nameOf true n
+    ]
+
+-- What follows a slash: a name byte, and not a number's beginning.
+unfoldable pub slashToken : List ℕ → Result Token
+slashToken n =
+    elim (eqb (length n) 0 || startsNumber n) [
+      | true ↦ fault SyntaxError
+      | false ↦ nameOf false n
+    ]
+
+-- The token that begins with the byte b of a class, s being the bytes after it.
+unfoldable pub lexAs : Class → ℕ → List ℕ → Result Lexeme
+lexAs nameByte b s = do
+  let n = take (run (b ∷ s)) (b ∷ s)
+  t ← runToken n
+  lexeme t (length n)
+lexAs bracket b s = lexeme (name true (b ∷ [])) 1
+lexAs openBrace b s = lexeme openBrace 1
+lexAs closeBrace b s = lexeme closeBrace 1
+lexAs quote b s = do
+  q ← quoted nothing s
+  lexeme (string (q .contents)) (suc (q .taken))
+lexAs slash b s = do
+  let n = take (run s) s
+  t ← slashToken n
+  lexeme t (suc (length n))
+lexAs other b s = fault SyntaxError
+
 -- The token that begins at the first byte, which is neither space nor comment.
 unfoldable pub lex : List ℕ → Result Lexeme
 lex [] = lexeme end 0
-lex (b ∷ s) =
-    elim (classOf b) [
-      | nameByte ↦
-          let n = take (run (b ∷ s)) (b ∷ s) in
-          elim (startsNumber n) [
-            | true ↦ number n >>= λ w. lexeme (integer w) (length n)
-            | false ↦ nameOf true n >>= λ t. lexeme t (length n)
-          ]
-      | bracket ↦ lexeme (name true (b ∷ [])) 1
-      | openBrace ↦ lexeme openBrace 1
-      | closeBrace ↦ lexeme closeBrace 1
-      | quote ↦ quoted nothing s >>= λ q. lexeme (string (q .contents)) (suc (q .taken))
-      | slash ↦
-          let n = take (run s) s in
-          elim (eqb (length n) 0 || startsNumber n) [
-            | true ↦ fault SyntaxError
-            | false ↦ nameOf false n >>= λ t. lexeme t (suc (length n))
-          ]
-      | other ↦ fault SyntaxError
-    ]
+lex (b ∷ s) = lexAs (classOf b) b s
 
 -- Opens every definition of this file.
 unfoldable pub tokens : Unit {0}
-unfolding classOf isBlank commentAfter blanksIn blanks run digit digitsFrom digits startsNumber upTo formOf number plainAct octalAct act quoted lexeme nameOf lex
+unfolding classOf isBlank commentAfter blanksIn blanks run digit digitsFrom digits startsNumber upTo formOf number plainAct octalAct act quotedOn quoted lexeme nameOf runToken slashToken lexAs lex
 tokens = tt

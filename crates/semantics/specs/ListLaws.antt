@@ -1,0 +1,91 @@
+-- What holds of each element of a list, and how the operations on lists keep it.
+-- Assumes nothing.
+use mathlib.Core.Bool.{Bool, true, false, _&&_}
+use mathlib.Core.List.{List, [], _∷_, _++_, map, reverse, reverseAux}
+use mathlib.Core.Option.{Option, none, some}
+use Prim.Native.Nat.{ℕ, zero, suc}
+use lib.ListN.{getD, take, drop, set, replicate, getElem?}
+use lib.Dec.{T}
+use Rattle.semantics.specs.Values.{given}
+use Rattle.semantics.specs.ResultLaws.{Gives, gives, fails}
+use Rattle.semantics.specs.declared.Error.{Error}
+
+pub data All {A : Type 0} (P : A → Type 0) : List A → Type 0 where
+  nil : All P []
+  cons : {a : A} {l : List A} → P a → All P l → All P (a ∷ l)
+
+infixr 5 _&_
+pub _&_ : {A : Type 0} {P : A → Type 0} {a : A} {l : List A} → P a → All P l → All P (a ∷ l)
+p & ps = cons p ps
+
+-- A test that holds of each element.
+abbrev pub every : {A : Type 0} → (A → Bool) → List A → Bool
+every p [] = true
+every p (a ∷ l) = p a && every p l
+
+pub all-every : {A : Type 0} (p : A → Bool) (l : List A) → T (every p l) → All (λ a. T (p a)) l
+all-every p [] t = nil
+all-every p (a ∷ l) t = cons (first (p a) t) (all-every p l (rest (p a) t))
+  where
+    first : (b : Bool) → T (b && every p l) → T b
+    first true u = tt
+    first false u = u
+
+    rest : (b : Bool) → T (b && every p l) → T (every p l)
+    rest true u = u
+    rest false u = absurd u
+
+-- What is there, if anything, has the property.
+pub data Maybe {A : Type 0} (P : A → Type 0) : Option A → Type 0 where
+  nothing : Maybe P none
+  just : {a : A} → P a → Maybe P (some a)
+
+pub gives-given : {A : Type 0} {P : A → Type 0} {o : Option A} → Maybe P o → (e : Error) → Gives P (given o e)
+unfolding given
+gives-given nothing e = fails
+gives-given (just p) e = gives p
+
+module _ {A : Type 0} {P : A → Type 0} where
+  pub all-append : {l r : List A} → All P l → All P r → All P (l ++ r)
+  all-append nil q = q
+  all-append (cons p ps) q = cons p (all-append ps q)
+
+  pub all-take : (n : ℕ) {l : List A} → All P l → All P (take n l)
+  all-take zero ps = nil
+  all-take (suc n) nil = nil
+  all-take (suc n) (cons p ps) = cons p (all-take n ps)
+
+  pub all-drop : (n : ℕ) {l : List A} → All P l → All P (drop n l)
+  all-drop zero ps = ps
+  all-drop (suc n) nil = nil
+  all-drop (suc n) (cons p ps) = all-drop n ps
+
+  all-reverseAux : {l r : List A} → All P l → All P r → All P (reverseAux l r)
+  all-reverseAux nil q = q
+  all-reverseAux (cons p ps) q = all-reverseAux ps (cons p q)
+
+  pub all-reverse : {l : List A} → All P l → All P (reverse l)
+  all-reverse ps = all-reverseAux ps nil
+
+  pub all-set : {l : List A} → All P l → (n : ℕ) {a : A} → P a → All P (set l n a)
+  all-set nil n q = nil
+  all-set (cons p ps) zero q = cons q ps
+  all-set (cons p ps) (suc n) q = cons p (all-set ps n q)
+
+  pub all-getD : {l : List A} → All P l → (n : ℕ) {d : A} → P d → P (getD l n d)
+  all-getD nil n q = q
+  all-getD (cons p ps) zero q = p
+  all-getD (cons p ps) (suc n) q = all-getD ps n q
+
+  pub all-getElem? : {l : List A} → All P l → (n : ℕ) → Maybe P (getElem? l n)
+  all-getElem? nil n = nothing
+  all-getElem? (cons p ps) zero = just p
+  all-getElem? (cons p ps) (suc n) = all-getElem? ps n
+
+  pub all-replicate : (n : ℕ) (a : A) → P a → All P (replicate n a)
+  all-replicate zero a p = nil
+  all-replicate (suc n) a p = cons p (all-replicate n a p)
+
+pub all-map : {A B : Type 0} {P : A → Type 0} {Q : B → Type 0} (f : A → B) → ((a : A) → P a → Q (f a)) → {l : List A} → All P l → All Q (map f l)
+all-map f g nil = nil
+all-map f g (cons {a = a} p ps) = cons (g a p) (all-map f g ps)

@@ -1,0 +1,139 @@
+-- A token takes at least one byte, unless it is the end, and never more bytes than there are.
+-- Assumes nothing.
+use mathlib.Core.Path.{_≡_, refl}
+use mathlib.Core.Bool.{Bool, true, false, _||_, cond}
+use mathlib.Core.List.{List, [], _∷_}
+use Prim.Native.Nat.{ℕ, suc, _≤_}
+use native.Mathlib.Omega.{arith}
+use lib.ListN.{length, take, drop, length-drop}
+use lib.Seq.{length-take-le}
+use lib.Dec.{T, eqb}
+use Rattle.semantics.specs.Values.{Result, ok, fault, _>>=_}
+use Rattle.semantics.specs.Tokens.{isNameByte, Class, nameByte, bracket, openBrace, closeBrace, quote, slash, other, classOf, isBlank, commentAfter, blanksIn, blanks, run, startsNumber, number, Met, nothing, Act, byte, go, close, bad, act, Quoted, quotedOn, quoted, Token, Lexeme, lexeme, nameOf, runToken, slashToken, lexAs, lex}
+use Rattle.semantics.specs.Groups.{skip}
+use Rattle.semantics.specs.declared.Error.the-variants.{SyntaxError}
+use Rattle.semantics.specs.ResultLaws.{choose, Gives, gives, fails, gives-then, gives-any}
+
+-- ---- space, comment and runs of name bytes
+
+blanksIn-le : (inComment : Bool) (s : List ℕ) → blanksIn inComment s ≤ length s
+unfolding blanksIn
+blanksIn-le inComment [] = omega arith
+blanksIn-le inComment (b ∷ s) =
+    choose (λ n. n ≤ suc (length s)) (isBlank inComment b) (suc (blanksIn (commentAfter inComment b) s)) 0
+    (λ t. omega (arith, blanksIn-le (commentAfter inComment b) s))
+    (λ t. omega arith)
+
+pub skip-le : (script : List ℕ) (offset : ℕ) → offset ≤ length script → (offset ≤ skip script offset) × (skip script offset ≤ length script)
+unfolding skip blanks
+skip-le script offset h = (omega arith, omega (arith, blanksIn-le false (drop offset script), length-drop offset script))
+
+run-le : (s : List ℕ) → run s ≤ length s
+unfolding run
+run-le [] = omega arith
+run-le (b ∷ s) = choose (λ n. n ≤ suc (length s)) (isNameByte b) (suc (run s)) 0 (λ t. omega (arith, run-le s)) (λ t. omega arith)
+
+run-length : (s : List ℕ) → length (take (run s) s) ≤ length s
+run-length s = omega (arith, length-take-le (run s) s (run-le s), run-le s)
+
+-- ---- sizes
+
+-- A size of at least one byte, of n.
+abbrev pub Within : ℕ → ℕ → Type 0
+Within n size = (1 ≤ size) × (size ≤ n)
+
+one-more : {n size : ℕ} → Within n size → Within (suc n) (suc size)
+one-more h = (omega arith, omega arith)
+
+one-byte : (n : ℕ) → Within (suc n) 1
+one-byte n = (omega arith, omega arith)
+
+quotedOn-size : (rest : Met → Result Quoted) (n : ℕ)
+    → ((next : Met) → Gives (λ (q : Quoted). Within n (q .taken)) (rest next))
+    → (a : Act)
+    → Gives (λ (q : Quoted). Within (suc n) (q .taken)) (quotedOn rest a)
+unfolding quotedOn
+quotedOn-size rest n f (byte c) = gives-then (f nothing) (λ q h. gives (one-more h))
+quotedOn-size rest n f (go next) = gives-then (f next) (λ q h. gives (one-more h))
+quotedOn-size rest n f close = gives (one-byte n)
+quotedOn-size rest n f bad = fails
+
+quoted-size : (met : Met) (s : List ℕ) → Gives (λ (q : Quoted). Within (length s) (q .taken)) (quoted met s)
+unfolding quoted
+quoted-size met [] = fails
+quoted-size met (b ∷ s) = quotedOn-size (λ next. quoted next s) (length s) (λ next. quoted-size next s) (act met b)
+
+-- What a token takes of n bytes.
+abbrev pub Fits : ℕ → Token → ℕ → Type 0
+Fits n (Token.integer w) size = Within n size
+Fits n (Token.string bs) size = Within n size
+Fits n (Token.name x bs) size = Within n size
+Fits n Token.openBrace size = Within n size
+Fits n Token.closeBrace size = Within n size
+Fits n Token.end size = size ≡ 0
+
+-- What the class of name bytes has is a name byte.
+abbrev isName : Class → Bool
+isName nameByte = true
+isName bracket = false
+isName openBrace = false
+isName closeBrace = false
+isName quote = false
+isName slash = false
+isName other = false
+
+class-name : (b : ℕ) → T (isName (classOf b)) → T (isNameByte b)
+unfolding classOf
+class-name b = by (isNameByte b) (eqb b 91 || eqb b 93) (eqb b 123) (eqb b 125) (eqb b 34) (eqb b 47)
+  where
+    by : (n k o c q s : Bool)
+        → T (isName (cond n nameByte (cond k bracket (cond o openBrace (cond c closeBrace (cond q quote (cond s slash other)))))))
+        → T n
+    by true k o c q s h = tt
+    by false true o c q s h = h
+    by false false true c q s h = h
+    by false false false true q s h = h
+    by false false false false true s h = h
+    by false false false false false true h = h
+    by false false false false false false h = h
+
+run-token : (bs : List ℕ) (n size : ℕ) → Within n size → Gives (λ t. Fits n t size) (runToken bs)
+unfolding runToken nameOf
+run-token bs n size h =
+    choose (Gives (λ t. Fits n t size)) (startsNumber bs) (number bs >>= λ w. ok (Token.integer w)) (nameOf true bs)
+    (λ t. gives-then (gives-any _) (λ w u. gives h))
+    (λ t. gives-then (gives-any _) (λ v u. gives h))
+
+slash-token : (bs : List ℕ) (n size : ℕ) → Within n size → Gives (λ t. Fits n t size) (slashToken bs)
+unfolding slashToken nameOf
+slash-token bs n size h =
+    choose (Gives (λ t. Fits n t size)) (eqb (length bs) 0 || startsNumber bs) (fault SyntaxError) (nameOf false bs)
+    (λ t. fails)
+    (λ t. gives-then (gives-any _) (λ v u. gives h))
+
+run-first : (b : ℕ) (s : List ℕ) → T (isNameByte b) → 1 ≤ length (take (run (b ∷ s)) (b ∷ s))
+unfolding run
+run-first b s h = by (isNameByte b) h
+  where
+    by : (t : Bool) → T t → 1 ≤ length (take (elim t [ true ↦ suc (run s) | false ↦ 0 ]) (b ∷ s))
+    by true u = omega arith
+    by false u = absurd u
+
+lexAs-fits : (k : Class) (b : ℕ) (s : List ℕ)
+    → (T (isName k) → T (isNameByte b))
+    → Gives (λ l. Fits (suc (length s)) (l .token) (l .size)) (lexAs k b s)
+unfolding lexAs lexeme
+lexAs-fits nameByte b s h =
+    gives-then (run-token (take (run (b ∷ s)) (b ∷ s)) _ _ (run-first b s (h tt), run-length (b ∷ s))) (λ t f. gives f)
+lexAs-fits bracket b s h = gives (one-byte (length s))
+lexAs-fits openBrace b s h = gives (one-byte (length s))
+lexAs-fits closeBrace b s h = gives (one-byte (length s))
+lexAs-fits quote b s h = gives-then (quoted-size nothing s) (λ q f. gives (one-more f))
+lexAs-fits slash b s h =
+    gives-then (slash-token (take (run s) s) _ _ (omega arith, omega (arith, run-length s))) (λ t f. gives f)
+lexAs-fits other b s h = fails
+
+pub lex-fits : (s : List ℕ) → Gives (λ (l : Lexeme). Fits (length s) (l .token) (l .size)) (lex s)
+unfolding lex lexeme
+lex-fits [] = gives refl
+lex-fits (b ∷ s) = lexAs-fits (classOf b) b s (class-name b)

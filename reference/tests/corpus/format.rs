@@ -1,0 +1,185 @@
+//! Reads corpus files in the format of ../corpus/README.md.
+
+use std::path::{Path, PathBuf};
+
+use floo_reference::Sizes;
+
+/// What a case asks for.
+pub enum Question {
+    Run { fuel: u64, sizes: Sizes },
+    Token { offset: usize },
+}
+
+pub struct Case {
+    pub file: PathBuf,
+    pub title: String,
+    pub question: Question,
+    pub script: Vec<u8>,
+    pub gives: Vec<u8>,
+}
+
+/// The lines of a file that are still to be read.
+struct Lines<'t> {
+    file: &'t Path,
+    lines: Vec<&'t [u8]>,
+    next: usize,
+}
+
+/// All cases of a file, or what is malformed: `file:line: what`.
+pub fn read_cases(file: &Path, text: &[u8]) -> Result<Vec<Case>, String> {
+    let body = text.strip_suffix(b"\n").unwrap_or(text);
+    let mut lines = Lines {
+        file,
+        lines: body.split(|&byte| byte == b'\n').collect(),
+        next: 0,
+    };
+    let mut cases: Vec<Case> = Vec::new();
+    while let Some(line) = lines.peek() {
+        if line.is_empty() || line.starts_with(b"--") {
+            lines.next += 1;
+            continue;
+        }
+        let case = read_case(&mut lines)?;
+        if cases.iter().any(|other| other.title == case.title) {
+            return Err(lines.malformed(&format!("the title {:?} stands twice", case.title)));
+        }
+        cases.push(case);
+    }
+    Ok(cases)
+}
+
+fn read_case(lines: &mut Lines) -> Result<Case, String> {
+    let title = match lines.keyword("case ") {
+        Some(title) if !title.is_empty() => title,
+        _ => return Err(lines.malformed("expected `case TITLE`")),
+    };
+    let question = if let Some(words) = lines.keyword("with ") {
+        sizes_of(&words).ok_or_else(|| lines.malformed("expected `with KEY=N ..`"))?
+    } else if let Some(offset) = lines.keyword("token ") {
+        let offset = offset
+            .parse()
+            .map_err(|_| lines.malformed("expected `token OFFSET`"))?;
+        Question::Token { offset }
+    } else {
+        sizes_of("").expect("no sizes named is well formed")
+    };
+    Ok(Case {
+        file: lines.file.to_path_buf(),
+        title,
+        question,
+        script: lines.block("script")?,
+        gives: lines.block("gives")?,
+    })
+}
+
+/// `KEY=N ..`; "what is not named is as in the program".
+fn sizes_of(words: &str) -> Option<Question> {
+    let (mut fuel, mut sizes, mut outcome) = (1_000_000, Sizes::default(), None);
+    for word in words.split(' ').filter(|word| !word.is_empty()) {
+        let (key, number) = word.split_once('=')?;
+        match key {
+            "fuel" => fuel = number.parse().ok()?,
+            "stack" => sizes.stack = number.parse().ok()?,
+            "exec" => sizes.exec = number.parse().ok()?,
+            "dictionary" => sizes.dictionary = number.parse().ok()?,
+            "cells" => sizes.cells = number.parse().ok()?,
+            "log" => sizes.log = number.parse().ok()?,
+            "outcome" => outcome = Some(number.parse().ok()?),
+            _ => return None,
+        }
+    }
+    sizes.outcome = outcome.unwrap_or(Sizes::least_outcome(sizes.stack));
+    Some(Question::Run { fuel, sizes })
+}
+
+impl<'t> Lines<'t> {
+    fn peek(&self) -> Option<&'t [u8]> {
+        self.lines.get(self.next).copied()
+    }
+
+    fn malformed(&self, what: &str) -> String {
+        format!("{}:{}: {what}", self.file.display(), self.next + 1)
+    }
+
+    /// The rest of the next line, if it begins with `word`.
+    fn keyword(&mut self, word: &str) -> Option<String> {
+        let rest = self.peek()?.strip_prefix(word.as_bytes())?;
+        let rest = String::from_utf8(rest.to_vec()).ok()?;
+        self.next += 1;
+        Some(rest)
+    }
+
+    /// A block headed by `word`, `word-` or `word%`.
+    fn block(&mut self, word: &str) -> Result<Vec<u8>, String> {
+        let header = self.peek().unwrap_or_default();
+        let form = match header.strip_prefix(word.as_bytes()) {
+            Some(form @ (b"" | b"-" | b"%")) => form,
+            _ => return Err(self.malformed(&format!("expected `{word}`, `{word}-` or `{word}%`"))),
+        };
+        self.next += 1;
+        let mut rows = Vec::new();
+        while let Some(row) = self.peek().and_then(|line| line.strip_prefix(b"    ")) {
+            rows.push(row);
+            self.next += 1;
+        }
+        let mut bytes = rows.join(&b'\n');
+        if form == b"" && !rows.is_empty() {
+            bytes.push(b'\n');
+        }
+        if form == b"%" {
+            return expand(&bytes).ok_or_else(|| self.malformed("bad `%` in the block above"));
+        }
+        Ok(bytes)
+    }
+}
+
+/// `%XX` is the byte of that number and `%(N:TEXT)` is TEXT repeated N times.
+fn expand(mut text: &[u8]) -> Option<Vec<u8>> {
+    let mut bytes = Vec::new();
+    while let Some((&first, rest)) = text.split_first() {
+        if first != b'%' {
+            bytes.push(first);
+            text = rest;
+        } else if let Some(repetition) = rest.strip_prefix(b"(") {
+            let end = repetition.iter().position(|&byte| byte == b')')?;
+            let colon = repetition[..end].iter().position(|&byte| byte == b':')?;
+            let times: usize = std::str::from_utf8(&repetition[..colon])
+                .ok()?
+                .parse()
+                .ok()?;
+            bytes.extend(expand(&repetition[colon + 1..end])?.repeat(times));
+            text = &repetition[end + 1..];
+        } else {
+            let digits = std::str::from_utf8(rest.get(..2)?).ok()?;
+            bytes.push(u8::from_str_radix(digits, 16).ok()?);
+            text = &rest[2..];
+        }
+    }
+    Some(bytes)
+}
+
+#[test]
+fn blocks_follow_their_forms() {
+    let text = b"-- a remark\ncase one\ntoken 3\nscript%\n    a%41\n    %(2:b%0A)\ngives-\n    x\n     y\n";
+    let cases = read_cases(Path::new("f"), text).unwrap();
+    assert_eq!(cases.len(), 1);
+    assert_eq!(cases[0].script, b"aA\nb\nb\n");
+    assert_eq!(cases[0].gives, b"x\n y");
+}
+
+#[test]
+fn malformed_files_are_told_by_file_and_line() {
+    for (text, told) in [
+        ("case a\nscript\n    x\nno\n", "f:4: expected `gives`"),
+        ("case a\nwith fuel=x\n", "f:3: expected `with KEY=N ..`"),
+        ("stray\n", "f:1: expected `case TITLE`"),
+        ("case a\nscript%\n    %4\ngives\n", "f:4: bad `%`"),
+        (
+            "case a\nscript\ngives\ncase a\nscript\ngives\n",
+            "f:7: the title",
+        ),
+    ] {
+        let error = read_cases(Path::new("f"), text.as_bytes()).err().unwrap();
+        assert!(error.starts_with(told), "{error}");
+    }
+}

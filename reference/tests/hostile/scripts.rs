@@ -1,0 +1,171 @@
+//! Scripts that mean no good: random bytes, random tokens and damaged programs.
+
+use crate::random::Random;
+
+/// Words that act: all operators, names that may be bound, braces.
+const ACTIONS: &[&str] = &[
+    "dup",
+    "exch",
+    "pop",
+    "index",
+    "copy",
+    "roll",
+    "add",
+    "sub",
+    "mul",
+    "idiv",
+    "mod",
+    "abs",
+    "neg",
+    "bitshift",
+    "not",
+    "and",
+    "or",
+    "xor",
+    "eq",
+    "ne",
+    "lt",
+    "le",
+    "gt",
+    "ge",
+    "def",
+    "load",
+    "bind",
+    "exec",
+    "if",
+    "ifelse",
+    "loop",
+    "repeat",
+    "for",
+    "exit",
+    "continue",
+    "stop",
+    "array",
+    "mark",
+    "[",
+    "]",
+    "length",
+    "get",
+    "put",
+    "getinterval",
+    "putinterval",
+    "aload",
+    "astore",
+    "string",
+    "print",
+    "cvs",
+    "cvx",
+    "cvlit",
+    "cvn",
+    "echo",
+    "echostack",
+    "a",
+    "b",
+    "c",
+    "{",
+    "}",
+    "#x\n",
+];
+
+/// Words that push, so that random rows of words run for a while.
+const OBJECTS: &[&str] = &[
+    "0",
+    "1",
+    "2",
+    "3",
+    "5",
+    "-1",
+    "16",
+    "0xFFFFFFFF",
+    "2147483647",
+    "-2147483648",
+    "32767",
+    "true",
+    "false",
+    "null",
+    "/a",
+    "/b",
+    "/c",
+    "\"\"",
+    "\"abc\"",
+    "\"a\\000b\\n\"",
+    "[ 1 2 ]",
+    "{ dup }",
+    "{ 1 add }",
+    "{ pop } bind",
+    "{ exit }",
+    "{ { 1 } /a \"x\" }",
+    "1 1 9 { } for",
+    "/a [ 7 ] def",
+    "/b { 2 copy } def 1 2 b",
+    "/c 1 array def c 0 c put c",
+    "9 array 3 string",
+    "3 { 4 string } repeat",
+];
+
+/// Programs that finish or end in an orderly way.
+const PROGRAMS: &[&str] = &[
+    "/f { dup 1 gt { dup 1 sub f mul } if } def 1 1 10 { f echo } for",
+    "/a 1 array def a 0 a put /a 0 def [ 1 2 3 ] aload pop 3 array astore echo",
+    "/x null def 200 { /x [ x ] def } repeat /x null def 40 string pop",
+    "1 1 20 { string dup 0 65 put cvn } for echostack",
+    "{ \"a\" dup 0 get 1 add 1 index exch 0 exch put } dup exec echo exec echo",
+    "/p { 10 array dup 0 { p } put } def 5 { p /q exch def } repeat q echo",
+    "[ 1 [ 2 [ 3 [ 4 [ 5 [ 6 ] ] ] ] ] ] dup echo 0 2 getinterval dup 0 3 -1 roll putinterval",
+    "0 1 5 { dup 3 eq { exit } if dup 1 and 0 eq { continue } if pop } for echostack",
+    "{ 1 { 2 { 3 \"s\" } exec } exec } bind exec 4 2 roll 3 copy 5 index echostack stop",
+    "/s 12 string def -17 s cvs echo s 3 \"xyz\" putinterval s print s 0 12 getinterval length",
+    "/loop load { exit } exch exec { { { continue } loop } loop } loop",
+    "/t 1 array def t 0 t put t dup 1 array dup 0 3 index put 3 -1 roll pop pop pop",
+];
+
+pub fn hostile(random: &mut Random) -> Vec<u8> {
+    match random.below(8) {
+        0 => random_bytes(random),
+        1..=4 => random_words(random),
+        _ => damaged_program(random),
+    }
+}
+
+fn random_bytes(random: &mut Random) -> Vec<u8> {
+    let mut script = b"#FLOO\n".to_vec();
+    let length = random.below(60);
+    script.extend((0..length).map(|_| random.byte()));
+    script
+}
+
+fn word(random: &mut Random) -> &'static str {
+    match random.below(3) {
+        0 => random.choose(ACTIONS),
+        _ => random.choose(OBJECTS),
+    }
+}
+
+fn random_words(random: &mut Random) -> Vec<u8> {
+    let mut script = String::from("#FLOO\n");
+    for _ in 0..random.below(60) {
+        script += word(random);
+        script += " ";
+    }
+    script.into_bytes()
+}
+
+/// A program with some bytes removed, changed or doubled and some words put in.
+fn damaged_program(random: &mut Random) -> Vec<u8> {
+    let mut script = random.choose(PROGRAMS).as_bytes().to_vec();
+    for _ in 0..random.below(4) {
+        let place = random.below(script.len());
+        match random.below(5) {
+            0 => {
+                script.remove(place);
+            }
+            1 => script[place] = random.byte(),
+            2 => script.insert(place, script[place]),
+            _ => {
+                let word = format!(" {} ", word(random));
+                script.splice(place..place, word.into_bytes());
+            }
+        }
+    }
+    [&b"#FLOO\n"[..], &script].concat()
+}
