@@ -1,0 +1,4 @@
+-- What the proofs of several functions use.
+pub mod Words
+pub mod Signed
+pub mod Division

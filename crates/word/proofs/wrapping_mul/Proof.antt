@@ -1,0 +1,18 @@
+-- `word::wrapping_mul` meets its contract: the product of two words fits 64 bits, and its remainder by 2 ^ 32 fits 32.
+-- Assumes nothing.
+use borrow.Author.Needs.{needs}
+use Rattle.word.proofs.Words.{product-fits}
+use Rattle.word.proofs.wrapping_mul.Statement.{statement}
+use Rattle.word.proofs.wrapping_mul.Tie as tie
+
+mul-result : tie.Need-mul-result
+mul-result c = record { fits = product-fits 32 _ _ (c .fits .a .fits) (c .fits .b .fits) }
+
+cast-result : tie.Need-cast-result
+cast-result c = search needs
+
+returns : tie.Need-returns
+returns c = search needs
+
+pub wrapping-mul-spec : {M : Type 1} → statement M
+wrapping-mul-spec = tie.close (tie.spec mul-result cast-result returns)

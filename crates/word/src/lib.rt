@@ -1,0 +1,201 @@
+// Integers of 32 bits, each as an unsigned word: arithmetic, shifts, bits and comparisons. Every function promises its exact answer
+// on all words, by the definition (semantics, specs/Words): a word is read in two's complement, and a result is written modulo 2^32.
+ghost use mathlib.Core.Path.{_≡_};
+ghost use mathlib.Core.Bool.{not};
+ghost use Prim.Native.Nat.{_-_, _*_, _%_, _^_};
+ghost use lib.IntN.{pos, negℤ, natAbs, _+ℤ_, _-ℤ_, _*ℤ_};
+ghost use lib.Signed.{ltZ, leZ, quotZ, remZ};
+ghost use lib.Bits.{bitAnd, bitOr, bitXor};
+ghost use lib.Dec.{eqb};
+ghost use Rattle.semantics.specs.Words.{signed, word, shift};
+ghost use Rattle.word.specs.Answers.{quotientOf, dividedWords, isCorner};
+
+// The sign bit alone: the least integer, -2147483648.
+const SIGN: u32 = 0x8000_0000;
+
+// Every bit: -1.
+const ALL_ONES: u32 = 0xFFFF_FFFF;
+
+const WIDTH: u32 = 32;
+
+// How many words there are.
+const WORDS: u64 = 0x1_0000_0000;
+
+// What a division answers. `quotientOf` of specs/Answers says which error ZeroDivisor is.
+pub enum Quotient {
+    Value(u32),
+    ZeroDivisor,
+}
+
+// ---- arithmetic. Ruled out: a result that stops at the greatest or the least integer, and one that is an error there.
+
+pub fn add(a: u32, b: u32) -> u32
+    ensures { λ r. ⌜ r ≡ word (signed a +ℤ signed b) ⌝ }
+{
+    std::num::wrapping_add_u32(a, b)
+}
+
+pub fn sub(a: u32, b: u32) -> u32
+    ensures { λ r. ⌜ r ≡ word (signed a -ℤ signed b) ⌝ }
+{
+    std::num::wrapping_sub_u32(a, b)
+}
+
+pub fn mul(a: u32, b: u32) -> u32
+    ensures { λ r. ⌜ r ≡ word (signed a *ℤ signed b) ⌝ }
+{
+    wrapping_mul(a, b)
+}
+
+pub fn neg(a: u32) -> u32
+    ensures { λ r. ⌜ r ≡ word (negℤ (signed a)) ⌝ }
+{
+    std::num::wrapping_sub_u32(0, a)
+}
+
+// The least integer is its own absolute value.
+pub fn abs(a: u32) -> u32
+    ensures { λ r. ⌜ r ≡ word (pos (natAbs (signed a))) ⌝ }
+{
+    if a < SIGN { a } else { neg(a) }
+}
+
+// Toward zero. Ruled out: a quotient rounded down, and a fault where the least integer is divided by -1.
+pub fn idiv(a: u32, b: u32) -> Quotient
+    ensures { λ r. ⌜ quotientOf r ≡ dividedWords quotZ a b ⌝ }
+{
+    if b == 0 {
+        return Quotient::ZeroDivisor;
+    }
+    if is_corner(a, b) {
+        return Quotient::Value(SIGN);
+    }
+    Quotient::Value(to_word(to_signed(a) / to_signed(b)))
+}
+
+// The PostScript mod, with the sign of `a`. Ruled out: the sign of `b`, and a remainder that is never negative.
+pub fn rem(a: u32, b: u32) -> Quotient
+    ensures { λ r. ⌜ quotientOf r ≡ dividedWords remZ a b ⌝ }
+{
+    if b == 0 {
+        return Quotient::ZeroDivisor;
+    }
+    if is_corner(a, b) {
+        return Quotient::Value(0);
+    }
+    Quotient::Value(to_word(to_signed(a) % to_signed(b)))
+}
+
+// ---- bits
+
+// To the left by `s`, or to the right by `-s`, filling with zeros. Ruled out: a shift that keeps the sign, and a count modulo 32.
+pub fn bitshift(a: u32, s: u32) -> u32
+    ensures { λ r. ⌜ r ≡ shift a (signed s) ⌝ }
+{
+    if s < WIDTH {
+        return a << s;
+    }
+    let right = std::num::wrapping_sub_u32(0, s);
+    if right < WIDTH {
+        return a >> right;
+    }
+    0
+}
+
+pub fn bit_and(a: u32, b: u32) -> u32
+    ensures { λ r. ⌜ r ≡ bitAnd a b ⌝ }
+{
+    a & b
+}
+
+pub fn bit_or(a: u32, b: u32) -> u32
+    ensures { λ r. ⌜ r ≡ bitOr a b ⌝ }
+{
+    a | b
+}
+
+pub fn bit_xor(a: u32, b: u32) -> u32
+    ensures { λ r. ⌜ r ≡ bitXor a b ⌝ }
+{
+    a ^ b
+}
+
+pub fn bit_not(a: u32) -> u32
+    ensures { λ r. ⌜ r ≡ (2 ^ 32 - 1) - a ⌝ }
+{
+    ALL_ONES - a
+}
+
+// ---- comparisons. Ruled out: the order of the words themselves, in which -1 is the greatest, and a wrong answer on equal operands.
+
+pub fn eq(a: u32, b: u32) -> bool
+    ensures { λ r. ⌜ r ≡ eqb a b ⌝ }
+{
+    a == b
+}
+
+pub fn ne(a: u32, b: u32) -> bool
+    ensures { λ r. ⌜ r ≡ not (eqb a b) ⌝ }
+{
+    a != b
+}
+
+pub fn lt(a: u32, b: u32) -> bool
+    ensures { λ r. ⌜ r ≡ ltZ (signed a) (signed b) ⌝ }
+{
+    to_signed(a) < to_signed(b)
+}
+
+pub fn le(a: u32, b: u32) -> bool
+    ensures { λ r. ⌜ r ≡ leZ (signed a) (signed b) ⌝ }
+{
+    to_signed(a) <= to_signed(b)
+}
+
+pub fn gt(a: u32, b: u32) -> bool
+    ensures { λ r. ⌜ r ≡ ltZ (signed b) (signed a) ⌝ }
+{
+    lt(b, a)
+}
+
+pub fn ge(a: u32, b: u32) -> bool
+    ensures { λ r. ⌜ r ≡ leZ (signed b) (signed a) ⌝ }
+{
+    le(b, a)
+}
+
+// ---- helpers
+
+// std::num has no such function.
+fn wrapping_mul(a: u32, b: u32) -> u32
+    ensures { λ r. ⌜ r ≡ (a * b) % 2 ^ 32 ⌝ }
+{
+    ((a as u64) * (b as u64) % WORDS) as u32
+}
+
+fn is_corner(a: u32, b: u32) -> bool
+    ensures { λ r. ⌜ r ≡ isCorner a b ⌝ }
+{
+    (a == SIGN) & (b == ALL_ONES)
+}
+
+// A cast may not change the sign, so a negative integer z crosses as -1 - z. The compiler makes nothing of it: the bits are the same.
+fn to_signed(w: u32) -> i32
+    ensures { λ r. ⌜ r ≡ signed w ⌝ }
+{
+    if w < SIGN {
+        w as i32
+    } else {
+        -1 - ((ALL_ONES - w) as i32)
+    }
+}
+
+fn to_word(z: i32) -> u32
+    ensures { λ r. ⌜ r ≡ word z ⌝ }
+{
+    if z < 0 {
+        ALL_ONES - ((-1 - z) as u32)
+    } else {
+        z as u32
+    }
+}
