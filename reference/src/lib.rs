@@ -6,6 +6,7 @@
 #![forbid(unsafe_code)]
 
 pub mod change;
+pub mod corpus;
 pub mod error;
 pub mod machine;
 pub mod operators;
@@ -13,6 +14,7 @@ pub mod print;
 pub mod room;
 pub mod run;
 pub mod setup;
+pub mod stored;
 pub mod token;
 pub mod value;
 

@@ -1,21 +1,13 @@
 //! Every case of ../corpus gives exactly the expected bytes.
 
-mod format;
-
-use std::fs;
-use std::path::{Path, PathBuf};
-
-use floo_reference::{print, printed, read_token};
-use format::{read_cases, Case, Question};
+use floo_reference::corpus::{read_all, Case, Question};
+use floo_reference::{print, printed, read_token, stored};
 
 const FEWEST_CASES: usize = 200;
 
 #[test]
 fn the_corpus_agrees() {
-    let cases: Vec<Case> = corpus_files()
-        .iter()
-        .flat_map(|file| cases_of(file))
-        .collect();
+    let cases = read_all().unwrap_or_else(|malformed| panic!("malformed corpus: {malformed}"));
     let differing: Vec<String> = cases.iter().filter_map(difference).collect();
     println!("{} cases, {} differ", cases.len(), differing.len());
     assert!(
@@ -29,22 +21,6 @@ fn the_corpus_agrees() {
         "only {} cases found",
         cases.len()
     );
-}
-
-fn corpus_files() -> Vec<PathBuf> {
-    let folder = Path::new(env!("CARGO_MANIFEST_DIR")).join("../corpus");
-    let entries = fs::read_dir(folder).expect("the corpus folder can be read");
-    let paths = entries.map(|entry| entry.expect("the folder entry can be read").path());
-    let mut files: Vec<PathBuf> = paths
-        .filter(|path| path.extension().is_some_and(|extension| extension == "txt"))
-        .collect();
-    files.sort();
-    files
-}
-
-fn cases_of(file: &Path) -> Vec<Case> {
-    let text = fs::read(file).expect("the corpus file can be read");
-    read_cases(file, &text).unwrap_or_else(|malformed| panic!("malformed corpus: {malformed}"))
 }
 
 /// What is wrong with a case, if anything.
@@ -62,4 +38,17 @@ fn difference(case: &Case) -> Option<String> {
             got.escape_ascii().to_string().replace("\\n", "\n"),
         )
     })
+}
+
+/// What the proved programs are compared with is what this interpreter says of the corpus today.
+#[test]
+fn the_stored_answers_are_current() {
+    for (path, bytes) in stored::files().expect("the corpus can be read") {
+        let kept = std::fs::read(&path).unwrap_or_default();
+        let name = path.display();
+        assert!(
+            kept == bytes,
+            "{name} is not current: run the binary `stored`"
+        );
+    }
 }

@@ -1,8 +1,9 @@
-//! Reads corpus files in the format of ../corpus/README.md.
+//! Reads the corpus, in the format of ../corpus/README.md.
 
+use std::fs;
 use std::path::{Path, PathBuf};
 
-use floo_reference::Sizes;
+use crate::Sizes;
 
 /// What a case asks for.
 pub enum Question {
@@ -23,6 +24,29 @@ struct Lines<'t> {
     file: &'t Path,
     lines: Vec<&'t [u8]>,
     next: usize,
+}
+
+/// The repository that this package stands in.
+pub fn repository() -> PathBuf {
+    Path::new(env!("CARGO_MANIFEST_DIR")).join("..")
+}
+
+/// All cases of all files, in the order of the files' names, or what is malformed.
+pub fn read_all() -> Result<Vec<Case>, String> {
+    let unread = |error: std::io::Error| format!("the corpus cannot be read: {error}");
+    let mut files = Vec::new();
+    for entry in fs::read_dir(repository().join("corpus")).map_err(unread)? {
+        let path = entry.map_err(unread)?.path();
+        if path.extension().is_some_and(|extension| extension == "txt") {
+            files.push(path);
+        }
+    }
+    files.sort();
+    let mut cases = Vec::new();
+    for file in files {
+        cases.extend(read_cases(&file, &fs::read(&file).map_err(unread)?)?);
+    }
+    Ok(cases)
 }
 
 /// All cases of a file, or what is malformed: `file:line: what`.

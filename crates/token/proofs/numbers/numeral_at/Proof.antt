@@ -1,0 +1,72 @@
+-- `token::numbers::numeral_at` meets its contract. The loop's invariant: the digits left, with n for those before, give the same answer.
+-- Assumes nothing.
+use mathlib.Core.Path.{_≡_}
+use Prim.Native.Nat.{_-_, _≤_}
+use lib.ListN.{length, drop}
+use Rattle.token.specs.Numbers.{numeral}
+use Rattle.token.proofs.Digits.{judged, numeral-none, numeral-start, numeral-bad, numeral-turn, numeral-over, numeral-end}
+use borrow.Author.Needs.{needs}
+use native.Mathlib.Omega.{arith}
+use Rattle.token.proofs.numbers.numeral_at.Statement.{statement}
+use Rattle.token.proofs.numbers.numeral_at.Tie as tie
+
+abbrev Inv-loop : tie.InvT-loop
+Inv-loop s at base limit i₀ n₀ i n = (i ≤ length s) × (numeral base limit (drop at s) ≡ judged base limit n (drop i s))
+
+abbrev μ-loop : tie.MeasureT-loop
+μ-loop s at base limit i₀ n₀ i n = length s - i
+
+returns : tie.Need-returns Inv-loop μ-loop
+returns c = numeral-none _ _ _ _ (c .if1 .taken)
+
+loop-holds : tie.Need-loop-holds Inv-loop μ-loop
+loop-holds c = (omega arith, numeral-start _ _ _ _ (c .if1 .left))
+
+shared-slice-read-digit : tie.Need-shared-slice-read-digit Inv-loop μ-loop
+shared-slice-read-digit c = search needs
+
+digit-requires : tie.Need-digit-requires Inv-loop μ-loop
+digit-requires c κs = search needs
+
+returns-2 : tie.Need-returns-2 Inv-loop μ-loop
+returns-2 c = numeral-bad _ _ _ _ _ _ (c .before .before .before .before .loop .inv .1) _ (c .before .before .before .loop-test .taken) (c .before .digit .ensures) (c .if2 .taken)
+
+with-digit-requires : tie.Need-with-digit-requires Inv-loop μ-loop
+with-digit-requires c κs = (c .before .before .before .before .before .before .before .pre .0, c .before .before .before .before .before .before .before .pre .2, c .if2 .left)
+
+add-i : tie.Need-add-i Inv-loop μ-loop
+add-i c = omega arith
+
+loop-less : tie.Need-loop-less Inv-loop μ-loop
+loop-less c = omega arith
+
+loop-again : tie.Need-loop-again Inv-loop μ-loop
+loop-again c = (omega arith, numeral-turn _ _ _ _ _ _ (c .before .before .before .before .before .loop .inv .1) _ _ (c .before .before .before .before .before .before .before .before .pre .1) (c .before .before .before .before .loop-test .taken) (c .before .before .digit .ensures) (c .before .if2 .left) (c .with-digit .ensures))
+
+returns-3 : tie.Need-returns-3 Inv-loop μ-loop
+returns-3 c = numeral-over _ _ _ _ _ _ (c .before .before .loop .inv .1) (c .before .loop-test .left) (c .if3 .taken)
+
+cast-t17 : tie.Need-cast-t17 Inv-loop μ-loop
+cast-t17 c = omega arith
+
+returns-4 : tie.Need-returns-4 Inv-loop μ-loop
+returns-4 c = numeral-end _ _ _ _ _ _ (c .before .before .loop .inv .1) (c .before .loop-test .left) (c .if3 .left)
+
+pub numeral-at-spec : {M : Type 1} → statement M
+numeral-at-spec =
+    tie.close
+    (tie.spec
+    Inv-loop
+    μ-loop
+    returns
+    loop-holds
+    shared-slice-read-digit
+    digit-requires
+    returns-2
+    with-digit-requires
+    add-i
+    loop-less
+    loop-again
+    returns-3
+    cast-t17
+    returns-4)

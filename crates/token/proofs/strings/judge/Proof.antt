@@ -1,0 +1,68 @@
+-- `token::strings::judge` meets its contract. The loop's invariant: up to i the string gave `size` bytes, and it goes on there.
+-- Assumes nothing.
+use Prim.Native.Nat.{_-_}
+use mathlib.Core.Path.{subst}
+use lib.ListN.{length}
+use Rattle.token.specs.Strings.{PieceAt}
+use Rattle.token.proofs.Escapes.{Judging, judging-starts, judging-byte, judging-closed, judging-bad}
+use borrow.Author.Needs.{needs}
+use native.Mathlib.Omega.{arith}
+use Rattle.token.proofs.strings.judge.Statement.{statement}
+use Rattle.token.proofs.strings.judge.Tie as tie
+
+abbrev Inv-loop : tie.InvT-loop
+Inv-loop script at i₀ size₀ i size = Judging script at i size
+
+abbrev μ-loop : tie.MeasureT-loop
+μ-loop script at i₀ size₀ i size = length script - i
+
+loop-holds : tie.Need-loop-holds Inv-loop μ-loop
+loop-holds c = judging-starts _ _ (c .before .pre)
+
+piece-at-requires : tie.Need-piece-at-requires Inv-loop μ-loop
+piece-at-requires c κs = c .loop .inv .inside
+
+enum-known-next : tie.Need-enum-known-next Inv-loop μ-loop
+enum-known-next c = search needs
+
+add-size : tie.Need-add-size Inv-loop μ-loop
+add-size c = omega arith
+
+loop-less : tie.Need-loop-less Inv-loop μ-loop
+loop-less c =
+    let B = subst (PieceAt (c .before .before .before .before .before .before .args .script .now) (c .before .before .before .before .loop .i)) (c .before .next .given .1) (c .before .before .before .piece-at .ensures) in
+    let past = B .past in
+    let inside = B .inside in
+    omega arith
+
+loop-again : tie.Need-loop-again Inv-loop μ-loop
+loop-again c = judging-byte (c .before .before .before .before .loop .inv) (c .before .before .before .piece-at .ensures) (c .before .next .given .1)
+
+enum-known-next-2 : tie.Need-enum-known-next-2 Inv-loop μ-loop
+enum-known-next-2 c = search needs
+
+returns : tie.Need-returns Inv-loop μ-loop
+returns c = judging-closed (c .before .before .before .before .loop .inv) (c .before .before .before .piece-at .ensures) (c .before .next2 .given .1)
+
+enum-told : tie.Need-enum-told Inv-loop μ-loop
+enum-told c = search needs
+
+returns-2 : tie.Need-returns-2 Inv-loop μ-loop
+returns-2 c = judging-bad (c .before .before .before .loop .inv) (c .before .before .piece-at .ensures) (c .enum-told .given .1)
+
+pub judge-spec : {M : Type 1} → statement M
+judge-spec =
+    tie.close
+    (tie.spec
+    Inv-loop
+    μ-loop
+    loop-holds
+    piece-at-requires
+    enum-known-next
+    add-size
+    loop-less
+    loop-again
+    enum-known-next-2
+    returns
+    enum-told
+    returns-2)

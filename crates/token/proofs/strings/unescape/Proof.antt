@@ -1,0 +1,33 @@
+-- `token::strings::unescape` meets its contract: what comes next in a string that is known to be good is a byte or its end.
+-- Assumes nothing.
+use Rattle.token.proofs.Escapes.{unescape-byte, unescape-closed, unescape-bad}
+use native.Mathlib.Omega.{arith}
+use borrow.Author.Needs.{needs}
+use Rattle.token.proofs.strings.unescape.Statement.{statement}
+use Rattle.token.proofs.strings.unescape.Tie as tie
+
+piece-at-requires : tie.Need-piece-at-requires
+piece-at-requires c κs = omega arith
+
+enum-known-b : tie.Need-enum-known-b
+enum-known-b c = search needs
+
+enum-told : tie.Need-enum-told
+enum-told c = search needs
+
+enum-told-2 : tie.Need-enum-told-2
+enum-told-2 c = search needs
+
+returns : tie.Need-returns
+returns c = unescape-byte (c .before .before .before .piece-at .ensures) (c .before .b .given .1)
+
+returns-2 : tie.Need-returns-2
+returns-2 c = unescape-closed (c .before .before .piece-at .ensures) (c .enum-told .given .1)
+
+returns-3 : tie.Need-returns-3
+returns-3 c = unescape-bad (c .before .before .piece-at .ensures) (c .enum-told2 .given .1)
+
+pub unescape-spec : {M : Type 1} → statement M
+unescape-spec =
+    tie.close
+    (tie.spec piece-at-requires enum-known-b enum-told enum-told-2 returns returns-2 returns-3)

@@ -1,0 +1,67 @@
+-- Strings: the reading machine's states and acts, and what is left of a string at an offset.
+-- Assumes nothing.
+use mathlib.Core.Path.{_≡_}
+use mathlib.Core.List.{List, [], _∷_, _++_}
+use Prim.Native.Nat.{ℕ, _+_, _*_, _-_, _<_, _≤_}
+use lib.ListN.{length, drop}
+use Rattle.semantics.specs.Values.{Result, ok, fault}
+use Rattle.semantics.specs.Tokens.{Quoted, quoted}
+use Rattle.semantics.specs.Tokens as tokens
+use Rattle.semantics.specs.declared.Error.the-variants.{SyntaxError}
+use Rattle.token.specs.declared.strings.Met.{Met}
+use Rattle.token.specs.declared.strings.Met.the-variants.{Nothing, Backslash, Return, Digit, Digits}
+use Rattle.token.specs.declared.strings.Act.{Act}
+use Rattle.token.specs.declared.strings.Act.the-variants as act
+use Rattle.token.specs.declared.strings.Piece.{Piece}
+use Rattle.token.specs.declared.strings.Piece.the-variants as piece
+use Rattle.token.specs.declared.strings.Judged.{Judged}
+use Rattle.token.specs.declared.strings.Judged.the-variants as judged
+use Rattle.token.specs.declared.strings.Unescaped.{Unescaped}
+use Rattle.token.specs.declared.strings.Unescaped.the-variants as unescaped
+
+abbrev pub metIs : Met → tokens.Met
+metIs Nothing = tokens.nothing
+metIs Backslash = tokens.backslash
+metIs Return = tokens.return
+metIs (Digit d) = tokens.octal 2 d
+metIs (Digits d e) = tokens.octal 1 (d * 8 + e)
+
+abbrev pub actIs : Act → tokens.Act
+actIs (act.Byte b) = tokens.byte b
+actIs (act.Go m) = tokens.go (metIs m)
+actIs act.Close = tokens.close
+actIs act.Bad = tokens.bad
+
+-- What a string holds, where its first n bytes of the script gave `bs` and the rest reads as the result says.
+unfoldable pub after : List ℕ → ℕ → Result Quoted → Result Quoted
+after bs n (ok q) = ok (record { contents = bs ++ q .contents; taken = n + q .taken })
+after bs n (fault e) = fault e
+
+-- At `at`, with no escape open, the rest of a well-formed string: it holds `bs`, and `next` is the offset after its closing quote.
+pub record StringAt (script : List ℕ) (at : ℕ) (bs : List ℕ) (next : ℕ) : Type 0 where
+  pub reads : quoted tokens.nothing (drop at script) ≡ ok (record { contents = bs; taken = next - at })
+  pub past : at < next
+  pub inside : next ≤ length script
+
+-- The string at `at` begins with `bs`, which the bytes of the script up to `next` write, and goes on there.
+pub record Begins (script : List ℕ) (at : ℕ) (bs : List ℕ) (next : ℕ) : Type 0 where
+  pub splits : quoted tokens.nothing (drop at script) ≡ after bs (next - at) (quoted tokens.nothing (drop next script))
+  pub past : at < next
+  pub inside : next ≤ length script
+
+abbrev pub PieceAt : List ℕ → ℕ → Piece → Type 0
+PieceAt script at (piece.Byte b next) = Begins script at (b ∷ []) next
+PieceAt script at (piece.Closed next) = StringAt script at [] next
+PieceAt script at piece.Bad = quoted tokens.nothing (drop at script) ≡ fault SyntaxError
+
+abbrev pub JudgedAt : List ℕ → ℕ → Judged → Type 0
+JudgedAt script at (judged.Closed size next) = (bs : List ℕ) × StringAt script at bs next × (length bs ≡ size)
+JudgedAt script at judged.Bad = quoted tokens.nothing (drop at script) ≡ fault SyntaxError
+
+-- Of the bytes `bs` of a string: the first, with the rest at the offset after it; or there are none.
+abbrev pub Gives : List ℕ → List ℕ → ℕ → Unescaped → Type 0
+Gives script bs next (unescaped.Byte b at) = (rest : List ℕ) × (bs ≡ b ∷ rest) × StringAt script at rest next
+Gives script bs next unescaped.Closed = bs ≡ []
+
+abbrev pub Unescapes : List ℕ → ℕ → Unescaped → Type 0
+Unescapes script at r = (bs : List ℕ) (next : ℕ) → StringAt script at bs next → Gives script bs next r

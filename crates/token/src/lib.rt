@@ -1,0 +1,221 @@
+// The reading of one token of a script, where it stands: space and comment, names, numbers, strings and braces. `token_at` answers as
+// the definition's `lex` does, and the public reading, `read` and `part`, as its `reading`, on every script and at every offset. No byte is copied:
+// an answer says where a token's bytes are, and `unescape` gives a string's bytes one by one.
+ghost use mathlib.Core.Path.{_≡_};
+ghost use Prim.Native.Nat.{_≤_};
+ghost use lib.ListN.{length};
+ghost use Rattle.semantics.specs.Groups as groups;
+ghost use Rattle.semantics.specs.Setup as setup;
+ghost use Rattle.token.specs.Lexing.{LexedAt, NameByteAt, SlashAt, QuoteAt, faultOf};
+ghost use Rattle.token.specs.Reading.{LocatedAt, Ordered, ownedBy, answerOf, answer, partOf};
+use semantics::Error;
+use semantics::Kind;
+
+mod bytes;
+mod numbers;
+mod strings;
+
+use bytes::Class;
+use bytes::blank_end;
+use bytes::class_of;
+use bytes::run_end;
+use numbers::Number;
+use numbers::number_fault;
+use numbers::number_of;
+use numbers::starts_number;
+use strings::Judged;
+pub use strings::Unescaped;
+use strings::judge;
+pub use strings::unescape;
+
+// Names have at most so many bytes, and a script.
+const NAME_BYTES: usize = 31;
+
+const SCRIPT_BYTES: usize = 32768;
+
+// A token of a script: an integer by its 32 bits, a string by where its bytes begin and how many it will hold, a name by where its bytes
+// are and how many.
+pub enum Token {
+    Integer(u32),
+    String(usize, usize),
+    ExecutableName(usize, usize),
+    LiteralName(usize, usize),
+    OpenBrace,
+    CloseBrace,
+    End,
+}
+
+// A token and the offset after it, or the fault that its reading gives.
+pub enum Lexed {
+    Token(Token, usize),
+    Fault(Error),
+}
+
+// The public answer: the paper's refusals 1 and 10, a fault, or the token's kind and the offset after it.
+pub enum Reading {
+    TooLong,
+    PastEnd,
+    Faulty(Error),
+    Read(Kind, usize),
+}
+
+// The same with where the token's own bytes begin and how many they are.
+pub enum Located {
+    TooLong,
+    PastEnd,
+    Faulty(Error),
+    At(Kind, usize, usize, usize),
+}
+
+// The kind of the next token from `offset` on, and the offset after it.
+// Ruled out: a reader that looks for `#FLOO`, or refuses the offset at the very end; one that answers limitcheck for 99999999999a.
+pub fn read(script: &[u8], offset: usize) -> Reading
+    ensures { λ r. ⌜ answerOf offset r ≡ answer offset (setup.reading (now (script .entry)) offset) ⌝ }
+{
+    match locate(script, offset) {
+        Located::TooLong => Reading::TooLong,
+        Located::PastEnd => Reading::PastEnd,
+        Located::Faulty(e) => Reading::Faulty(e),
+        Located::At(kind, next, _, _) => Reading::Read(kind, next),
+    }
+}
+
+// That token's own bytes, the very part of the script: a string's without quotes, escapes unread, and a literal name's without its slash.
+// Ruled out: the slash or a quote handed out; the rest of the script in place of the part.
+pub fn part(script: &[u8], offset: usize) -> &[u8]
+    ensures { λ r. ⌜ now r ≡ partOf (now (script .entry)) (setup.reading (now (script .entry)) offset) ⌝ }
+{
+    let located = locate(script, offset);
+    let Located::At(_, _, start, size) = located else {
+        return &script[0..0];
+    };
+    &script[start..start + size]
+}
+
+// The offset of the first byte from `at` on that is neither space nor comment, or the script's length.
+// Ruled out: a comment that swallows its line break and the next line; one that `#` ends.
+pub fn skip(script: &[u8], at: usize) -> usize
+    requires { ⌜ at ≤ length (now script) ⌝ }
+    ensures { λ r. ⌜ r ≡ groups.skip (now (script .entry)) at ⌝ }
+    ensures { λ r. ⌜ r ≤ length (now (script .entry)) ⌝ }
+{
+    blank_end(script, at)
+}
+
+// The token at `start`, as the definition's `lex` reads it there.
+// Ruled out: a name of 32 bytes; -2147483649 wrapped to 2147483647.
+pub fn token_at(script: &[u8], start: usize) -> Lexed
+    requires { ⌜ start ≤ length (now script) ⌝ }
+    ensures { λ r. ⌜ LexedAt (now (script .entry)) start r ⌝ }
+{
+    if script.len() <= start {
+        return Lexed::Token(Token::End, start);
+    }
+    match class_of(script[start]) {
+        Class::NameByte => word_at(script, start),
+        Class::Bracket => Lexed::Token(Token::ExecutableName(start, 1), start + 1),
+        Class::OpenBrace => Lexed::Token(Token::OpenBrace, start + 1),
+        Class::CloseBrace => Lexed::Token(Token::CloseBrace, start + 1),
+        Class::Quote => string_at(script, start),
+        Class::Slash => literal_at(script, start),
+        Class::Other => Lexed::Fault(Error::SyntaxError),
+    }
+}
+
+// The fault of an answer that has one.
+pub fn fault_of(lexed: Lexed) -> Error
+    ensures { λ r. ⌜ r ≡ faultOf lexed ⌝ }
+{
+    match lexed {
+        Lexed::Token(_, _) => Error::SyntaxError,
+        Lexed::Fault(e) => e,
+    }
+}
+
+// The number or the executable name that begins at a name byte.
+fn word_at(script: &[u8], start: usize) -> Lexed
+    requires { ⌜ NameByteAt (now script) start ⌝ }
+    ensures { λ r. ⌜ LexedAt (now (script .entry)) start r ⌝ }
+{
+    let end = run_end(script, start);
+    let run = &script[start..end];
+    if starts_number(run) {
+        let n = number_of(run);
+        let Number::Word(w) = n else {
+            return Lexed::Fault(number_fault(n));
+        };
+        return Lexed::Token(Token::Integer(w), end);
+    }
+    let size = end - start;
+    if NAME_BYTES < size {
+        return Lexed::Fault(Error::LimitCheck);
+    }
+    Lexed::Token(Token::ExecutableName(start, size), end)
+}
+
+// The literal name that begins at a slash.
+fn literal_at(script: &[u8], start: usize) -> Lexed
+    requires { ⌜ SlashAt (now script) start ⌝ }
+    ensures { λ r. ⌜ LexedAt (now (script .entry)) start r ⌝ }
+{
+    let at = start + 1;
+    let end = run_end(script, at);
+    let size = end - at;
+    if size == 0 {
+        return Lexed::Fault(Error::SyntaxError);
+    }
+    if starts_number(&script[at..end]) {
+        return Lexed::Fault(Error::SyntaxError);
+    }
+    if NAME_BYTES < size {
+        return Lexed::Fault(Error::LimitCheck);
+    }
+    Lexed::Token(Token::LiteralName(at, size), end)
+}
+
+// The string that begins at a quote.
+fn string_at(script: &[u8], start: usize) -> Lexed
+    requires { ⌜ QuoteAt (now script) start ⌝ }
+    ensures { λ r. ⌜ LexedAt (now (script .entry)) start r ⌝ }
+{
+    let at = start + 1;
+    let judged = judge(script, at);
+    let Judged::Closed(size, next) = judged else {
+        return Lexed::Fault(Error::SyntaxError);
+    };
+    Lexed::Token(Token::String(at, size), next)
+}
+
+// The definition's reading, whole.
+fn locate(script: &[u8], offset: usize) -> Located
+    ensures { λ r. ⌜ LocatedAt (now (script .entry)) offset r ⌝ }
+{
+    if SCRIPT_BYTES < script.len() {
+        return Located::TooLong;
+    }
+    if script.len() < offset {
+        return Located::PastEnd;
+    }
+    let start = skip(script, offset);
+    let lexed = token_at(script, start);
+    let Lexed::Token(token, next) = lexed else {
+        return Located::Faulty(fault_of(lexed));
+    };
+    own_part(token, start, next)
+}
+
+// A token's kind and its own bytes, for one from `start` to `next`.
+fn own_part(token: Token, start: usize, next: usize) -> Located
+    requires { ⌜ Ordered start next token ⌝ }
+    ensures { λ r. ⌜ r ≡ ownedBy start next token ⌝ }
+{
+    match token {
+        Token::Integer(_) => Located::At(Kind::Integer, next, start, next - start),
+        Token::String(at, _) => Located::At(Kind::String, next, at, next - at - 1),
+        Token::ExecutableName(at, size) => Located::At(Kind::ExecutableName, next, at, size),
+        Token::LiteralName(at, size) => Located::At(Kind::LiteralName, next, at, size),
+        Token::OpenBrace => Located::At(Kind::OpenBrace, next, start, 1),
+        Token::CloseBrace => Located::At(Kind::CloseBrace, next, start, 1),
+        Token::End => Located::At(Kind::End, next, start, 0),
+    }
+}
