@@ -1,9 +1,9 @@
 -- Space, comment and runs of name bytes: what is left of each from an offset on.
 -- Assumes nothing.
-use mathlib.Core.Path.{_≡_, refl, sym, ap, _∙_}
+use mathlib.Core.Path.{_≡_, refl, sym, _∙_}
 use mathlib.Core.Bool.{Bool, true, false}
 use mathlib.Core.List.{List, [], _∷_}
-use Prim.Native.Nat.{ℕ, zero, suc, _+_, _≤_, _<_}
+use Prim.Native.Nat.{ℕ, suc, _+_, _≤_, _<_}
 use native.Mathlib.Omega.{arith}
 use native.Mathlib.Numerals.{add-one}
 use lib.ListN.{length, drop, getD, drop-of-length-le}
@@ -13,7 +13,8 @@ use Rattle.semantics.specs.Tokens.{isNameByte, isBlank, commentAfter, blanks, b
 -- A count over the bytes from i on that is `total` with what is before: at a byte that counts it goes on, at another it stops, and at
 -- the end it is done. `rest` counts the bytes left; it may change with a byte.
 module _ (s : List ℕ) (total i : ℕ) (rest : List ℕ → ℕ) (inv : total ≡ i + rest (drop i s)) where
-  pub goes-on : (more : List ℕ → ℕ) → i < length s → ((t : List ℕ) → rest (getD s i 0 ∷ t) ≡ suc (more t)) → total ≡ i + 1 + more (drop (i + 1) s)
+  pub goes-on : (more : List ℕ → ℕ) → i < length s → ((t : List ℕ) → rest (getD s i 0 ∷ t) ≡ suc (more t))
+      → total ≡ i + 1 + more (drop (i + 1) s)
   goes-on more h e = inv ∙ rw (drop-cons s i 0 h, e (drop (suc i) s), add-one i) (omega arith)
 
   pub stops : i < length s → ((t : List ℕ) → rest (getD s i 0 ∷ t) ≡ 0) → i ≡ total

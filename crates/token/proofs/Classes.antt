@@ -65,7 +65,11 @@ blank-else t b s e f g = rw (e, sym f ∙ g)
 pub name-outside : (b : ℕ) (t : Bool) → t ≡ within 33 126 b → t ≡ false → false ≡ isNameByte b
 name-outside b t e f = rw (sym e ∙ f)
 
-pub name-special : (b : ℕ) → (b ≡ 47) ⊎ ((b ≡ 91) ⊎ ((b ≡ 93) ⊎ ((b ≡ 123) ⊎ (b ≡ 125)))) → false ≡ isNameByte b
+-- / [ ] { }
+abbrev pub Special : ℕ → Type 0
+Special b = (b ≡ 47) ⊎ ((b ≡ 91) ⊎ ((b ≡ 93) ⊎ ((b ≡ 123) ⊎ (b ≡ 125))))
+
+pub name-special : (b : ℕ) → Special b → false ≡ isNameByte b
 name-special b (inl e) = rw e
 name-special b (inr (inl e)) = rw e
 name-special b (inr (inr (inl e))) = rw e
@@ -80,9 +84,14 @@ name-quoting b h k = by (ℕ-discrete b 34)
     by (yes e) = rw e
     by (no n) = let e : b ≡ 35 = omega arith in rw e
 
-pub name-else : (b : ℕ) (t : Bool) → t ≡ within 33 126 b → t ≡ true → ((b ≡ 47) ⊎ ((b ≡ 91) ⊎ ((b ≡ 93) ⊎ ((b ≡ 123) ⊎ (b ≡ 125)))) → ⊥) → (b ≡ 34 → ⊥) → (b ≡ 35 → ⊥) → true ≡ isNameByte b
+pub name-else : (b : ℕ) (t : Bool) → t ≡ within 33 126 b → t ≡ true → (Special b → ⊥) → (b ≡ 34 → ⊥) → (b ≡ 35 → ⊥) → true ≡ isNameByte b
 name-else b t e f h i j =
-    rw (sym e ∙ f, ne-eqb b 91 (λ p. h (inr (inl p))), ne-eqb b 93 (λ p. h (inr (inr (inl p)))), ne-eqb b 123 (λ p. h (inr (inr (inr (inl p))))), ne-eqb b 125 (λ p. h (inr (inr (inr (inr p))))), ne-eqb b 34 i, ne-eqb b 35 j, ne-eqb b 47 (λ p. h (inl p)))
+    let slash : eqb b 47 ≡ false = ne-eqb b 47 (λ p. h (inl p)) in
+    let left : eqb b 91 ≡ false = ne-eqb b 91 (λ p. h (inr (inl p))) in
+    let right : eqb b 93 ≡ false = ne-eqb b 93 (λ p. h (inr (inr (inl p)))) in
+    let opens : eqb b 123 ≡ false = ne-eqb b 123 (λ p. h (inr (inr (inr (inl p))))) in
+    let closes : eqb b 125 ≡ false = ne-eqb b 125 (λ p. h (inr (inr (inr (inr p))))) in
+    rw (sym e ∙ f, left, right, opens, closes, ne-eqb b 34 i, ne-eqb b 35 j, slash)
 
 -- ---- classes
 
@@ -98,7 +107,8 @@ class-bracket b (inr e) = rw e
 pub class-at : (b n : ℕ) (class : tokens.Class) → b ≡ n → class ≡ classOf n → class ≡ classOf b
 class-at b n class e f = rw e f
 
-pub class-other : (b : ℕ) (t : Bool) → t ≡ isNameByte b → t ≡ false → ((b ≡ 91) ⊎ (b ≡ 93) → ⊥) → (b ≡ 123 → ⊥) → (b ≡ 125 → ⊥) → (b ≡ 34 → ⊥) → (b ≡ 47 → ⊥) → tokens.other ≡ classOf b
+pub class-other : (b : ℕ) (t : Bool) → t ≡ isNameByte b → t ≡ false
+    → ((b ≡ 91) ⊎ (b ≡ 93) → ⊥) → (b ≡ 123 → ⊥) → (b ≡ 125 → ⊥) → (b ≡ 34 → ⊥) → (b ≡ 47 → ⊥) → tokens.other ≡ classOf b
 unfolding classOf
 class-other b t e f h i j k l =
     rw (sym e ∙ f, ne-eqb b 91 (λ p. h (inl p)), ne-eqb b 93 (λ p. h (inr p)), ne-eqb b 123 i, ne-eqb b 125 j, ne-eqb b 34 k, ne-eqb b 47 l)

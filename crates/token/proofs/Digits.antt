@@ -3,7 +3,7 @@
 use mathlib.Core.Path.{_≡_, refl, sym, ap, _∙_}
 use mathlib.Core.Bool.{Bool, true, false, not, cond}
 use mathlib.Core.List.{List, [], _∷_}
-use Prim.Native.Nat.{ℕ, zero, suc, _+_, _-_, _*_, _%_, _^_, _≤_, _<_}
+use Prim.Native.Nat.{ℕ, zero, suc, _+_, _-_, _*_, _^_, _≤_, _<_}
 use native.Mathlib.Nat.{mul-le-mul, le-mul-of-pos-right}
 use native.Mathlib.Numerals.{add-one}
 use native.Mathlib.Omega.{arith}
@@ -42,13 +42,15 @@ module _ (t : Bool) where
   starts-alone (b ∷ []) h e f = sym (sym e ∙ f)
   starts-alone (b ∷ c ∷ s) h e f = absurd (omega arith)
 
-  pub starts-other : (s : List ℕ) → (length s ≡ 0 → ⊥) → (length s ≡ 1 → ⊥) → t ≡ isDigit (getD s 0 0) → t ≡ false → (getD s 0 0 ≡ 45 → ⊥) → false ≡ startsNumber s
+  pub starts-other : (s : List ℕ) → (length s ≡ 0 → ⊥) → (length s ≡ 1 → ⊥)
+      → t ≡ isDigit (getD s 0 0) → t ≡ false → (getD s 0 0 ≡ 45 → ⊥) → false ≡ startsNumber s
   unfolding startsNumber
   starts-other [] h k e f g = absurd (h refl)
   starts-other (b ∷ []) h k e f g = absurd (k refl)
   starts-other (b ∷ c ∷ s) h k e f g = rw (sym e ∙ f, ne-eqb b 45 g)
 
-  pub starts-minus : (s : List ℕ) (r : Bool) → (length s ≡ 0 → ⊥) → (length s ≡ 1 → ⊥) → t ≡ isDigit (getD s 0 0) → t ≡ false → getD s 0 0 ≡ 45 → r ≡ isDigit (getD s 1 0) → r ≡ startsNumber s
+  pub starts-minus : (s : List ℕ) (r : Bool) → (length s ≡ 0 → ⊥) → (length s ≡ 1 → ⊥)
+      → t ≡ isDigit (getD s 0 0) → t ≡ false → getD s 0 0 ≡ 45 → r ≡ isDigit (getD s 1 0) → r ≡ startsNumber s
   unfolding startsNumber
   starts-minus [] r h k e f g i = absurd (h refl)
   starts-minus (b ∷ []) r h k e f g i = absurd (k refl)
@@ -92,17 +94,18 @@ pub digit-decimal : (b : ℕ) (t : Bool) → t ≡ isDigit b → t ≡ true → 
 unfolding digit
 digit-decimal b t e f = rw (sym e ∙ f)
 
-pub digit-lower : (b : ℕ) (t u : Bool) → t ≡ isDigit b → t ≡ false → u ≡ within 97 102 b → u ≡ true → b - 87 ≡ digit b
-unfolding digit
-digit-lower b t u e f g h = rw (sym e ∙ f, sym g ∙ h)
+module _ (b : ℕ) (t u : Bool) (e : t ≡ isDigit b) (f : t ≡ false) (g : u ≡ within 97 102 b) where
+  pub digit-lower : u ≡ true → b - 87 ≡ digit b
+  unfolding digit
+  digit-lower h = rw (sym e ∙ f, sym g ∙ h)
 
-pub digit-upper : (b : ℕ) (t u v : Bool) → t ≡ isDigit b → t ≡ false → u ≡ within 97 102 b → u ≡ false → v ≡ within 65 70 b → v ≡ true → b - 55 ≡ digit b
-unfolding digit
-digit-upper b t u v e f g h i j = rw (sym e ∙ f, sym g ∙ h, sym i ∙ j)
+  pub digit-upper : (v : Bool) → u ≡ false → v ≡ within 65 70 b → v ≡ true → b - 55 ≡ digit b
+  unfolding digit
+  digit-upper v h i j = rw (sym e ∙ f, sym g ∙ h, sym i ∙ j)
 
-pub digit-none : (b : ℕ) (t u v : Bool) → t ≡ isDigit b → t ≡ false → u ≡ within 97 102 b → u ≡ false → v ≡ within 65 70 b → v ≡ false → 16 ≡ digit b
-unfolding digit
-digit-none b t u v e f g h i j = rw (sym e ∙ f, sym g ∙ h, sym i ∙ j)
+  pub digit-none : (v : Bool) → u ≡ false → v ≡ within 65 70 b → v ≡ false → 16 ≡ digit b
+  unfolding digit
+  digit-none v h i j = rw (sym e ∙ f, sym g ∙ h, sym i ∙ j)
 
 -- ---- one digit more
 
@@ -175,12 +178,15 @@ module _ (s : List ℕ) (base limit : ℕ) where
     pub numeral-bad : (d : ℕ) → i < length s → d ≡ digit (getD s i 0) → base ≤ d → fault SyntaxError ≡ total
     numeral-bad d h e k = sym (inv ∙ rw (drop-cons s i 0 h) (judged-bad base limit n (getD s i 0) (drop (suc i) s) (rw (sym e) k)))
 
-    pub numeral-turn : (d m : ℕ) → 0 < base → i < length s → d ≡ digit (getD s i 0) → d < base → m ≡ withDigit limit base n d → total ≡ judged base limit m (drop (i + 1) s)
+    pub numeral-turn : (d m : ℕ) → 0 < base → i < length s → d ≡ digit (getD s i 0) → d < base → m ≡ withDigit limit base n d
+        → total ≡ judged base limit m (drop (i + 1) s)
     unfolding withDigit
     numeral-turn d m p h e k f =
-        inv ∙ rw (drop-cons s i 0 h, add-one i) (judged-good base limit n (getD s i 0) (drop (suc i) s) (rw (sym e) k) ∙ rw (sym e, f) (by (ltb limit n) (test limit n)))
+        inv ∙ rw (drop-cons s i 0 h, add-one i)
+        (judged-good base limit n (getD s i 0) (drop (suc i) s) (rw (sym e) k) ∙ rw (sym e, f) (by (ltb limit n) (test limit n)))
       where
-        by : (t : Bool) → Over t limit n → judged base limit (n * base + d) (drop (suc i) s) ≡ judged base limit (cond t n (n * base + d)) (drop (suc i) s)
+        by : (t : Bool) → Over t limit n
+            → judged base limit (n * base + d) (drop (suc i) s) ≡ judged base limit (cond t n (n * base + d)) (drop (suc i) s)
         by true q = over base limit p (drop (suc i) s) (n * base + d) n (let r : n ≤ n * base = le-mul-of-pos-right n p in omega arith) q
         by false q = refl
 

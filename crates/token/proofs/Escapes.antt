@@ -3,7 +3,7 @@
 use mathlib.Core.Path.{_≡_, refl, sym, ap, ap₂, subst, _∙_}
 use mathlib.Core.Bool.{Bool, true, false}
 use mathlib.Core.List.{List, [], _∷_, _++_, append-assoc, append-nil}
-use Prim.Native.Nat.{ℕ, zero, suc, _+_, _-_, _*_, _≤_, _<_}
+use Prim.Native.Nat.{ℕ, suc, _+_, _-_, _*_, _≤_, _<_}
 use native.Mathlib.Numerals.{add-one}
 use native.Mathlib.Omega.{arith}
 use lib.ListN.{length, drop, getD, drop-of-length-le, length-append}
@@ -14,14 +14,13 @@ use Rattle.semantics.specs.Tokens.{isBreak, isOctal, plainAct, octalAct, act, Q
 use Rattle.semantics.specs.Tokens as tokens
 use Rattle.semantics.specs.declared.Error.{Error}
 use Rattle.semantics.specs.declared.Error.the-variants.{SyntaxError}
-use Rattle.token.specs.Strings.{metIs, actIs, after, StringAt, Begins, PieceAt, JudgedAt, Unescapes}
+use Rattle.token.specs.Strings.{metIs, actIs, after, StringAt, Begins, PieceAt, Unescapes}
 use Rattle.token.specs.declared.strings.Met.{Met}
-use Rattle.token.specs.declared.strings.Met.the-variants.{Nothing, Backslash, Return, Digit, Digits}
+use Rattle.token.specs.declared.strings.Met.the-variants.{Nothing}
 use Rattle.token.specs.declared.strings.Act.{Act}
 use Rattle.token.specs.declared.strings.Act.the-variants.{Byte, Go, Close, Bad}
 use Rattle.token.specs.declared.strings.Piece.{Piece}
 use Rattle.token.specs.declared.strings.Piece.the-variants as piece
-use Rattle.token.specs.declared.strings.Judged.the-variants as judged
 use Rattle.token.specs.declared.strings.Unescaped.the-variants as unescaped
 
 -- ---- acts
@@ -141,7 +140,8 @@ module _ {script : List ℕ} {at i : ℕ} {m : Met} (r : Reading script at i m) 
   reading-ends h = rw (drop-of-length-le script h) at (r .so-far)
 
   -- What is read so far, with the byte at i.
-  next : i < length script → quoted tokens.nothing (drop at script) ≡ after [] (i - at) (quoted (metIs m) (getD script i 0 ∷ drop (suc i) script))
+  next : i < length script
+      → quoted tokens.nothing (drop at script) ≡ after [] (i - at) (quoted (metIs m) (getD script i 0 ∷ drop (suc i) script))
   next h = rw (drop-cons script i 0 h) at (r .so-far)
 
   module _ (h : i < length script) {a : Act} (is : actIs a ≡ act (metIs m) (getD script i 0)) where
@@ -255,6 +255,11 @@ takenOf : Result Quoted → ℕ
 takenOf (ok q) = q .taken
 takenOf (fault e) = 0
 
+-- A string at an offset holds one row of bytes.
+pub same-string : {script : List ℕ} {at m n : ℕ} {bs cs : List ℕ} → StringAt script at bs m → StringAt script at cs n → bs ≡ cs
+unfolding contentsOf
+same-string S T = ap contentsOf (sym (S .reads) ∙ T .reads)
+
 isOk : Result Quoted → ℕ
 isOk (ok q) = 1
 isOk (fault e) = 0
@@ -281,19 +286,19 @@ taken-some m (b ∷ s) bs n e = by (act m b) e
 
 -- Of a string that begins with b and goes on at `next`, the rest is a string there.
 rest-of : {script : List ℕ} {at b next last : ℕ} {bs : List ℕ} → Begins script at (b ∷ []) next → StringAt script at bs last
-    → (rest : List ℕ) × (bs ≡ b ∷ rest) × StringAt script next rest last
+    → (rest : List ℕ) × (bs ≡ b ∷ rest) × StringAt script next rest last × (at < next)
 unfolding after takenOf contentsOf
 rest-of {script} {at} {b} {next} {last} {bs} B S = by (quoted tokens.nothing (drop next script)) refl (sym (B .splits) ∙ S .reads)
   where
     by : (r : Result Quoted) → quoted tokens.nothing (drop next script) ≡ r → after (b ∷ []) (next - at) r ≡ held bs (last - at)
-        → (rest : List ℕ) × (bs ≡ b ∷ rest) × StringAt script next rest last
+        → (rest : List ℕ) × (bs ≡ b ∷ rest) × StringAt script next rest last × (at < next)
     by (ok q) f g =
         let t : next - at + q .taken ≡ last - at = ap takenOf g in
         let h = B .past in
         let k = S .past in
         let u : q .taken ≡ last - next = omega arith in
         let some : 0 < q .taken = taken-some tokens.nothing (drop next script) (q .contents) (q .taken) f in
-        (q .contents, sym (ap contentsOf g), record { reads = f ∙ ap (held (q .contents)) u; past = omega arith; inside = S .inside })
+        (q .contents, sym (ap contentsOf g), record { reads = f ∙ ap (held (q .contents)) u; past = omega arith; inside = S .inside }, h)
     by (fault x) f g = never x bs (last - at) g
 
 module _ {script : List ℕ} {at : ℕ} {p : Piece} (is : PieceAt script at p) where
@@ -301,10 +306,9 @@ module _ {script : List ℕ} {at : ℕ} {p : Piece} (is : PieceAt script at p) w
   unescape-byte e bs last S = rest-of (subst (PieceAt script at) e is) S
 
   pub unescape-closed : {next : ℕ} → p ≡ piece.Closed next → Unescapes script at unescaped.Closed
-  unfolding contentsOf
   unescape-closed {next} e bs last S =
       let C : StringAt script at [] next = subst (PieceAt script at) e is in
-      ap contentsOf (sym (S .reads) ∙ C .reads)
+      same-string S C
 
   pub unescape-bad : p ≡ piece.Bad → Unescapes script at unescaped.Closed
   unfolding takenOf

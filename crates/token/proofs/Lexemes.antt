@@ -3,21 +3,23 @@
 use mathlib.Core.Path.{_≡_, refl, sym, ap, subst, _∙_}
 use mathlib.Core.Bool.{Bool, true, false, cond, _||_}
 use mathlib.Core.List.{List, [], _∷_}
-use Prim.Native.Nat.{ℕ, zero, suc, _+_, _-_, _≤_, _<_}
+use Prim.Native.Nat.{ℕ, suc, _+_, _-_, _≤_, _<_}
 use native.Mathlib.Numerals.{add-one}
 use native.Mathlib.Omega.{arith}
 use lib.Dec.{eqb}
 use lib.ListN.{length, take, drop, getD, drop-of-length-le, length-drop}
 use lib.Seq.{drop-cons, length-take-le}
 use borrow.Author.Tests.{le-leb, lt-leb, ne-eqb, eq-eqb}
-use Rattle.semantics.specs.Values.{Result, ok, fault, _>>=_, check}
+use Rattle.semantics.specs.Values.{ok, fault, _>>=_, check}
 use Rattle.semantics.specs.Tokens.{isNameByte, classOf, run, startsNumber, number, quoted, lexeme, nameOf, runToken, slashToken, lexAs, lex}
 use Rattle.semantics.specs.Tokens as tokens
 use Rattle.semantics.specs.declared.Error.{Error}
 use Rattle.semantics.specs.declared.Error.the-variants.{SyntaxError, LimitCheck}
+use Rattle.token.specs.Bytes.{classIs}
 use Rattle.token.specs.Numbers.{numberIs}
-use Rattle.token.specs.Strings.{StringAt, JudgedAt}
+use Rattle.token.specs.Strings.{JudgedAt}
 use Rattle.token.specs.Lexing.{ClassAt, Lexes, StringToken, NameToken, BraceToken, EndToken}
+use Rattle.token.specs.declared.bytes.Class.{Class}
 use Rattle.token.specs.declared.numbers.Number.{Number}
 use Rattle.token.specs.declared.numbers.Number.the-variants.{Word, Fault}
 use Rattle.token.specs.declared.strings.Judged.{Judged}
@@ -48,7 +50,9 @@ name-byte : (b : ℕ) → classOf b ≡ tokens.nameByte → isNameByte b ≡ tru
 unfolding classOf place
 name-byte b e =
     by (isNameByte b)
-    (cond (eqb b 91 || eqb b 93) tokens.bracket (cond (eqb b 123) tokens.openBrace (cond (eqb b 125) tokens.closeBrace (cond (eqb b 34) tokens.quote (cond (eqb b 47) tokens.slash tokens.other)))))
+    (cond (eqb b 91 || eqb b 93) tokens.bracket
+    (cond (eqb b 123) tokens.openBrace
+    (cond (eqb b 125) tokens.closeBrace (cond (eqb b 34) tokens.quote (cond (eqb b 47) tokens.slash tokens.other)))))
     (below (eqb b 91 || eqb b 93) tokens.bracket _ (omega arith)
     (below (eqb b 123) tokens.openBrace _ (omega arith)
     (below (eqb b 125) tokens.closeBrace _ (omega arith)
@@ -103,8 +107,14 @@ slash-none n h = rw (eq-eqb (length n) 0 h, slashToken)
 one : (n : ℕ) → n + 1 - n ≡ 1
 one n = omega arith
 
+-- A byte inside the script is of the class that the code found.
+pub of-class : {script : List ℕ} {start : ℕ} {k : Class} → start < length script → classIs k ≡ classOf (getD script start 0)
+    → (found : Class) → k ≡ found → ClassAt script start (classIs found)
+of-class h e found f = record { inside = h; is = sym e ∙ ap classIs f }
+
 module _ {script : List ℕ} {start : ℕ} where
-  lex-as : {class : tokens.Class} → ClassAt script start class → lex (drop start script) ≡ lexAs class (getD script start 0) (drop (suc start) script)
+  lex-as : {class : tokens.Class} → ClassAt script start class
+      → lex (drop start script) ≡ lexAs class (getD script start 0) (drop (suc start) script)
   unfolding lex
   lex-as C = rw (drop-cons script start 0 (C .inside), C .is)
 
@@ -119,14 +129,19 @@ module _ {script : List ℕ} {start : ℕ} where
   pub bracket-token : ClassAt script start tokens.bracket → NameToken script start true 0 start 1 (start + 1)
   unfolding lexAs
   bracket-token C = record {
-    token = record { lexes = lex-as C ∙ rw (drop-cons script start 0 (C .inside), one start) refl; past = omega arith; inside = let h = C .inside in omega arith };
+    token = record {
+      lexes = lex-as C ∙ rw (drop-cons script start 0 (C .inside), one start) refl;
+      past = omega arith;
+      inside = let h = C .inside in omega arith;
+    };
     begins = omega arith;
     ends = refl;
     some = omega arith;
     few = omega arith;
   }
 
-  brace : (class : tokens.Class) (t : tokens.Token) → ClassAt script start class → lexAs class (getD script start 0) (drop (suc start) script) ≡ lexeme t 1 → BraceToken script start t (start + 1)
+  brace : (class : tokens.Class) (t : tokens.Token) → ClassAt script start class
+      → lexAs class (getD script start 0) (drop (suc start) script) ≡ lexeme t 1 → BraceToken script start t (start + 1)
   brace class t C e = record {
     token = record { lexes = lex-as C ∙ rw (one start) e; past = omega arith; inside = let h = C .inside in omega arith };
     ends = refl;
@@ -142,6 +157,10 @@ module _ {script : List ℕ} {start : ℕ} where
 
 -- ---- a run, from its first byte to its end
 
+-- The bytes of a script from a to e.
+abbrev between : List ℕ → ℕ → ℕ → List ℕ
+between script a e = take (e - a) (drop a script)
+
 word-list : (b : ℕ) (s : List ℕ) (k : ℕ) → run (b ∷ s) ≡ k → lexAs tokens.nameByte b s ≡ (runToken (take k (b ∷ s)) >>= λ t. lexeme t k)
 unfolding lexAs
 word-list b s k e = rw (e, length-take-le k (b ∷ s) (rw e at (run-within (b ∷ s))))
@@ -150,17 +169,18 @@ slash-list : (b : ℕ) (s : List ℕ) (k : ℕ) → run s ≡ k → lexAs tokens
 unfolding lexAs
 slash-list b s k e = rw (e, length-take-le k s (rw e at (run-within s)))
 
-module _ {script : List ℕ} {start end : ℕ} (C : ClassAt script start tokens.nameByte) (e : end ≡ start + run (drop start script)) (h : end ≤ length script) where
+module _ {script : List ℕ} {start end : ℕ} (C : ClassAt script start tokens.nameByte)
+    (e : end ≡ start + run (drop start script)) (h : end ≤ length script) where
   first : drop start script ≡ getD script start 0 ∷ drop (suc start) script
   first = drop-cons script start 0 (C .inside)
 
   runs : run (drop start script) ≡ end - start
   runs = omega arith
 
-  word : lex (drop start script) ≡ (runToken (take (end - start) (drop start script)) >>= λ t. lexeme t (end - start))
+  word : lex (drop start script) ≡ (runToken (between script start end) >>= λ t. lexeme t (end - start))
   word = lex-as C ∙ word-list (getD script start 0) (drop (suc start) script) (end - start) (rw first at runs) ∙ rw first refl
 
-  length-word : length (take (end - start) (drop start script)) ≡ end - start
+  length-word : length (between script start end) ≡ end - start
   length-word = length-take-le (end - start) (drop start script) (rw (length-drop start script) (omega arith))
 
   some-word : start < end
@@ -169,25 +189,27 @@ module _ {script : List ℕ} {start end : ℕ} (C : ClassAt script start tokens.
       by : {k r : ℕ} → r ≡ suc k → r ≡ end - start → start < end
       by p q = omega arith
 
-  module _ (t : Bool) (is : t ≡ startsNumber (take (end - start) (drop start script))) where
-    pub word-integer : t ≡ true → {n : Number} {w : ℕ} → numberIs n ≡ number (take (end - start) (drop start script)) → n ≡ Word w → Lexes script start (tokens.integer w) end
+  module _ (t : Bool) (is : t ≡ startsNumber (between script start end)) where
+    pub word-integer : t ≡ true → {n : Number} {w : ℕ} → numberIs n ≡ number (between script start end)
+        → n ≡ Word w → Lexes script start (tokens.integer w) end
     unfolding _>>=_
     word-integer f {n} {w} g i = record {
-      lexes = word ∙ rw (run-number (take (end - start) (drop start script)) t is f w (sym g ∙ ap numberIs i)) refl;
+      lexes = word ∙ rw (run-number (between script start end) t is f w (sym g ∙ ap numberIs i)) refl;
       past = some-word;
       inside = h;
     }
 
-    pub word-fault : t ≡ true → {n : Number} {x : Error} → numberIs n ≡ number (take (end - start) (drop start script)) → n ≡ Fault x → lex (drop start script) ≡ fault x
+    pub word-fault : t ≡ true → {n : Number} {x : Error} → numberIs n ≡ number (between script start end)
+        → n ≡ Fault x → lex (drop start script) ≡ fault x
     unfolding _>>=_
-    word-fault f {n} {x} g i = word ∙ rw (run-fault (take (end - start) (drop start script)) t is f x (sym g ∙ ap numberIs i)) refl
+    word-fault f {n} {x} g i = word ∙ rw (run-fault (between script start end) t is f x (sym g ∙ ap numberIs i)) refl
 
     pub word-name : t ≡ false → end - start ≤ 31 → NameToken script start true 0 start (end - start) end
     unfolding _>>=_
     word-name f k =
         let l = some-word in
         record {
-          token = record { lexes = word ∙ rw (run-name (take (end - start) (drop start script)) t is f (rw length-word k)) refl; past = l; inside = h };
+          token = record { lexes = word ∙ rw (run-name (between script start end) t is f (rw length-word k)) refl; past = l; inside = h };
           begins = omega arith;
           ends = omega arith;
           some = omega arith;
@@ -196,11 +218,12 @@ module _ {script : List ℕ} {start end : ℕ} (C : ClassAt script start tokens.
 
     pub word-long : t ≡ false → 31 < end - start → lex (drop start script) ≡ fault LimitCheck
     unfolding _>>=_
-    word-long f k = word ∙ rw (run-long (take (end - start) (drop start script)) t is f (rw length-word k)) refl
+    word-long f k = word ∙ rw (run-long (between script start end) t is f (rw length-word k)) refl
 
 -- What follows a slash, up to its end.
-module _ {script : List ℕ} {start end : ℕ} (C : ClassAt script start tokens.slash) (e : end ≡ start + 1 + run (drop (start + 1) script)) (h : end ≤ length script) where
-  slash : lex (drop start script) ≡ (slashToken (take (end - (start + 1)) (drop (start + 1) script)) >>= λ t. lexeme t (end - start))
+module _ {script : List ℕ} {start end : ℕ} (C : ClassAt script start tokens.slash)
+    (e : end ≡ start + 1 + run (drop (start + 1) script)) (h : end ≤ length script) where
+  slash : lex (drop start script) ≡ (slashToken (between script (start + 1) end) >>= λ t. lexeme t (end - start))
   slash =
       let k : ℕ = end - (start + 1) in
       let r : run (drop (start + 1) script) ≡ k = omega arith in
@@ -210,27 +233,27 @@ module _ {script : List ℕ} {start end : ℕ} (C : ClassAt script start tokens.
       ∙ ap (λ (n : ℕ). slashToken (take k (drop n script)) >>= λ t. lexeme t (suc k)) (sym (add-one start))
       ∙ ap (λ (m : ℕ). slashToken (take k (drop (start + 1) script)) >>= λ t. lexeme t m) s
 
-  length-slash : length (take (end - (start + 1)) (drop (start + 1) script)) ≡ end - (start + 1)
+  length-slash : length (between script (start + 1) end) ≡ end - (start + 1)
   length-slash = length-take-le (end - (start + 1)) (drop (start + 1) script) (rw (length-drop (start + 1) script) (omega arith))
 
   pub literal-none : end - (start + 1) ≡ 0 → lex (drop start script) ≡ fault SyntaxError
   unfolding _>>=_
-  literal-none z = slash ∙ rw (slash-none (take (end - (start + 1)) (drop (start + 1) script)) (length-slash ∙ z)) refl
+  literal-none z = slash ∙ rw (slash-none (between script (start + 1) end) (length-slash ∙ z)) refl
 
-  module _ (t : Bool) (is : t ≡ startsNumber (take (end - (start + 1)) (drop (start + 1) script))) (z : end - (start + 1) ≡ 0 → ⊥) where
+  module _ (t : Bool) (is : t ≡ startsNumber (between script (start + 1) end)) (z : end - (start + 1) ≡ 0 → ⊥) where
     pub literal-number : t ≡ true → lex (drop start script) ≡ fault SyntaxError
     unfolding _>>=_
-    literal-number f = slash ∙ rw (slash-number (take (end - (start + 1)) (drop (start + 1) script)) t is (λ p. z (sym length-slash ∙ p)) f) refl
+    literal-number f = slash ∙ rw (slash-number (between script (start + 1) end) t is (λ p. z (sym length-slash ∙ p)) f) refl
 
     pub literal-long : t ≡ false → 31 < end - (start + 1) → lex (drop start script) ≡ fault LimitCheck
     unfolding _>>=_
-    literal-long f k = slash ∙ rw (slash-long (take (end - (start + 1)) (drop (start + 1) script)) t is (λ p. z (sym length-slash ∙ p)) f (rw length-slash k)) refl
+    literal-long f k = slash ∙ rw (slash-long (between script (start + 1) end) t is (λ p. z (sym length-slash ∙ p)) f (rw length-slash k)) refl
 
     pub literal-name : t ≡ false → end - (start + 1) ≤ 31 → NameToken script start false 1 (start + 1) (end - (start + 1)) end
     unfolding _>>=_
     literal-name f k = record {
       token = record {
-        lexes = slash ∙ rw (slash-name (take (end - (start + 1)) (drop (start + 1) script)) t is (λ p. z (sym length-slash ∙ p)) f (rw length-slash k)) refl;
+        lexes = slash ∙ rw (slash-name (between script (start + 1) end) t is (λ p. z (sym length-slash ∙ p)) f (rw length-slash k)) refl;
         past = omega arith;
         inside = h;
       };
@@ -243,7 +266,8 @@ module _ {script : List ℕ} {start end : ℕ} (C : ClassAt script start tokens.
 -- ---- strings
 
 module _ {script : List ℕ} {start : ℕ} (C : ClassAt script start tokens.quote) where
-  quote : lex (drop start script) ≡ (quoted tokens.nothing (drop (start + 1) script) >>= λ q. lexeme (tokens.string (q .contents)) (suc (q .taken)))
+  quote : lex (drop start script)
+      ≡ (quoted tokens.nothing (drop (start + 1) script) >>= λ q. lexeme (tokens.string (q .contents)) (suc (q .taken)))
   unfolding lexAs
   quote = lex-as C ∙ rw (add-one start) refl
 

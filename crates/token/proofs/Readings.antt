@@ -1,7 +1,6 @@
 -- The public reading: each answer of the code is the definition's, and the part lies inside the script.
 -- Assumes nothing.
 use mathlib.Core.Path.{_≡_, refl, sym, ap, subst, _∙_}
-use mathlib.Core.Bool.{true, false}
 use mathlib.Core.List.{List, []}
 use mathlib.Core.Logic.{_⊎_, inl, inr}
 use Prim.Native.Nat.{ℕ, _+_, _-_, _≤_, _<_}
@@ -9,7 +8,7 @@ use native.Mathlib.Nat.{add-sub-cancel-left}
 use native.Mathlib.Omega.{arith}
 use lib.ListN.{length, take, drop}
 use borrow.Author.Tests.{lt-ltb, le-ltb}
-use Rattle.semantics.specs.Values.{ok, fault}
+use Rattle.semantics.specs.Values.{fault}
 use Rattle.semantics.specs.Tokens.{lex, lexeme}
 use Rattle.semantics.specs.Tokens as tokens
 use Rattle.semantics.specs.Groups.{skip}
@@ -17,7 +16,7 @@ use Rattle.semantics.specs.Setup.{isTooLong, reading, readingOf}
 use Rattle.semantics.specs.Setup as setup
 use Rattle.semantics.specs.declared.Error.{Error}
 use Rattle.semantics.specs.declared.Kind.{Kind}
-use Rattle.token.specs.Lexing.{Lexes, StringToken, NameToken, BraceToken, EndToken, TokenAt, LexedAt, faultOf}
+use Rattle.token.specs.Lexing.{TokenAt, LexedAt, faultOf}
 use Rattle.token.specs.Reading.{LocatedAt, Within, Ordered, ownedBy, answer, locatedIs, partOf}
 use Rattle.token.specs.declared.Token.{Token}
 use Rattle.token.specs.declared.Token.the-variants.{Integer, String, ExecutableName, LiteralName, OpenBrace, CloseBrace, End}
@@ -62,9 +61,11 @@ module _ {script : List ℕ} {offset start : ℕ} (B : Begun script offset start
   unfolding reading isTooLong
   answers-fault g = rw (le-ltb 32768 (length script) (B .short), reading, le-ltb (length script) offset (B .known), sym (B .begins), g)
 
-  answers-token : (t : tokens.Token) (n : ℕ) → lex (drop start script) ≡ lexeme t n → readingOf start (record { token = t; size = n }) ≡ reading script offset
+  answers-token : (t : tokens.Token) (n : ℕ) → lex (drop start script) ≡ lexeme t n
+      → readingOf start (record { token = t; size = n }) ≡ reading script offset
   unfolding reading isTooLong lexeme
-  answers-token t n g = rw (B .begins, le-ltb 32768 (length script) (B .short), reading, le-ltb (length script) offset (B .known), rw (B .begins) at g)
+  answers-token t n g =
+      rw (B .begins, le-ltb 32768 (length script) (B .short), reading, le-ltb (length script) offset (B .known), rw (B .begins) at g)
 
   pub located-fault : {x v : Error} {l : Lexed} → LexedAt script start l → l ≡ lexed.Fault v → x ≡ faultOf l → LocatedAt script offset (Faulty x)
   located-fault {x} {v} {l} L e f =
@@ -121,7 +122,8 @@ module _ {script : List ℕ} {offset : ℕ} {r : Located} (L : LocatedAt script 
   pub part-inside : {k : Kind} {n start size : ℕ} → r ≡ At k n start size → start + size ≤ length script
   part-inside e = subst (Within (length script)) e (L .inside)
 
-  pub part-is : {k : Kind} {n start size : ℕ} → r ≡ At k n start size → take (start + size - start) (drop start script) ≡ partOf script (reading script offset)
+  pub part-is : {k : Kind} {n start size : ℕ} → r ≡ At k n start size
+      → take (start + size - start) (drop start script) ≡ partOf script (reading script offset)
   part-is {k} {n} {start} {size} e = rw (add-sub-cancel-left start size) (ap (partOf script) (ap locatedIs (sym e) ∙ L .is))
 
 -- Where there is no token there is no part: the other answers have the tags 0, 1 and 2.

@@ -9,8 +9,6 @@ use Rattle.semantics.specs.Words.{word}
 use Rattle.semantics.specs.Values.{Result, ok, fault, _>>=_}
 use Rattle.semantics.specs.Tokens.{digits, upTo}
 use Rattle.semantics.specs.Tokens as tokens
-use Rattle.semantics.specs.declared.Error.{Error}
-use Rattle.semantics.specs.declared.Error.the-variants.{SyntaxError}
 use Rattle.token.specs.declared.numbers.Form.{Form}
 use Rattle.token.specs.declared.numbers.Form.the-variants.{Negative, Hexadecimal, Plain}
 use Rattle.token.specs.declared.numbers.Number.{Number}
@@ -24,10 +22,6 @@ formIs Plain = tokens.plain
 abbrev pub numberIs : Number → Result ℕ
 numberIs (Word w) = ok w
 numberIs (Fault e) = fault e
-
-abbrev pub numberFault : Number → Error
-numberFault (Word w) = SyntaxError
-numberFault (Fault e) = e
 
 -- A number over the limit stays as it is.
 unfoldable pub withDigit : ℕ → ℕ → ℕ → ℕ → ℕ

@@ -58,10 +58,10 @@ abbrev pub JudgedAt : List ℕ → ℕ → Judged → Type 0
 JudgedAt script at (judged.Closed size next) = (bs : List ℕ) × StringAt script at bs next × (length bs ≡ size)
 JudgedAt script at judged.Bad = quoted tokens.nothing (drop at script) ≡ fault SyntaxError
 
--- Of the bytes `bs` of a string: the first, with the rest at the offset after it; or there are none.
-abbrev pub Gives : List ℕ → List ℕ → ℕ → Unescaped → Type 0
-Gives script bs next (unescaped.Byte b at) = (rest : List ℕ) × (bs ≡ b ∷ rest) × StringAt script at rest next
-Gives script bs next unescaped.Closed = bs ≡ []
+-- Of the bytes `bs` of the string at `at`, whose end is at `last`: the first, with the rest at an offset further on; or there are none.
+abbrev pub Gives : List ℕ → ℕ → List ℕ → ℕ → Unescaped → Type 0
+Gives script at bs last (unescaped.Byte b next) = (rest : List ℕ) × (bs ≡ b ∷ rest) × StringAt script next rest last × (at < next)
+Gives script at bs last unescaped.Closed = bs ≡ []
 
 abbrev pub Unescapes : List ℕ → ℕ → Unescaped → Type 0
-Unescapes script at r = (bs : List ℕ) (next : ℕ) → StringAt script at bs next → Gives script bs next r
+Unescapes script at r = (bs : List ℕ) (last : ℕ) → StringAt script at bs last → Gives script at bs last r

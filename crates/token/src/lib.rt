@@ -1,6 +1,6 @@
 // The reading of one token of a script, where it stands: space and comment, names, numbers, strings and braces. `token_at` answers as
-// the definition's `lex` does, and the public reading, `read` and `part`, as its `reading`, on every script and at every offset. No byte is copied:
-// an answer says where a token's bytes are, and `unescape` gives a string's bytes one by one.
+// the definition's `lex` does, and the public reading, `read` and `part`, as its `reading`, on every script and at every offset. No byte is
+// copied: an answer says where a token's bytes are, and `unescape` gives a string's bytes one by one.
 ghost use mathlib.Core.Path.{_≡_};
 ghost use Prim.Native.Nat.{_≤_};
 ghost use lib.ListN.{length};
@@ -20,7 +20,6 @@ use bytes::blank_end;
 use bytes::class_of;
 use bytes::run_end;
 use numbers::Number;
-use numbers::number_fault;
 use numbers::number_of;
 use numbers::starts_number;
 use strings::Judged;
@@ -28,9 +27,10 @@ pub use strings::Unescaped;
 use strings::judge;
 pub use strings::unescape;
 
-// Names have at most so many bytes, and a script.
+// The most bytes of a name.
 const NAME_BYTES: usize = 31;
 
+// The most bytes of a script.
 const SCRIPT_BYTES: usize = 32768;
 
 // A token of a script: an integer by its 32 bits, a string by where its bytes begin and how many it will hold, a name by where its bytes
@@ -60,7 +60,7 @@ pub enum Reading {
 }
 
 // The same with where the token's own bytes begin and how many they are.
-pub enum Located {
+enum Located {
     TooLong,
     PastEnd,
     Faulty(Error),
@@ -122,7 +122,8 @@ pub fn token_at(script: &[u8], start: usize) -> Lexed
     }
 }
 
-// The fault of an answer that has one.
+// The fault of an answer that has one, for the branch of a `let .. else` that returns with its name.
+// Ruled out: to call every fault a syntaxerror; to give another fault than the one that the reading met.
 pub fn fault_of(lexed: Lexed) -> Error
     ensures { λ r. ⌜ r ≡ faultOf lexed ⌝ }
 {
@@ -140,11 +141,10 @@ fn word_at(script: &[u8], start: usize) -> Lexed
     let end = run_end(script, start);
     let run = &script[start..end];
     if starts_number(run) {
-        let n = number_of(run);
-        let Number::Word(w) = n else {
-            return Lexed::Fault(number_fault(n));
+        return match number_of(run) {
+            Number::Word(w) => Lexed::Token(Token::Integer(w), end),
+            Number::Fault(e) => Lexed::Fault(e),
         };
-        return Lexed::Token(Token::Integer(w), end);
     }
     let size = end - start;
     if NAME_BYTES < size {

@@ -3,7 +3,7 @@ ghost use mathlib.Core.Path.{_≡_};
 ghost use Prim.Native.Nat.{_≤_, _<_, _^_};
 ghost use lib.ListN.{drop};
 ghost use Rattle.semantics.specs.Tokens as tokens;
-ghost use Rattle.token.specs.Numbers.{formIs, numberIs, numberFault, withDigit, numeral, negation};
+ghost use Rattle.token.specs.Numbers.{formIs, numberIs, withDigit, numeral, negation};
 use crate::bytes::is_digit;
 use crate::bytes::within;
 use semantics::Error;
@@ -134,16 +134,7 @@ fn negated(n: Number) -> Number
     }
 }
 
-// The fault of a number that has one.
-pub fn number_fault(n: Number) -> Error
-    ensures { λ r. ⌜ r ≡ numberFault n ⌝ }
-{
-    match n {
-        Number::Word(_) => Error::SyntaxError,
-        Number::Fault(e) => e,
-    }
-}
-
+// The 32 bits of a run that starts as a number does, or its fault.
 pub fn number_of(s: &[u8]) -> Number
     ensures { λ r. ⌜ numberIs r ≡ tokens.number (now (s .entry)) ⌝ }
 {

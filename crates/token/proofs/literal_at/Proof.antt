@@ -15,7 +15,9 @@ sub-size : tie.Need-sub-size
 sub-size c = search needs
 
 returns : tie.Need-returns
-returns c = literal-none (c .before .before .before .pre) (c .before .run-end .ensures .0) (c .before .run-end .ensures .1) (c .if1 .taken)
+returns c =
+    let pre = c .before .before .before .pre in
+    literal-none pre (c .before .run-end .ensures .0) (c .before .run-end .ensures .1) (c .if1 .taken)
 
 sub-starts-number : tie.Need-sub-starts-number
 sub-starts-number c = search needs
@@ -27,16 +29,30 @@ part-starts-number-end : tie.Need-part-starts-number-end
 part-starts-number-end c = c .before .run-end .ensures .1
 
 starts-number-requires : tie.Need-starts-number-requires
-starts-number-requires c κs = search needs
+starts-number-requires c κs = tt
 
 returns-2 : tie.Need-returns-2
-returns-2 c = literal-number (c .before .before .before .before .before .before .pre) (c .before .before .before .before .run-end .ensures .0) (c .before .before .before .before .run-end .ensures .1) _ (c .before .starts-number .ensures) (c .before .before .before .if1 .left) (c .if2 .taken)
+returns-2 c =
+    let pre = c .before .before .before .before .before .before .pre in
+    let run-end = c .before .before .before .before .run-end in
+    let if1 = c .before .before .before .if1 in
+    literal-number pre (run-end .ensures .0) (run-end .ensures .1) _ (c .before .starts-number .ensures) (if1 .left) (c .if2 .taken)
 
 returns-3 : tie.Need-returns-3
-returns-3 c = literal-long (c .before .before .before .before .before .before .before .pre) (c .before .before .before .before .before .run-end .ensures .0) (c .before .before .before .before .before .run-end .ensures .1) _ (c .before .before .starts-number .ensures) (c .before .before .before .before .if1 .left) (c .before .if2 .left) (c .if3 .taken)
+returns-3 c =
+    let pre = c .before .before .before .before .before .before .before .pre in
+    let run-end = c .before .before .before .before .before .run-end in
+    let starts-number = c .before .before .starts-number in
+    let if1 = c .before .before .before .before .if1 in
+    literal-long pre (run-end .ensures .0) (run-end .ensures .1) _ (starts-number .ensures) (if1 .left) (c .before .if2 .left) (c .if3 .taken)
 
 returns-4 : tie.Need-returns-4
-returns-4 c = literal-name (c .before .before .before .before .before .before .before .pre) (c .before .before .before .before .before .run-end .ensures .0) (c .before .before .before .before .before .run-end .ensures .1) _ (c .before .before .starts-number .ensures) (c .before .before .before .before .if1 .left) (c .before .if2 .left) (c .if3 .left)
+returns-4 c =
+    let pre = c .before .before .before .before .before .before .before .pre in
+    let run-end = c .before .before .before .before .before .run-end in
+    let starts-number = c .before .before .starts-number in
+    let if1 = c .before .before .before .before .if1 in
+    literal-name pre (run-end .ensures .0) (run-end .ensures .1) _ (starts-number .ensures) (if1 .left) (c .before .if2 .left) (c .if3 .left)
 
 pub literal-at-spec : {M : Type 1} → statement M
 literal-at-spec =

@@ -20,29 +20,45 @@ token-at-requires : tie.Need-token-at-requires
 token-at-requires c κs = c .skip .ensures .1
 
 enum-known-lexed : tie.Need-enum-known-lexed
-enum-known-lexed c = search needs
+enum-known-lexed c = c .match .keys1
 
 enum-told : tie.Need-enum-told
-enum-told c = search needs
+enum-told c = c .match .keys2
 
 fault-of-requires : tie.Need-fault-of-requires
-fault-of-requires c κs = search needs
+fault-of-requires c κs = tt
 
 returns-3 : tie.Need-returns-3
-returns-3 c = located-fault (record { short = c .before .before .before .before .before .before .if1 .left; known = c .before .before .before .before .before .if2 .left; begins = c .before .before .before .before .skip .ensures .0 }) (c .before .before .before .token-at .ensures) (c .before .enum-told .given .1) (c .fault-of .ensures)
+returns-3 c =
+    let if1 = c .before .before .before .before .before .before .if1 in
+    let if2 = c .before .before .before .before .before .if2 in
+    let skip = c .before .before .before .before .skip in
+    let token-at = c .before .before .before .token-at in
+    located-fault (record { short = if1 .left; known = if2 .left; begins = skip .ensures .0 })
+    (token-at .ensures) (c .before .enum-told .given .1) (c .fault-of .ensures)
 
 own-part-requires : tie.Need-own-part-requires
 own-part-requires c κs =
-    let script = c .before .before .before .before .before .before .before .before .args .script .now in
-    let start = c .before .before .before .before .skip .result in
-    ordered script start (c .before .lexed .given .0 .1 .0) (c .before .lexed .given .0 .0) (subst (LexedAt script start) (c .before .lexed .given .1) (c .before .before .before .token-at .ensures))
+    let args = c .before .before .before .before .before .before .before .before .args in
+    let skip = c .before .before .before .before .skip in
+    let token-at = c .before .before .before .token-at in
+    let script = args .script .now in
+    let start = skip .result in
+    ordered script start (c .before .lexed .given .0 .1 .0) (c .before .lexed .given .0 .0)
+    (subst (LexedAt script start) (c .before .lexed .given .1) (token-at .ensures))
 
 returns-4 : tie.Need-returns-4
 returns-4 c =
-    let script = c .before .before .before .before .before .before .before .before .before .args .script .now in
-    let start = c .before .before .before .before .before .skip .result in
-    located-token (record { short = c .before .before .before .before .before .before .before .if1 .left; known = c .before .before .before .before .before .before .if2 .left; begins = c .before .before .before .before .before .skip .ensures .0 }) (c .before .before .lexed .given .0 .1 .0) (c .before .before .lexed .given .0 .0) _
-    (subst (LexedAt script start) (c .before .before .lexed .given .1) (c .before .before .before .before .token-at .ensures)) (c .own-part .ensures)
+    let args = c .before .before .before .before .before .before .before .before .before .args in
+    let skip = c .before .before .before .before .before .skip in
+    let if1 = c .before .before .before .before .before .before .before .if1 in
+    let if2 = c .before .before .before .before .before .before .if2 in
+    let lexed = c .before .before .lexed in
+    let token-at = c .before .before .before .before .token-at in
+    let script = args .script .now in
+    let start = skip .result in
+    located-token (record { short = if1 .left; known = if2 .left; begins = skip .ensures .0 }) (lexed .given .0 .1 .0) (lexed .given .0 .0) _
+    (subst (LexedAt script start) (lexed .given .1) (token-at .ensures)) (c .own-part .ensures)
 
 pub locate-spec : {M : Type 1} → statement M
 locate-spec =

@@ -1,42 +1,49 @@
 -- `token::own_part` meets its contract: each arm is the definition at its constructor.
 -- Assumes nothing.
 use mathlib.Core.Path.{subst}
-use Prim.Native.Nat.{_≤_, _<_}
 use Rattle.token.specs.Reading.{Ordered}
 use native.Mathlib.Omega.{arith}
-use borrow.Author.Needs.{needs}
 use Rattle.token.proofs.own_part.Statement.{statement}
 use Rattle.token.proofs.own_part.Tie as tie
 
 enum-told : tie.Need-enum-told
-enum-told c = search needs
+enum-told c = c .match .keys1
 
 sub-t11 : tie.Need-sub-t11
-sub-t11 c = subst (Ordered (c .before .before .args .start) (c .before .before .args .next)) (c .enum-told .given .1) (c .before .before .pre)
+sub-t11 c =
+    let args = c .before .before .args in
+    let pre = c .before .before .pre in
+    subst (Ordered (args .start) (args .next)) (c .enum-told .given .1) pre
 
 enum-known-token : tie.Need-enum-known-token
-enum-known-token c = search needs
+enum-known-token c = c .match .keys2
 
 sub-t13 : tie.Need-sub-t13
-sub-t13 c = omega (arith, subst (Ordered (c .before .before .before .args .start) (c .before .before .before .args .next)) (c .before .token .given .1) (c .before .before .before .pre))
+sub-t13 c =
+    let args = c .before .before .before .args in
+    let pre = c .before .before .before .pre in
+    omega (arith, subst (Ordered (args .start) (args .next)) (c .before .token .given .1) pre)
 
 sub-t14 : tie.Need-sub-t14
-sub-t14 c = omega (arith, subst (Ordered (c .before .before .before .args .start) (c .before .before .before .args .next)) (c .before .token .given .1) (c .before .before .before .pre))
+sub-t14 c =
+    let args = c .before .before .before .args in
+    let pre = c .before .before .before .pre in
+    omega (arith, subst (Ordered (args .start) (args .next)) (c .before .token .given .1) pre)
 
 enum-known-token-2 : tie.Need-enum-known-token-2
-enum-known-token-2 c = search needs
+enum-known-token-2 c = c .match .keys3
 
 enum-known-token-3 : tie.Need-enum-known-token-3
-enum-known-token-3 c = search needs
+enum-known-token-3 c = c .match .keys4
 
 enum-told-2 : tie.Need-enum-told-2
-enum-told-2 c = search needs
+enum-told-2 c = c .match .keys5
 
 enum-told-3 : tie.Need-enum-told-3
-enum-told-3 c = search needs
+enum-told-3 c = c .match .keys6
 
 enum-told-4 : tie.Need-enum-told-4
-enum-told-4 c = search needs
+enum-told-4 c = c .match .keys7
 
 returns : tie.Need-returns
 returns c = rw (c .enum-told .given .1)

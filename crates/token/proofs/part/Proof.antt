@@ -10,10 +10,10 @@ use Rattle.token.proofs.part.Statement.{statement}
 use Rattle.token.proofs.part.Tie as tie
 
 locate-requires : tie.Need-locate-requires
-locate-requires c κs = search needs
+locate-requires c κs = tt
 
 enum-known-located : tie.Need-enum-known-located
-enum-known-located c = search needs
+enum-known-located c = c .match .keys1
 
 sub-result : tie.Need-sub-result
 sub-result c = search needs
@@ -25,10 +25,14 @@ part-result-end : tie.Need-part-result-end
 part-result-end c = search needs
 
 returns : tie.Need-returns
-returns c = part-none _ _ (tagOf the-type) (λ k n s z. refl) _ (c .before .before .locate .ensures) (c .before .match .keys2)
+returns c =
+    let locate = c .before .before .locate in
+    part-none _ _ (tagOf the-type) (λ k n s z. refl) _ (locate .ensures) (c .before .match .keys2)
 
 add-result : tie.Need-add-result
-add-result c = omega (arith, part-inside (c .before .before .before .locate .ensures) (c .before .located .given .1))
+add-result c =
+    let locate = c .before .before .before .locate in
+    omega (arith, part-inside (locate .ensures) (c .before .located .given .1))
 
 sub-result-2 : tie.Need-sub-result-2
 sub-result-2 c = search needs
@@ -37,10 +41,15 @@ part-result-start-2 : tie.Need-part-result-start-2
 part-result-start-2 c = search needs
 
 part-result-end-2 : tie.Need-part-result-end-2
-part-result-end-2 c = part-inside (c .before .before .before .locate .ensures) (c .before .located .given .1)
+part-result-end-2 c =
+    let locate = c .before .before .before .locate in
+    part-inside (locate .ensures) (c .before .located .given .1)
 
 returns-2 : tie.Need-returns-2
-returns-2 c = part-is (c .before .before .before .before .locate .ensures) (c .before .before .located .given .1)
+returns-2 c =
+    let locate = c .before .before .before .before .locate in
+    let located = c .before .before .located in
+    part-is (locate .ensures) (located .given .1)
 
 pub part-spec : {M : Type 1} → statement M
 part-spec =

@@ -1,36 +1,43 @@
 -- `token::read` meets its contract: each case of the whole reading is the public answer without the part.
 -- Assumes nothing.
 use Rattle.token.proofs.Readings.{told}
-use borrow.Author.Needs.{needs}
 use Rattle.token.proofs.read.Statement.{statement}
 use Rattle.token.proofs.read.Tie as tie
 
 locate-requires : tie.Need-locate-requires
-locate-requires c κs = search needs
+locate-requires c κs = tt
 
 enum-told : tie.Need-enum-told
-enum-told c = search needs
+enum-told c = c .match .keys1
 
 enum-told-2 : tie.Need-enum-told-2
-enum-told-2 c = search needs
+enum-told-2 c = c .match .keys2
 
 enum-known-e : tie.Need-enum-known-e
-enum-known-e c = search needs
+enum-known-e c = c .match .keys3
 
 enum-known-kind : tie.Need-enum-known-kind
-enum-known-kind c = search needs
+enum-known-kind c = c .match .keys4
 
 returns : tie.Need-returns
-returns c = told (c .before .before .locate .ensures) _ (c .enum-told .given .1)
+returns c =
+    let locate = c .before .before .locate in
+    told (locate .ensures) _ (c .enum-told .given .1)
 
 returns-2 : tie.Need-returns-2
-returns-2 c = told (c .before .before .locate .ensures) _ (c .enum-told2 .given .1)
+returns-2 c =
+    let locate = c .before .before .locate in
+    told (locate .ensures) _ (c .enum-told2 .given .1)
 
 returns-3 : tie.Need-returns-3
-returns-3 c = told (c .before .before .before .locate .ensures) _ (c .before .e .given .1)
+returns-3 c =
+    let locate = c .before .before .before .locate in
+    told (locate .ensures) _ (c .before .e .given .1)
 
 returns-4 : tie.Need-returns-4
-returns-4 c = told (c .before .before .before .locate .ensures) _ (c .before .kind .given .1)
+returns-4 c =
+    let locate = c .before .before .before .locate in
+    told (locate .ensures) _ (c .before .kind .given .1)
 
 pub read-spec : {M : Type 1} → statement M
 read-spec =

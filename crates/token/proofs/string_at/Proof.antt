@@ -12,16 +12,22 @@ judge-requires : tie.Need-judge-requires
 judge-requires c κs = search needs
 
 enum-known-judged : tie.Need-enum-known-judged
-enum-known-judged c = search needs
+enum-known-judged c = c .match .keys1
 
 enum-told : tie.Need-enum-told
-enum-told c = search needs
+enum-told c = c .match .keys2
 
 returns : tie.Need-returns
-returns c = string-fault (c .before .before .before .before .pre) (c .before .before .judge .ensures) (c .enum-told .given .1)
+returns c =
+    let pre = c .before .before .before .before .pre in
+    let judge = c .before .before .judge in
+    string-fault pre (judge .ensures) (c .enum-told .given .1)
 
 returns-2 : tie.Need-returns-2
-returns-2 c = string-token (c .before .before .before .before .before .pre) (c .before .before .before .judge .ensures) (c .before .judged .given .1)
+returns-2 c =
+    let pre = c .before .before .before .before .before .pre in
+    let judge = c .before .before .before .judge in
+    string-token pre (judge .ensures) (c .before .judged .given .1)
 
 pub string-at-spec : {M : Type 1} → statement M
 string-at-spec =

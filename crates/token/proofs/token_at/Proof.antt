@@ -1,71 +1,89 @@
 -- `token::token_at` meets its contract: the class of the first byte is the definition's, and each class has its own reading.
 -- Assumes nothing.
-use mathlib.Core.Path.{sym, ap, _∙_}
-use Rattle.token.specs.Bytes.{classIs}
-use Rattle.token.proofs.Lexemes.{end-token, other-fault, bracket-token, open-token, close-token}
+use Rattle.token.proofs.Lexemes.{of-class, end-token, other-fault, bracket-token, open-token, close-token}
 use borrow.Author.Needs.{needs}
 use Rattle.token.proofs.token_at.Statement.{statement}
 use Rattle.token.proofs.token_at.Tie as tie
 
 returns : tie.Need-returns
-returns c = end-token (c .before .before .pre) (c .if1 .taken)
+returns c =
+    let pre = c .before .before .pre in
+    end-token pre (c .if1 .taken)
 
 shared-slice-read-class-of : tie.Need-shared-slice-read-class-of
 shared-slice-read-class-of c = search needs
 
 class-of-requires : tie.Need-class-of-requires
-class-of-requires c κs = search needs
+class-of-requires c κs = tt
 
 enum-told : tie.Need-enum-told
-enum-told c = search needs
+enum-told c = c .match .keys1
 
 word-at-requires : tie.Need-word-at-requires
-word-at-requires c κs = record { inside = c .before .before .before .before .if1 .left; is = sym (c .before .before .class-of .ensures) ∙ ap classIs (c .enum-told .given .1) }
+word-at-requires c κs =
+    let if1 = c .before .before .before .before .if1 in
+    let class-of = c .before .before .class-of in
+    of-class (if1 .left) (class-of .ensures) _ (c .enum-told .given .1)
 
 enum-told-2 : tie.Need-enum-told-2
-enum-told-2 c = search needs
+enum-told-2 c = c .match .keys2
 
 add-t11 : tie.Need-add-t11
 add-t11 c = search needs
 
 enum-told-3 : tie.Need-enum-told-3
-enum-told-3 c = search needs
+enum-told-3 c = c .match .keys3
 
 add-t13 : tie.Need-add-t13
 add-t13 c = search needs
 
 enum-told-4 : tie.Need-enum-told-4
-enum-told-4 c = search needs
+enum-told-4 c = c .match .keys4
 
 add-t15 : tie.Need-add-t15
 add-t15 c = search needs
 
 enum-told-5 : tie.Need-enum-told-5
-enum-told-5 c = search needs
+enum-told-5 c = c .match .keys5
 
 string-at-requires : tie.Need-string-at-requires
-string-at-requires c κs = record { inside = c .before .before .before .before .if1 .left; is = sym (c .before .before .class-of .ensures) ∙ ap classIs (c .enum-told5 .given .1) }
+string-at-requires c κs =
+    let if1 = c .before .before .before .before .if1 in
+    let class-of = c .before .before .class-of in
+    of-class (if1 .left) (class-of .ensures) _ (c .enum-told5 .given .1)
 
 enum-told-6 : tie.Need-enum-told-6
-enum-told-6 c = search needs
+enum-told-6 c = c .match .keys6
 
 literal-at-requires : tie.Need-literal-at-requires
-literal-at-requires c κs = record { inside = c .before .before .before .before .if1 .left; is = sym (c .before .before .class-of .ensures) ∙ ap classIs (c .enum-told6 .given .1) }
+literal-at-requires c κs =
+    let if1 = c .before .before .before .before .if1 in
+    let class-of = c .before .before .class-of in
+    of-class (if1 .left) (class-of .ensures) _ (c .enum-told6 .given .1)
 
 enum-told-7 : tie.Need-enum-told-7
-enum-told-7 c = search needs
+enum-told-7 c = c .match .keys7
 
 returns-2 : tie.Need-returns-2
 returns-2 c = c .word-at .ensures
 
 returns-3 : tie.Need-returns-3
-returns-3 c = bracket-token (record { inside = c .before .before .before .before .if1 .left; is = sym (c .before .before .class-of .ensures) ∙ ap classIs (c .enum-told2 .given .1) })
+returns-3 c =
+    let if1 = c .before .before .before .before .if1 in
+    let class-of = c .before .before .class-of in
+    bracket-token (of-class (if1 .left) (class-of .ensures) _ (c .enum-told2 .given .1))
 
 returns-4 : tie.Need-returns-4
-returns-4 c = open-token (record { inside = c .before .before .before .before .if1 .left; is = sym (c .before .before .class-of .ensures) ∙ ap classIs (c .enum-told3 .given .1) })
+returns-4 c =
+    let if1 = c .before .before .before .before .if1 in
+    let class-of = c .before .before .class-of in
+    open-token (of-class (if1 .left) (class-of .ensures) _ (c .enum-told3 .given .1))
 
 returns-5 : tie.Need-returns-5
-returns-5 c = close-token (record { inside = c .before .before .before .before .if1 .left; is = sym (c .before .before .class-of .ensures) ∙ ap classIs (c .enum-told4 .given .1) })
+returns-5 c =
+    let if1 = c .before .before .before .before .if1 in
+    let class-of = c .before .before .class-of in
+    close-token (of-class (if1 .left) (class-of .ensures) _ (c .enum-told4 .given .1))
 
 returns-6 : tie.Need-returns-6
 returns-6 c = c .string-at .ensures
@@ -74,7 +92,10 @@ returns-7 : tie.Need-returns-7
 returns-7 c = c .literal-at .ensures
 
 returns-8 : tie.Need-returns-8
-returns-8 c = other-fault (record { inside = c .before .before .before .before .if1 .left; is = sym (c .before .before .class-of .ensures) ∙ ap classIs (c .enum-told7 .given .1) })
+returns-8 c =
+    let if1 = c .before .before .before .before .if1 in
+    let class-of = c .before .before .class-of in
+    other-fault (of-class (if1 .left) (class-of .ensures) _ (c .enum-told7 .given .1))
 
 pub token-at-spec : {M : Type 1} → statement M
 token-at-spec =

@@ -1,8 +1,5 @@
 -- `token::word_at` meets its contract: the run of name bytes is a number where it begins as one, and a name where it is short enough.
 -- Assumes nothing.
-use mathlib.Core.Path.{sym, ap, _∙_}
-use Rattle.semantics.specs.Values.{fault}
-use Rattle.token.specs.Numbers.{numberFault}
 use Rattle.token.proofs.Lexemes.{word-integer, word-fault, word-name, word-long}
 use borrow.Author.Needs.{needs}
 use Rattle.token.proofs.word_at.Statement.{statement}
@@ -21,36 +18,53 @@ part-run-end : tie.Need-part-run-end
 part-run-end c = c .run-end .ensures .1
 
 starts-number-requires : tie.Need-starts-number-requires
-starts-number-requires c κs = search needs
+starts-number-requires c κs = tt
 
 number-of-requires : tie.Need-number-of-requires
-number-of-requires c κs = search needs
+number-of-requires c κs = tt
 
-enum-known-n : tie.Need-enum-known-n
-enum-known-n c = search needs
+enum-known-w : tie.Need-enum-known-w
+enum-known-w c = c .match .keys1
 
-enum-told : tie.Need-enum-told
-enum-told c = search needs
-
-number-fault-requires : tie.Need-number-fault-requires
-number-fault-requires c κs = search needs
+enum-known-e : tie.Need-enum-known-e
+enum-known-e c = c .match .keys2
 
 returns : tie.Need-returns
 returns c =
-    word-fault (c .before .before .before .before .before .before .before .before .before .pre) (c .before .before .before .before .before .before .before .run-end .ensures .0) (c .before .before .before .before .before .before .before .run-end .ensures .1) _ (c .before .before .before .before .before .starts-number .ensures) (c .before .before .before .before .if1 .taken) (c .before .before .before .number-of .ensures) (c .before .enum-told .given .1)
-    ∙ ap fault (sym (c .number-fault .ensures ∙ ap numberFault (c .before .enum-told .given .1)))
+    let pre = c .before .before .before .before .before .before .before .before .before .pre in
+    let run-end = c .before .before .before .before .before .before .before .run-end in
+    let starts-number = c .before .before .before .before .before .starts-number in
+    let if1 = c .before .before .before .before .if1 in
+    let number-of = c .before .before .before .number-of in
+    word-integer pre (run-end .ensures .0) (run-end .ensures .1) _ (starts-number .ensures) (if1 .taken)
+    (number-of .ensures) (c .before .w .given .1)
 
 returns-2 : tie.Need-returns-2
-returns-2 c = word-integer (c .before .before .before .before .before .before .before .before .before .pre) (c .before .before .before .before .before .before .before .run-end .ensures .0) (c .before .before .before .before .before .before .before .run-end .ensures .1) _ (c .before .before .before .before .before .starts-number .ensures) (c .before .before .before .before .if1 .taken) (c .before .before .before .number-of .ensures) (c .before .n .given .1)
+returns-2 c =
+    let pre = c .before .before .before .before .before .before .before .before .before .pre in
+    let run-end = c .before .before .before .before .before .before .before .run-end in
+    let starts-number = c .before .before .before .before .before .starts-number in
+    let if1 = c .before .before .before .before .if1 in
+    let number-of = c .before .before .before .number-of in
+    word-fault pre (run-end .ensures .0) (run-end .ensures .1) _ (starts-number .ensures) (if1 .taken)
+    (number-of .ensures) (c .before .e .given .1)
 
 sub-size : tie.Need-sub-size
 sub-size c = search needs
 
 returns-3 : tie.Need-returns-3
-returns-3 c = word-long (c .before .before .before .before .before .before .pre) (c .before .before .before .before .run-end .ensures .0) (c .before .before .before .before .run-end .ensures .1) _ (c .before .before .starts-number .ensures) (c .before .if1 .left) (c .if2 .taken)
+returns-3 c =
+    let pre = c .before .before .before .before .before .before .pre in
+    let run-end = c .before .before .before .before .run-end in
+    let starts-number = c .before .before .starts-number in
+    word-long pre (run-end .ensures .0) (run-end .ensures .1) _ (starts-number .ensures) (c .before .if1 .left) (c .if2 .taken)
 
 returns-4 : tie.Need-returns-4
-returns-4 c = word-name (c .before .before .before .before .before .before .pre) (c .before .before .before .before .run-end .ensures .0) (c .before .before .before .before .run-end .ensures .1) _ (c .before .before .starts-number .ensures) (c .before .if1 .left) (c .if2 .left)
+returns-4 c =
+    let pre = c .before .before .before .before .before .before .pre in
+    let run-end = c .before .before .before .before .run-end in
+    let starts-number = c .before .before .starts-number in
+    word-name pre (run-end .ensures .0) (run-end .ensures .1) _ (starts-number .ensures) (c .before .if1 .left) (c .if2 .left)
 
 pub word-at-spec : {M : Type 1} → statement M
 word-at-spec =
@@ -62,9 +76,8 @@ word-at-spec =
     part-run-end
     starts-number-requires
     number-of-requires
-    enum-known-n
-    enum-told
-    number-fault-requires
+    enum-known-w
+    enum-known-e
     returns
     returns-2
     sub-size

@@ -24,13 +24,17 @@ shared-slice-read-b : tie.Need-shared-slice-read-b Inv-loop μ-loop
 shared-slice-read-b c = search needs
 
 is-blank-requires : tie.Need-is-blank-requires Inv-loop μ-loop
-is-blank-requires c κs = search needs
+is-blank-requires c κs = tt
 
 returns : tie.Need-returns Inv-loop μ-loop
-returns c = (stops _ _ _ (blanksIn (c .before .before .before .before .loop .comment)) (c .before .before .before .before .loop .inv .1) (c .before .before .before .loop-test .taken) (blank-stop _ _ (sym (c .before .is-blank .ensures) ∙ not-true _ (c .if1 .taken))), omega arith)
+returns c =
+    let loop = c .before .before .before .before .loop in
+    let loop-test = c .before .before .before .loop-test in
+    let stop = blank-stop _ _ (sym (c .before .is-blank .ensures) ∙ not-true _ (c .if1 .taken)) in
+    (stops _ _ _ (blanksIn (loop .comment)) (loop .inv .1) (loop-test .taken) stop, omega arith)
 
 comment-after-requires : tie.Need-comment-after-requires Inv-loop μ-loop
-comment-after-requires c κs = search needs
+comment-after-requires c κs = tt
 
 add-i : tie.Need-add-i Inv-loop μ-loop
 add-i c = omega arith
@@ -40,8 +44,14 @@ loop-less c = omega arith
 
 loop-again : tie.Need-loop-again Inv-loop μ-loop
 loop-again c =
-    let go = blank-go _ _ (sym (c .before .before .is-blank .ensures) ∙ not-false _ (c .before .if1 .left)) in
-    (omega arith, rw (c .comment-after .ensures) (goes-on _ _ _ (blanksIn (c .before .before .before .before .before .loop .comment)) (c .before .before .before .before .before .loop .inv .1) (blanksIn (commentAfter (c .before .before .before .before .before .loop .comment) _)) (c .before .before .before .before .loop-test .taken) go))
+    let is-blank = c .before .before .is-blank in
+    let loop = c .before .before .before .before .before .loop in
+    let loop-test = c .before .before .before .before .loop-test in (
+      omega arith,
+      let go = blank-go _ _ (sym (is-blank .ensures) ∙ not-false _ (c .before .if1 .left)) in
+          let more = blanksIn (commentAfter (loop .comment) _) in
+          rw (c .comment-after .ensures) (goes-on _ _ _ (blanksIn (loop .comment)) (loop .inv .1) more (loop-test .taken) go),
+    )
 
 returns-2 : tie.Need-returns-2 Inv-loop μ-loop
 returns-2 c = (ends _ _ _ (blanksIn (c .before .loop .comment)) (c .before .loop .inv .1) (c .loop-test .left) (blank-none _), omega arith)

@@ -3,12 +3,11 @@
 use mathlib.Core.Path.{refl}
 use Rattle.semantics.specs.Tokens.{classOf}
 use Rattle.token.proofs.Classes.{class-name, class-bracket, class-at, class-other}
-use borrow.Author.Needs.{needs}
 use Rattle.token.proofs.bytes.class_of.Statement.{statement}
 use Rattle.token.proofs.bytes.class_of.Tie as tie
 
 is-name-byte-requires : tie.Need-is-name-byte-requires
-is-name-byte-requires c κs = search needs
+is-name-byte-requires c κs = tt
 
 returns : tie.Need-returns
 returns c = class-name _ _ (c .before .is-name-byte .ensures) (c .if1 .taken)
@@ -34,8 +33,9 @@ returns-6 c = class-at _ 47 _ (c .match .keys5) refl
 
 returns-7 : tie.Need-returns-7
 returns-7 c =
+    let is-name-byte = c .before .before .is-name-byte in
     let rest = c .match .rest in
-    class-other _ _ (c .before .before .is-name-byte .ensures) (c .before .if1 .left) (rest .0 .0 .0 .0 .1) (rest .0 .0 .0 .1) (rest .0 .0 .1) (rest .0 .1) (rest .1)
+    class-other _ _ (is-name-byte .ensures) (c .before .if1 .left) (rest .0 .0 .0 .0 .1) (rest .0 .0 .0 .1) (rest .0 .0 .1) (rest .0 .1) (rest .1)
 
 pub class-of-spec : {M : Type 1} → statement M
 class-of-spec =

@@ -2,7 +2,6 @@
 -- Assumes nothing.
 use borrow.Author.Tests.{not-true, not-false}
 use Rattle.token.proofs.Classes.{comment-outside, comment-inside}
-use borrow.Author.Needs.{needs}
 use Rattle.token.proofs.bytes.comment_after.Statement.{statement}
 use Rattle.token.proofs.bytes.comment_after.Tie as tie
 
@@ -10,7 +9,7 @@ returns : tie.Need-returns
 returns c = comment-outside _ _ (not-true _ (c .if1 .taken))
 
 is-break-requires : tie.Need-is-break-requires
-is-break-requires c κs = search needs
+is-break-requires c κs = tt
 
 returns-2 : tie.Need-returns-2
 returns-2 c = comment-inside _ _ _ (not-false _ (c .before .if1 .left)) (c .is-break .ensures)

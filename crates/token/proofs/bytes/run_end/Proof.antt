@@ -24,10 +24,14 @@ shared-slice-read-is-name-byte : tie.Need-shared-slice-read-is-name-byte Inv-loo
 shared-slice-read-is-name-byte c = search needs
 
 is-name-byte-requires : tie.Need-is-name-byte-requires Inv-loop μ-loop
-is-name-byte-requires c κs = search needs
+is-name-byte-requires c κs = tt
 
 returns : tie.Need-returns Inv-loop μ-loop
-returns c = (stops _ _ _ run (c .before .before .before .before .loop .inv .1) (c .before .before .before .loop-test .taken) (run-stop _ (sym (c .before .is-name-byte .ensures) ∙ not-true _ (c .if1 .taken))), omega arith)
+returns c =
+    let loop = c .before .before .before .before .loop in
+    let loop-test = c .before .before .before .loop-test in
+    let stop = run-stop _ (sym (c .before .is-name-byte .ensures) ∙ not-true _ (c .if1 .taken)) in
+    (stops _ _ _ run (loop .inv .1) (loop-test .taken) stop, omega arith)
 
 add-i : tie.Need-add-i Inv-loop μ-loop
 add-i c = omega arith
@@ -36,7 +40,13 @@ loop-less : tie.Need-loop-less Inv-loop μ-loop
 loop-less c = omega arith
 
 loop-again : tie.Need-loop-again Inv-loop μ-loop
-loop-again c = (omega arith, goes-on _ _ _ run (c .before .before .before .before .loop .inv .1) run (c .before .before .before .loop-test .taken) (run-go _ (sym (c .before .is-name-byte .ensures) ∙ not-false _ (c .if1 .left))))
+loop-again c =
+    let loop = c .before .before .before .before .loop in
+    let loop-test = c .before .before .before .loop-test in (
+      omega arith,
+      let go = run-go _ (sym (c .before .is-name-byte .ensures) ∙ not-false _ (c .if1 .left)) in
+          goes-on _ _ _ run (loop .inv .1) run (loop-test .taken) go,
+    )
 
 returns-2 : tie.Need-returns-2 Inv-loop μ-loop
 returns-2 c = (ends _ _ _ run (c .before .loop .inv .1) (c .loop-test .left) run-none, omega arith)

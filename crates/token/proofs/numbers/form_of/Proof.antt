@@ -15,16 +15,28 @@ shared-slice-read-x : tie.Need-shared-slice-read-x
 shared-slice-read-x c = search needs
 
 returns-2 : tie.Need-returns-2
-returns-2 c = form-negative (c .before .before .before .before .args .s .now) (c .before .before .before .if1 .left) (c .if2 .taken)
+returns-2 c =
+    let args = c .before .before .before .before .args in
+    let if1 = c .before .before .before .if1 in
+    form-negative (args .s .now) (if1 .left) (c .if2 .taken)
 
 returns-3 : tie.Need-returns-3
-returns-3 c = form-plain (c .before .before .before .before .before .args .s .now) (c .before .before .before .before .if1 .left) (c .before .if2 .left) (c .if3 .taken)
+returns-3 c =
+    let args = c .before .before .before .before .before .args in
+    let if1 = c .before .before .before .before .if1 in
+    form-plain (args .s .now) (if1 .left) (c .before .if2 .left) (c .if3 .taken)
 
 returns-4 : tie.Need-returns-4
-returns-4 c = form-hexadecimal (c .before .before .before .before .before .before .args .s .now) (c .before .before .before .before .before .if1 .left) (c .before .if3 .left) (c .if4 .taken)
+returns-4 c =
+    let args = c .before .before .before .before .before .before .args in
+    let if1 = c .before .before .before .before .before .if1 in
+    form-hexadecimal (args .s .now) (if1 .left) (c .before .if3 .left) (c .if4 .taken)
 
 returns-5 : tie.Need-returns-5
-returns-5 c = form-zero (c .before .before .before .before .before .before .args .s .now) (c .before .before .before .before .before .if1 .left) (c .before .if3 .left) (c .if4 .left)
+returns-5 c =
+    let args = c .before .before .before .before .before .before .args in
+    let if1 = c .before .before .before .before .before .if1 in
+    form-zero (args .s .now) (if1 .left) (c .before .if3 .left) (c .if4 .left)
 
 pub form-of-spec : {M : Type 1} → statement M
 form-of-spec =

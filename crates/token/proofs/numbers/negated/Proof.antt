@@ -7,10 +7,12 @@ use Rattle.token.proofs.numbers.negated.Statement.{statement}
 use Rattle.token.proofs.numbers.negated.Tie as tie
 
 enum-known-n : tie.Need-enum-known-n
-enum-known-n c = search needs
+enum-known-n c = c .match .keys1
 
 returns : tie.Need-returns
-returns c = negation-zero _ _ (c .before .before .n .given .1) (c .if1 .taken)
+returns c =
+    let whole = c .before .before .n in
+    negation-zero _ _ (whole .given .1) (c .if1 .taken)
 
 sub-t6 : tie.Need-sub-t6
 sub-t6 c = search needs
@@ -19,10 +21,12 @@ sub-t7 : tie.Need-sub-t7
 sub-t7 c = search needs
 
 enum-known-n-2 : tie.Need-enum-known-n-2
-enum-known-n-2 c = search needs
+enum-known-n-2 c = c .match .keys2
 
 returns-2 : tie.Need-returns-2
-returns-2 c = negation-more _ _ (c .before .before .n .given .1) (c .if1 .left) (omega arith)
+returns-2 c =
+    let whole = c .before .before .n in
+    negation-more _ _ (whole .given .1) (c .if1 .left) (omega arith)
 
 returns-3 : tie.Need-returns-3
 returns-3 c = negation-fault _ _ (c .before .n2 .given .1)

@@ -8,37 +8,45 @@ use Rattle.token.proofs.numbers.number_of.Statement.{statement}
 use Rattle.token.proofs.numbers.number_of.Tie as tie
 
 form-of-requires : tie.Need-form-of-requires
-form-of-requires c κs = search needs
+form-of-requires c κs = tt
 
 enum-told : tie.Need-enum-told
-enum-told c = search needs
+enum-told c = c .match .keys1
 
 numeral-at-requires : tie.Need-numeral-at-requires
 numeral-at-requires c κs = search needs
 
 negated-requires : tie.Need-negated-requires
-negated-requires c κs = search needs
+negated-requires c κs = tt
 
 enum-told-2 : tie.Need-enum-told-2
-enum-told-2 c = search needs
+enum-told-2 c = c .match .keys2
 
 numeral-at-requires-2 : tie.Need-numeral-at-requires-2
 numeral-at-requires-2 c κs = search needs
 
 enum-told-3 : tie.Need-enum-told-3
-enum-told-3 c = search needs
+enum-told-3 c = c .match .keys3
 
 numeral-at-requires-3 : tie.Need-numeral-at-requires-3
 numeral-at-requires-3 c κs = search needs
 
 returns : tie.Need-returns
-returns c = c .negated .ensures ∙ ap negation (c .before .numeral-at .ensures) ∙ number-negative _ (sym (ap formIs (c .before .before .enum-told .given .1)) ∙ c .before .before .before .before .form-of .ensures)
+returns c =
+    let enum-told = c .before .before .enum-told in
+    let form-of = c .before .before .before .before .form-of in
+    c .negated .ensures ∙ ap negation (c .before .numeral-at .ensures)
+    ∙ number-negative _ (sym (ap formIs (enum-told .given .1)) ∙ form-of .ensures)
 
 returns-2 : tie.Need-returns-2
-returns-2 c = c .numeral-at2 .ensures ∙ number-hexadecimal _ (sym (ap formIs (c .before .enum-told2 .given .1)) ∙ c .before .before .before .form-of .ensures)
+returns-2 c =
+    let form-of = c .before .before .before .form-of in
+    c .numeral-at2 .ensures ∙ number-hexadecimal _ (sym (ap formIs (c .before .enum-told2 .given .1)) ∙ form-of .ensures)
 
 returns-3 : tie.Need-returns-3
-returns-3 c = c .numeral-at3 .ensures ∙ number-plain _ (sym (ap formIs (c .before .enum-told3 .given .1)) ∙ c .before .before .before .form-of .ensures)
+returns-3 c =
+    let form-of = c .before .before .before .form-of in
+    c .numeral-at3 .ensures ∙ number-plain _ (sym (ap formIs (c .before .enum-told3 .given .1)) ∙ form-of .ensures)
 
 pub number-of-spec : {M : Type 1} → statement M
 number-of-spec =

@@ -26,13 +26,18 @@ shared-slice-read-digit : tie.Need-shared-slice-read-digit Inv-loop μ-loop
 shared-slice-read-digit c = search needs
 
 digit-requires : tie.Need-digit-requires Inv-loop μ-loop
-digit-requires c κs = search needs
+digit-requires c κs = tt
 
 returns-2 : tie.Need-returns-2 Inv-loop μ-loop
-returns-2 c = numeral-bad _ _ _ _ _ _ (c .before .before .before .before .loop .inv .1) _ (c .before .before .before .loop-test .taken) (c .before .digit .ensures) (c .if2 .taken)
+returns-2 c =
+    let loop = c .before .before .before .before .loop in
+    let loop-test = c .before .before .before .loop-test in
+    numeral-bad _ _ _ _ _ _ (loop .inv .1) _ (loop-test .taken) (c .before .digit .ensures) (c .if2 .taken)
 
 with-digit-requires : tie.Need-with-digit-requires Inv-loop μ-loop
-with-digit-requires c κs = (c .before .before .before .before .before .before .before .pre .0, c .before .before .before .before .before .before .before .pre .2, c .if2 .left)
+with-digit-requires c κs =
+    let pre = c .before .before .before .before .before .before .before .pre in
+    (pre .0, pre .2, c .if2 .left)
 
 add-i : tie.Need-add-i Inv-loop μ-loop
 add-i c = omega arith
@@ -41,16 +46,27 @@ loop-less : tie.Need-loop-less Inv-loop μ-loop
 loop-less c = omega arith
 
 loop-again : tie.Need-loop-again Inv-loop μ-loop
-loop-again c = (omega arith, numeral-turn _ _ _ _ _ _ (c .before .before .before .before .before .loop .inv .1) _ _ (c .before .before .before .before .before .before .before .before .pre .1) (c .before .before .before .before .loop-test .taken) (c .before .before .digit .ensures) (c .before .if2 .left) (c .with-digit .ensures))
+loop-again c =
+    let loop = c .before .before .before .before .before .loop in
+    let pre = c .before .before .before .before .before .before .before .before .pre in
+    let loop-test = c .before .before .before .before .loop-test in
+    let digit = c .before .before .digit in (
+      omega arith,
+      numeral-turn _ _ _ _ _ _ (loop .inv .1) _ _ (pre .1) (loop-test .taken) (digit .ensures) (c .before .if2 .left) (c .with-digit .ensures),
+    )
 
 returns-3 : tie.Need-returns-3 Inv-loop μ-loop
-returns-3 c = numeral-over _ _ _ _ _ _ (c .before .before .loop .inv .1) (c .before .loop-test .left) (c .if3 .taken)
+returns-3 c =
+    let loop = c .before .before .loop in
+    numeral-over _ _ _ _ _ _ (loop .inv .1) (c .before .loop-test .left) (c .if3 .taken)
 
 cast-t17 : tie.Need-cast-t17 Inv-loop μ-loop
 cast-t17 c = omega arith
 
 returns-4 : tie.Need-returns-4 Inv-loop μ-loop
-returns-4 c = numeral-end _ _ _ _ _ _ (c .before .before .loop .inv .1) (c .before .loop-test .left) (c .if3 .left)
+returns-4 c =
+    let loop = c .before .before .loop in
+    numeral-end _ _ _ _ _ _ (loop .inv .1) (c .before .loop-test .left) (c .if3 .left)
 
 pub numeral-at-spec : {M : Type 1} → statement M
 numeral-at-spec =

@@ -9,10 +9,16 @@ returns : tie.Need-returns
 returns c = digit-stays _ _ _ _ (c .if1 .taken)
 
 mul-result : tie.Need-mul-result
-mul-result c = record { fits = omega (arith, product-fits (c .before .args .limit) (c .before .args .base) (c .before .args .n) (c .before .pre .0) (c .before .pre .1) (c .if1 .left)) }
+mul-result c =
+    let args = c .before .args in
+    let fits = product-fits (args .limit) (args .base) (args .n) (c .before .pre .0) (c .before .pre .1) (c .if1 .left) in
+    omega arith
 
 add-result : tie.Need-add-result
-add-result c = record { fits = omega (arith, product-fits (c .before .args .limit) (c .before .args .base) (c .before .args .n) (c .before .pre .0) (c .before .pre .1) (c .if1 .left)) }
+add-result c =
+    let args = c .before .args in
+    let fits = product-fits (args .limit) (args .base) (args .n) (c .before .pre .0) (c .before .pre .1) (c .if1 .left) in
+    omega arith
 
 returns-2 : tie.Need-returns-2
 returns-2 c = digit-more _ _ _ _ (c .if1 .left)

@@ -3,7 +3,6 @@
 use Rattle.semantics.specs.Tokens.{act}
 use Rattle.token.proofs.Classes.{within-low}
 use Rattle.token.proofs.Escapes.{escape-octal, escape-bad}
-use borrow.Author.Needs.{needs}
 use Rattle.token.proofs.strings.escape_act.Statement.{statement}
 use Rattle.token.proofs.strings.escape_act.Tie as tie
 
@@ -24,16 +23,28 @@ unfolding act
 returns-4 c = rw (c .if4 .taken)
 
 is-octal-requires : tie.Need-is-octal-requires
-is-octal-requires c κs = search needs
+is-octal-requires c κs = tt
 
 sub-t6 : tie.Need-sub-t6
 sub-t6 c = within-low 48 55 _ _ (c .before .is-octal .ensures) (c .if5 .taken)
 
 returns-5 : tie.Need-returns-5
-returns-5 c = escape-octal (c .before .before .before .before .before .before .args .b) _ (c .before .is-octal .ensures) (c .before .before .before .before .before .if1 .left) (c .before .before .before .before .if2 .left) (c .before .before .before .if3 .left) (c .before .before .if4 .left) (c .if5 .taken)
+returns-5 c =
+    let args = c .before .before .before .before .before .before .args in
+    let if1 = c .before .before .before .before .before .if1 in
+    let if2 = c .before .before .before .before .if2 in
+    let if3 = c .before .before .before .if3 in
+    let if4 = c .before .before .if4 in
+    escape-octal (args .b) _ (c .before .is-octal .ensures) (if1 .left) (if2 .left) (if3 .left) (if4 .left) (c .if5 .taken)
 
 returns-6 : tie.Need-returns-6
-returns-6 c = escape-bad (c .before .before .before .before .before .before .args .b) _ (c .before .is-octal .ensures) (c .before .before .before .before .before .if1 .left) (c .before .before .before .before .if2 .left) (c .before .before .before .if3 .left) (c .before .before .if4 .left) (c .if5 .left)
+returns-6 c =
+    let args = c .before .before .before .before .before .before .args in
+    let if1 = c .before .before .before .before .before .if1 in
+    let if2 = c .before .before .before .before .if2 in
+    let if3 = c .before .before .before .if3 in
+    let if4 = c .before .before .if4 in
+    escape-bad (args .b) _ (c .before .is-octal .ensures) (if1 .left) (if2 .left) (if3 .left) (if4 .left) (c .if5 .left)
 
 pub escape-act-spec : {M : Type 1} → statement M
 escape-act-spec =

@@ -5,7 +5,6 @@ use mathlib.Core.Path.{subst}
 use lib.ListN.{length}
 use Rattle.token.specs.Strings.{PieceAt}
 use Rattle.token.proofs.Escapes.{Judging, judging-starts, judging-byte, judging-closed, judging-bad}
-use borrow.Author.Needs.{needs}
 use native.Mathlib.Omega.{arith}
 use Rattle.token.proofs.strings.judge.Statement.{statement}
 use Rattle.token.proofs.strings.judge.Tie as tie
@@ -23,32 +22,44 @@ piece-at-requires : tie.Need-piece-at-requires Inv-loop μ-loop
 piece-at-requires c κs = c .loop .inv .inside
 
 enum-known-next : tie.Need-enum-known-next Inv-loop μ-loop
-enum-known-next c = search needs
+enum-known-next c = c .match .keys1
 
 add-size : tie.Need-add-size Inv-loop μ-loop
 add-size c = omega arith
 
 loop-less : tie.Need-loop-less Inv-loop μ-loop
 loop-less c =
-    let B = subst (PieceAt (c .before .before .before .before .before .before .args .script .now) (c .before .before .before .before .loop .i)) (c .before .next .given .1) (c .before .before .before .piece-at .ensures) in
+    let args = c .before .before .before .before .before .before .args in
+    let loop = c .before .before .before .before .loop in
+    let piece-at = c .before .before .before .piece-at in
+    let B = subst (PieceAt (args .script .now) (loop .i)) (c .before .next .given .1) (piece-at .ensures) in
     let past = B .past in
     let inside = B .inside in
     omega arith
 
 loop-again : tie.Need-loop-again Inv-loop μ-loop
-loop-again c = judging-byte (c .before .before .before .before .loop .inv) (c .before .before .before .piece-at .ensures) (c .before .next .given .1)
+loop-again c =
+    let loop = c .before .before .before .before .loop in
+    let piece-at = c .before .before .before .piece-at in
+    judging-byte (loop .inv) (piece-at .ensures) (c .before .next .given .1)
 
 enum-known-next-2 : tie.Need-enum-known-next-2 Inv-loop μ-loop
-enum-known-next-2 c = search needs
+enum-known-next-2 c = c .match .keys2
 
 returns : tie.Need-returns Inv-loop μ-loop
-returns c = judging-closed (c .before .before .before .before .loop .inv) (c .before .before .before .piece-at .ensures) (c .before .next2 .given .1)
+returns c =
+    let loop = c .before .before .before .before .loop in
+    let piece-at = c .before .before .before .piece-at in
+    judging-closed (loop .inv) (piece-at .ensures) (c .before .next2 .given .1)
 
 enum-told : tie.Need-enum-told Inv-loop μ-loop
-enum-told c = search needs
+enum-told c = c .match .keys3
 
 returns-2 : tie.Need-returns-2 Inv-loop μ-loop
-returns-2 c = judging-bad (c .before .before .before .loop .inv) (c .before .before .piece-at .ensures) (c .enum-told .given .1)
+returns-2 c =
+    let loop = c .before .before .before .loop in
+    let piece-at = c .before .before .piece-at in
+    judging-bad (loop .inv) (piece-at .ensures) (c .enum-told .given .1)
 
 pub judge-spec : {M : Type 1} → statement M
 judge-spec =

@@ -21,37 +21,53 @@ shared-slice-read-act-on : tie.Need-shared-slice-read-act-on Inv-loop μ-loop
 shared-slice-read-act-on c = search needs
 
 act-on-requires : tie.Need-act-on-requires Inv-loop μ-loop
-act-on-requires c κs = search needs
+act-on-requires c κs = tt
 
 add-i : tie.Need-add-i Inv-loop μ-loop
 add-i c = omega arith
 
 enum-known-act : tie.Need-enum-known-act Inv-loop μ-loop
-enum-known-act c = search needs
+enum-known-act c = c .match .keys1
 
 returns : tie.Need-returns Inv-loop μ-loop
-returns c = reading-byte (c .before .before .before .before .before .before .loop .inv) (c .before .before .before .before .before .loop-test .taken) (c .before .before .before .act-on .ensures) (c .before .act .given .1)
+returns c =
+    let loop = c .before .before .before .before .before .before .loop in
+    let loop-test = c .before .before .before .before .before .loop-test in
+    let act-on = c .before .before .before .act-on in
+    reading-byte (loop .inv) (loop-test .taken) (act-on .ensures) (c .before .act .given .1)
 
 enum-known-act-2 : tie.Need-enum-known-act-2 Inv-loop μ-loop
-enum-known-act-2 c = search needs
+enum-known-act-2 c = c .match .keys2
 
 loop-less : tie.Need-loop-less Inv-loop μ-loop
 loop-less c = omega arith
 
 loop-again : tie.Need-loop-again Inv-loop μ-loop
-loop-again c = reading-go (c .before .before .before .before .before .before .loop .inv) (c .before .before .before .before .before .loop-test .taken) (c .before .before .before .act-on .ensures) (c .before .act2 .given .1)
+loop-again c =
+    let loop = c .before .before .before .before .before .before .loop in
+    let loop-test = c .before .before .before .before .before .loop-test in
+    let act-on = c .before .before .before .act-on in
+    reading-go (loop .inv) (loop-test .taken) (act-on .ensures) (c .before .act2 .given .1)
 
 enum-told : tie.Need-enum-told Inv-loop μ-loop
-enum-told c = search needs
+enum-told c = c .match .keys3
 
 returns-2 : tie.Need-returns-2 Inv-loop μ-loop
-returns-2 c = reading-close (c .before .before .before .before .before .loop .inv) (c .before .before .before .before .loop-test .taken) (c .before .before .act-on .ensures) (c .enum-told .given .1)
+returns-2 c =
+    let loop = c .before .before .before .before .before .loop in
+    let loop-test = c .before .before .before .before .loop-test in
+    let act-on = c .before .before .act-on in
+    reading-close (loop .inv) (loop-test .taken) (act-on .ensures) (c .enum-told .given .1)
 
 enum-told-2 : tie.Need-enum-told-2 Inv-loop μ-loop
-enum-told-2 c = search needs
+enum-told-2 c = c .match .keys4
 
 returns-3 : tie.Need-returns-3 Inv-loop μ-loop
-returns-3 c = reading-bad (c .before .before .before .before .before .loop .inv) (c .before .before .before .before .loop-test .taken) (c .before .before .act-on .ensures) (c .enum-told2 .given .1)
+returns-3 c =
+    let loop = c .before .before .before .before .before .loop in
+    let loop-test = c .before .before .before .before .loop-test in
+    let act-on = c .before .before .act-on in
+    reading-bad (loop .inv) (loop-test .taken) (act-on .ensures) (c .enum-told2 .given .1)
 
 returns-4 : tie.Need-returns-4 Inv-loop μ-loop
 returns-4 c = reading-ends (c .before .loop .inv) (c .loop-test .left)

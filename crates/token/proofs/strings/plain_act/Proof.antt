@@ -2,7 +2,6 @@
 -- Assumes nothing.
 use Rattle.semantics.specs.Tokens.{plainAct}
 use Rattle.token.proofs.Escapes.{plain-break, plain-byte}
-use borrow.Author.Needs.{needs}
 use Rattle.token.proofs.strings.plain_act.Statement.{statement}
 use Rattle.token.proofs.strings.plain_act.Tie as tie
 
@@ -15,13 +14,19 @@ unfolding plainAct
 returns-2 c = rw (c .if2 .taken)
 
 is-break-requires : tie.Need-is-break-requires
-is-break-requires c κs = search needs
+is-break-requires c κs = tt
 
 returns-3 : tie.Need-returns-3
-returns-3 c = plain-break _ _ (c .before .is-break .ensures) (c .before .before .before .if1 .left) (c .before .before .if2 .left) (c .if3 .taken)
+returns-3 c =
+    let if1 = c .before .before .before .if1 in
+    let if2 = c .before .before .if2 in
+    plain-break _ _ (c .before .is-break .ensures) (if1 .left) (if2 .left) (c .if3 .taken)
 
 returns-4 : tie.Need-returns-4
-returns-4 c = plain-byte _ _ (c .before .is-break .ensures) (c .before .before .before .if1 .left) (c .before .before .if2 .left) (c .if3 .left)
+returns-4 c =
+    let if1 = c .before .before .before .if1 in
+    let if2 = c .before .before .if2 in
+    plain-byte _ _ (c .before .is-break .ensures) (if1 .left) (if2 .left) (c .if3 .left)
 
 pub plain-act-spec : {M : Type 1} → statement M
 plain-act-spec = tie.close (tie.spec returns returns-2 is-break-requires returns-3 returns-4)

@@ -9,10 +9,12 @@ use Rattle.token.proofs.strings.third_digit.Statement.{statement}
 use Rattle.token.proofs.strings.third_digit.Tie as tie
 
 is-octal-requires : tie.Need-is-octal-requires
-is-octal-requires c κs = search needs
+is-octal-requires c κs = tt
 
 returns : tie.Need-returns
-returns c = octal-bad (c .before .before .args .b) _ (c .before .is-octal .ensures) 1 (c .before .before .args .d * 8 + c .before .before .args .e) (not-true _ (c .if1 .taken))
+returns c =
+    let args = c .before .before .args in
+    octal-bad (args .b) _ (c .before .is-octal .ensures) 1 (args .d * 8 + args .e) (not-true _ (c .if1 .taken))
 
 mul-v : tie.Need-mul-v
 mul-v c = search needs
@@ -33,10 +35,16 @@ cast-t14 : tie.Need-cast-t14
 cast-t14 c = search needs
 
 returns-2 : tie.Need-returns-2
-returns-2 c = octal-third (c .before .before .before .args .b) _ (c .before .before .is-octal .ensures) (c .before .before .before .args .d * 8 + c .before .before .before .args .e) (not-false _ (c .before .if1 .left)) (c .if2 .taken)
+returns-2 c =
+    let args = c .before .before .before .args in
+    let is-octal = c .before .before .is-octal in
+    octal-third (args .b) _ (is-octal .ensures) (args .d * 8 + args .e) (not-false _ (c .before .if1 .left)) (c .if2 .taken)
 
 returns-3 : tie.Need-returns-3
-returns-3 c = octal-large (c .before .before .before .args .b) _ (c .before .before .is-octal .ensures) (c .before .before .before .args .d * 8 + c .before .before .before .args .e) (not-false _ (c .before .if1 .left)) (c .if2 .left)
+returns-3 c =
+    let args = c .before .before .before .args in
+    let is-octal = c .before .before .is-octal in
+    octal-large (args .b) _ (is-octal .ensures) (args .d * 8 + args .e) (not-false _ (c .before .if1 .left)) (c .if2 .left)
 
 pub third-digit-spec : {M : Type 1} → statement M
 third-digit-spec =

@@ -2,7 +2,6 @@
 -- Assumes nothing.
 use Rattle.token.proofs.Escapes.{unescape-byte, unescape-closed, unescape-bad}
 use native.Mathlib.Omega.{arith}
-use borrow.Author.Needs.{needs}
 use Rattle.token.proofs.strings.unescape.Statement.{statement}
 use Rattle.token.proofs.strings.unescape.Tie as tie
 
@@ -10,22 +9,28 @@ piece-at-requires : tie.Need-piece-at-requires
 piece-at-requires c κs = omega arith
 
 enum-known-b : tie.Need-enum-known-b
-enum-known-b c = search needs
+enum-known-b c = c .match .keys1
 
 enum-told : tie.Need-enum-told
-enum-told c = search needs
+enum-told c = c .match .keys2
 
 enum-told-2 : tie.Need-enum-told-2
-enum-told-2 c = search needs
+enum-told-2 c = c .match .keys3
 
 returns : tie.Need-returns
-returns c = unescape-byte (c .before .before .before .piece-at .ensures) (c .before .b .given .1)
+returns c =
+    let piece-at = c .before .before .before .piece-at in
+    unescape-byte (piece-at .ensures) (c .before .b .given .1)
 
 returns-2 : tie.Need-returns-2
-returns-2 c = unescape-closed (c .before .before .piece-at .ensures) (c .enum-told .given .1)
+returns-2 c =
+    let piece-at = c .before .before .piece-at in
+    unescape-closed (piece-at .ensures) (c .enum-told .given .1)
 
 returns-3 : tie.Need-returns-3
-returns-3 c = unescape-bad (c .before .before .piece-at .ensures) (c .enum-told2 .given .1)
+returns-3 c =
+    let piece-at = c .before .before .piece-at in
+    unescape-bad (piece-at .ensures) (c .enum-told2 .given .1)
 
 pub unescape-spec : {M : Type 1} → statement M
 unescape-spec =
