@@ -1,0 +1,16 @@
+pub mod Words
+pub mod Upds
+pub mod Chains
+pub mod Skips
+pub mod Shapes
+pub mod Walks
+pub mod Pops
+pub mod Falls
+pub mod Since
+pub mod Parts
+pub mod Growing
+pub mod Bodies
+pub mod Starts
+pub mod Assigning
+pub mod Rooms
+pub mod Roots

@@ -1,0 +1,4 @@
+pub mod Naming
+pub mod Items
+pub mod Stacking
+pub mod Operands

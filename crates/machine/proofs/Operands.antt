@@ -1,0 +1,192 @@
+-- Operands by their words: what a tag says of the value, and so what the definition's fetchers give.
+-- Assumes nothing.
+use mathlib.Core.Path.{_≡_, refl, sym, ap, _∙_, subst}
+use mathlib.Core.Bool.{Bool}
+use mathlib.Core.List.{List, [], _∷_, _++_}
+use Prim.Native.Nat.{ℕ, zero, suc, _+_, _*_, _≤_, _<_}
+use native.Mathlib.Omega.{arith}
+use native.Mathlib.Numerals.{add-one}
+use lib.ListN.{length, getD, set, length-set}
+use lib.Seq.{getD-set-same, getD-set-other}
+use Rattle.semantics.specs.Values.{Value, integer, ok, fault, _>>=_, int}
+use Rattle.semantics.specs.Machine as Floo
+use Rattle.semantics.specs.Machine.{withStack, pop1, pop2}
+use Rattle.semantics.specs.ListLaws.{All, nil, cons}
+use Rattle.semantics.specs.declared.Error.the-variants.{StackUnderflow, TypeCheck}
+use Rattle.store.specs.Rep.{Stands, a-null, an-integer, a-boolean, a-mark, an-operator, a-literal, an-executable, a-string, an-array, a-procedure}
+use Rattle.store.proofs.Standing.{is-integer}
+use Rattle.machine.specs.Places.{Nameless}
+use Rattle.machine.specs.Operands as Operands
+use Rattle.machine.specs.Operands.{Scalar, oneInt, twoInts}
+use Rattle.machine.specs.Rep.{Rep, Is, Items, bottom, item}
+use Rattle.machine.specs.declared.Machine.{Machine}
+use Rattle.machine.proofs.Items.{items-frame, items-below}
+use Rattle.machine.proofs.Stacking.{atDepth, restack}
+
+-- ---- what a tag says
+
+module _ {keys : List (List ℕ)} {texts : List Bool} {ρ : ℕ → ℕ} {v : Value} {t p : ℕ} (h : Stands keys texts ρ v t p) where
+  pub stands-no-integer : (t ≡ 1 → ⊥) → int v ≡ fault TypeCheck
+  unfolding int
+  stands-no-integer = by h
+    where
+      by : {v : Value} {t p : ℕ} → Stands keys texts ρ v t p → (t ≡ 1 → ⊥) → int v ≡ fault TypeCheck
+      by a-null n = refl
+      by an-integer n = absurd (n refl)
+      by a-boolean n = refl
+      by a-mark n = refl
+      by (an-operator q) n = refl
+      by (a-literal q) n = refl
+      by (an-executable q) n = refl
+      by (a-string q k) n = refl
+      by (an-array q k) n = refl
+      by (a-procedure q k) n = refl
+
+-- ---- the topmost items
+
+-- The topmost of k + 1 items, its words and what lies below it.
+pub record Top (Is : Value → ℕ → ℕ → Type 0) (st : List ℕ) (k : ℕ) (s : List Value) : Type 0 where
+  pub value : Value
+  pub rest : List Value
+  pub split : s ≡ value ∷ rest
+  pub words : Is value (getD st (2 * k) 0) (getD st (2 * k + 1) 0)
+  pub below : Items Is st k rest
+
+module _ {Is : Value → ℕ → ℕ → Type 0} {st : List ℕ} where
+  pub top : {n : ℕ} {s : List Value} → Items Is st n s → (k : ℕ) → n ≡ suc k → Top Is st k s
+  top bottom k e = absurd (omega arith)
+  top (item {n = n} {v = v} {s = s} h i) k e =
+      let q : n ≡ k = omega arith in
+      subst (λ x. Top Is st x (v ∷ s)) q (record { value = v; rest = s; split = refl; words = h; below = i })
+
+  pub no-items : {n : ℕ} {s : List Value} → Items Is st n s → n < 1 → s ≡ []
+  no-items bottom l = refl
+  no-items (item h i) l = absurd (omega arith)
+
+-- ---- the definition's pops
+
+module _ (μ : Floo.Machine) where
+  pub pop1-none : μ .stack ≡ [] → pop1 μ ≡ fault StackUnderflow
+  unfolding pop1
+  pop1-none e = rw (e, pop1)
+
+  pub pop1-some : {x : Value} {s : List Value} → μ .stack ≡ x ∷ s → pop1 μ ≡ ok (x, withStack s μ)
+  unfolding pop1 withStack
+  pop1-some e = rw (e, pop1)
+
+  pub pop2-none : μ .stack ≡ [] → pop2 μ ≡ fault StackUnderflow
+  unfolding pop2
+  pop2-none e = rw (e, pop2)
+
+  pub pop2-one : {y : Value} → μ .stack ≡ y ∷ [] → pop2 μ ≡ fault StackUnderflow
+  unfolding pop2
+  pop2-one e = rw (e, pop2)
+
+  pub pop2-some : {x y : Value} {s : List Value} → μ .stack ≡ y ∷ x ∷ s → pop2 μ ≡ ok (x, y, withStack s μ)
+  unfolding pop2 withStack
+  pop2-some e = rw (e, pop2)
+
+-- ---- fetchers
+
+module _ {m : Machine} {st e d c l : List ℕ} {μ : Floo.Machine} (R : Rep m st e d c l μ) where
+  pub one-under : m .depth < 1 → oneInt μ ≡ fault StackUnderflow
+  unfolding oneInt _>>=_
+  one-under h = rw (pop1-none μ (no-items (R .items) h))
+
+  pub one-bad : (k : ℕ) → m .depth ≡ suc k → (getD st (2 * k) 0 ≡ 1 → ⊥) → oneInt μ ≡ fault TypeCheck
+  unfolding oneInt _>>=_
+  one-bad k h n =
+      let x = top (R .items) k h in
+      rw (pop1-some μ (x .split), stands-no-integer (x .words) n)
+
+  pub one-got : (k : ℕ) → m .depth ≡ suc k → getD st (2 * k) 0 ≡ 1 → (rest : List Value) × (μ .stack ≡ integer (getD st (2 * k + 1) 0) ∷ rest)
+  one-got k h i =
+      let x = top (R .items) k h in
+      (x .rest, x .split ∙ ap (λ v. v ∷ x .rest) (is-integer (x .words) i))
+
+  pop2-short : (n : ℕ) → Items (Is (R .world) μ) st n (μ .stack) → n < 2 → pop2 μ ≡ fault StackUnderflow
+  pop2-short zero i l = pop2-none μ (no-items i (omega arith))
+  pop2-short (suc zero) i l =
+      let x = top i 0 refl in
+      pop2-one μ (x .split ∙ ap (λ r. x .value ∷ r) (no-items (x .below) (omega arith)))
+  pop2-short (suc (suc n)) i l = absurd (omega arith)
+
+  pub two-under : m .depth < 2 → twoInts μ ≡ fault StackUnderflow
+  unfolding twoInts _>>=_
+  two-under h = rw (pop2-short (m .depth) (R .items) h)
+
+  -- The upper operand is item u, the lower one item k.
+  module _ (k u : ℕ) (h : m .depth ≡ suc u) (next : u ≡ suc k) where
+    upper : Top (Is (R .world) μ) st u (μ .stack)
+    upper = top (R .items) u h
+
+    lower : Top (Is (R .world) μ) st k (upper .rest)
+    lower = top (upper .below) k next
+
+    both : μ .stack ≡ upper .value ∷ lower .value ∷ lower .rest
+    both = upper .split ∙ ap (λ r. upper .value ∷ r) (lower .split)
+
+    pub two-first-bad : (getD st (2 * k) 0 ≡ 1 → ⊥) → twoInts μ ≡ fault TypeCheck
+    unfolding twoInts _>>=_
+    two-first-bad n = rw (pop2-some μ both, stands-no-integer (lower .words) n)
+
+    pub two-second-bad : getD st (2 * k) 0 ≡ 1 → (getD st (2 * u) 0 ≡ 1 → ⊥) → twoInts μ ≡ fault TypeCheck
+    unfolding twoInts _>>=_ int
+    two-second-bad i n = rw (pop2-some μ both, is-integer (lower .words) i, stands-no-integer (upper .words) n)
+
+    pub two-got : getD st (2 * k) 0 ≡ 1
+        → getD st (2 * u) 0 ≡ 1
+        → (rest : List Value) × (μ .stack ≡ integer (getD st (2 * u + 1) 0) ∷ integer (getD st (2 * k + 1) 0) ∷ rest)
+    two-got i j = (
+      lower .rest,
+      both ∙ ap (λ v. v ∷ lower .value ∷ lower .rest) (is-integer (upper .words) j)
+          ∙ ap (λ v. integer (getD st (2 * u + 1) 0) ∷ v ∷ lower .rest) (is-integer (lower .words) i),
+    )
+
+-- ---- a result in their place
+
+scalar-stands : {keys : List (List ℕ)} {texts : List Bool} {ρ : ℕ → ℕ} {v : Value} {t p : ℕ} → Scalar v t p → Stands keys texts ρ v t p
+scalar-stands Operands.an-integer = an-integer
+scalar-stands Operands.a-boolean = a-boolean
+
+scalar-nameless : {v : Value} {t p : ℕ} → Scalar v t p → Nameless v
+scalar-nameless Operands.an-integer = record { none = λ t. t }
+scalar-nameless Operands.a-boolean = record { none = λ t. t }
+
+-- Two words stored at a slot.
+module _ (st : List ℕ) (k t p : ℕ) (fits : 2 * k + 2 ≤ length st) where
+  two-first : getD (set (set st (2 * k) t) (2 * k + 1) p) (2 * k) 0 ≡ t
+  two-first = getD-set-other (set st (2 * k) t) (2 * k + 1) (2 * k) p 0 (λ q. omega arith) ∙ getD-set-same st (2 * k) t 0 (omega arith)
+
+  two-second : getD (set (set st (2 * k) t) (2 * k + 1) p) (2 * k + 1) 0 ≡ p
+  two-second = getD-set-same (set st (2 * k) t) (2 * k + 1) p 0 (omega (arith, length-set st (2 * k) t))
+
+  two-below : (j : ℕ) → j < 2 * k → getD (set (set st (2 * k) t) (2 * k + 1) p) j 0 ≡ getD st j 0
+  two-below j l =
+      getD-set-other (set st (2 * k) t) (2 * k + 1) j p 0 (λ q. omega arith) ∙ getD-set-other st (2 * k) j t 0 (λ q. omega arith)
+
+  two-length : length (set (set st (2 * k) t) (2 * k + 1) p) ≡ length st
+  two-length = length-set (set st (2 * k) t) (2 * k + 1) p ∙ length-set st (2 * k) t
+
+-- k items are left below the operands, and the result is put above them.
+pub replaced : {m : Machine} {st e d c l : List ℕ} {μ : Floo.Machine}
+    → Rep m st e d c l μ
+    → (k n t p : ℕ)
+    → m .depth ≡ k + n
+    → 1 ≤ n
+    → {v : Value}
+    → Scalar v t p
+    → (old rest : List Value)
+    → length old ≡ n
+    → All Nameless old
+    → μ .stack ≡ old ++ rest
+    → Rep (atDepth (k + 1) m) (set (set st (2 * k) t) (2 * k + 1) p) e d c l (withStack (v ∷ rest) μ)
+replaced {m} {st} {μ} R k n t p z few {v} sc old rest len nameless s =
+    let fits : 2 * k + 2 ≤ length st = omega (arith, R .stack-room) in
+    let room : 2 * (k + 1) ≤ length st = omega arith in
+    let old-items = subst (λ x. Items (Is (R .world) μ) st (m .depth) x) s (R .items) in
+    let below = items-frame (two-below st k t p fits) (items-below old k (omega arith) old-items) in
+    let words : Is (R .world) μ v (getD (set (set st (2 * k) t) (2 * k + 1) p) (2 * k) 0) (getD (set (set st (2 * k) t) (2 * k + 1) p) (2 * k + 1) 0) =
+    rw (two-first st k t p fits, two-second st k t p fits) (scalar-stands sc) in
+    let items = subst (λ x. Items (Is (R .world) μ) (set (set st (2 * k) t) (2 * k + 1) p) x (v ∷ rest)) (sym (add-one k)) (item words below) in
+    restack R (set (set st (2 * k) t) (2 * k + 1) p) (k + 1) old (v ∷ []) rest s nameless (cons (scalar-nameless sc) nil) (two-length st k t p fits) room items

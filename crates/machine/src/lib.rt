@@ -1,0 +1,110 @@
+// The machine's small state, its slots, and what moves a value between places. Each function keeps `Rep`: the lent words stand for a machine of
+// the definition, and the function does to that machine what its contract names.
+ghost use mathlib.Core.Path.{_≡_};
+ghost use Prim.Native.Nat.{_+_, _*_, _-_, _≤_};
+ghost use lib.ListN.{length};
+ghost use Rattle.machine.specs.Operands.{FetchesOne, FetchesTwo, oneLow, twoLow, Replaces};
+use heap::Lists;
+use semantics::Error;
+
+// A value is two words.
+pub const TAG_NULL: u32 = 0;
+
+pub const TAG_INTEGER: u32 = 1;
+
+pub const TAG_BOOLEAN: u32 = 2;
+
+pub const TAG_MARK: u32 = 3;
+
+pub const TAG_OPERATOR: u32 = 4;
+
+pub const TAG_LITERAL: u32 = 5;
+
+pub const TAG_EXECUTABLE: u32 = 6;
+
+// The binding of a name that has none.
+pub const TAG_UNBOUND: u32 = 7;
+
+pub const TAG_STRING: u32 = 8;
+
+pub const TAG_ARRAY: u32 = 9;
+
+pub const TAG_PROCEDURE: u32 = 10;
+
+// How much of each lent buffer is in use: stack items, execution slots, names, log bytes; the heap's lists; and whether the run has been stopped.
+pub struct Machine {
+    pub depth: usize,
+    pub frames: usize,
+    pub names: usize,
+    pub written: usize,
+    pub lists: Lists,
+    pub stopped: bool,
+}
+
+// What an operator came to.
+pub enum Did {
+    Ok(Machine),
+    Fail(Error),
+}
+
+// An integer operand, or what is wrong with it.
+pub enum OneInt {
+    Bad(Error),
+    Got(u32),
+}
+
+// Two integer operands, the upper one second, or what is wrong with them.
+pub enum TwoInts {
+    Bad(Error),
+    Got(u32, u32),
+}
+
+impl Machine {
+    pub fn one_int(self, stack: &[u32]) -> OneInt
+        requires { ⌜ 2 * self .depth ≤ length (now stack) ⌝ }
+        ensures { λ r. ⌜ FetchesOne self (now (stack .entry)) r ⌝ }
+        ensures { λ r. ⌜ oneLow r ≤ self .depth ⌝ }
+    {
+        let n = self.depth;
+        if n < 1 {
+            return OneInt::Bad(Error::StackUnderflow);
+        }
+        let i = 2 * (n - 1);
+        if stack[i] != TAG_INTEGER {
+            return OneInt::Bad(Error::TypeCheck);
+        }
+        OneInt::Got(stack[i + 1])
+    }
+
+    pub fn two_ints(self, stack: &[u32]) -> TwoInts
+        requires { ⌜ 2 * self .depth ≤ length (now stack) ⌝ }
+        ensures { λ r. ⌜ FetchesTwo self (now (stack .entry)) r ⌝ }
+        ensures { λ r. ⌜ twoLow r ≤ self .depth ⌝ }
+    {
+        let n = self.depth;
+        if n < 2 {
+            return TwoInts::Bad(Error::StackUnderflow);
+        }
+        let i = 2 * (n - 2);
+        let j = 2 * (n - 1);
+        if stack[i] != TAG_INTEGER {
+            return TwoInts::Bad(Error::TypeCheck);
+        }
+        if stack[j] != TAG_INTEGER {
+            return TwoInts::Bad(Error::TypeCheck);
+        }
+        TwoInts::Got(stack[i + 1], stack[j + 1])
+    }
+
+    // Takes n operands that name no object away, and pushes a result.
+    pub fn replace(mut self, stack: &mut [u32], n: usize, tag: u32, payload: u32) -> Machine
+        requires { ⌜ (2 * self .depth ≤ length (now stack)) × (1 ≤ n) × (n ≤ self .depth) ⌝ }
+        ensures { λ r. ⌜ Replaces n tag payload self r (now (stack .entry)) (now (stack .exit)) ⌝ }
+    {
+        let i = 2 * (self.depth - n);
+        stack[i] = tag;
+        stack[i + 1] = payload;
+        self.depth = self.depth - n + 1;
+        self
+    }
+}

@@ -1,0 +1,215 @@
+-- The shapes of the operators on integers: operands that are not there or of another kind, and a result in their place.
+-- Assumes nothing.
+use mathlib.Core.Path.{_≡_, refl, sym, ap, _∙_, subst}
+use mathlib.Core.Bool.{Bool}
+use mathlib.Core.List.{List, [], _∷_}
+use Prim.Native.Nat.{ℕ, _^_, _<_, _≤_}
+use lib.IntN.{ℤ}
+use Rattle.semantics.specs.Words.{signed, word, shift}
+use Rattle.semantics.specs.Values.{Value, integer, boolean, Result, ok, fault, _>>=_, int}
+use Rattle.semantics.specs.Machine as Floo
+use Rattle.semantics.specs.Machine.{withStack, push, pop1, pop2}
+use Rattle.semantics.specs.ListLaws.{nil, cons}
+use Rattle.semantics.specs.declared.Error.{Error}
+use Rattle.machine.specs.Places.{Nameless}
+use Rattle.machine.specs.Operands.{Scalar, oneInt, twoInts, OneIs, TwoIs, FetchesOne, FetchesTwo, oneLow, twoLow, Replaces}
+use Rattle.machine.specs.Rep.{OnStack}
+use Rattle.machine.specs.declared.Machine.{Machine}
+use Rattle.machine.specs.declared.Did.the-variants.{Ok, Fail}
+use Rattle.machine.specs.declared.OneInt.{OneInt}
+use Rattle.machine.specs.declared.OneInt.the-variants as One
+use Rattle.machine.specs.declared.TwoInts.{TwoInts}
+use Rattle.machine.specs.declared.TwoInts.the-variants as Two
+use Rattle.word.proofs.Words.{word-signed}
+use Rattle.machine.proofs.Operands.{pop1-some, pop2-some}
+
+integer-nameless : {w : ℕ} → Nameless (integer w)
+integer-nameless = record { none = λ t. t }
+
+-- ---- two integers
+
+-- What an operator does with two integers and the machine below them.
+abbrev pub Binary : Type 0
+Binary = ℤ → ℤ → Floo.Machine → Result Floo.Machine
+
+abbrev pub onTwo : Binary → Floo.Machine → Result Floo.Machine
+onTwo k μ = pop2 μ >>= λ p. int (p .0) >>= λ a. int (p .1) >>= λ b. k a b (p .2)
+
+abbrev Operands : Type 0
+Operands = ℤ × ℤ × Floo.Machine
+
+abbrev both : ℤ → Floo.Machine → ℤ → Result Operands
+both a τ b = ok (a, b, τ)
+
+abbrev use-two : Binary → Operands → Result Floo.Machine
+use-two k t = k (t .0) (t .1) (t .2)
+
+second : (k : Binary) (a : ℤ) (τ : Floo.Machine) (r : Result ℤ) → (r >>= λ b. k a b τ) ≡ ((r >>= both a τ) >>= use-two k)
+unfolding _>>=_
+second k a τ (ok b) = refl
+second k a τ (fault e) = refl
+
+first : (k : Binary) (y : Value) (τ : Floo.Machine) (r : Result ℤ) → (r >>= λ a. int y >>= λ b. k a b τ) ≡ ((r >>= λ a. int y >>= both a τ) >>= use-two k)
+unfolding _>>=_
+first k y τ (ok a) = second k a τ (int y)
+first k y τ (fault e) = refl
+
+via-two : (k : Binary) (μ : Floo.Machine) → onTwo k μ ≡ (twoInts μ >>= use-two k)
+unfolding twoInts _>>=_
+via-two k μ = from (pop2 μ)
+  where
+    from : (r : Result (Value × Value × Floo.Machine))
+        → (r >>= λ p. int (p .0) >>= λ a. int (p .1) >>= λ b. k a b (p .2)) ≡ ((r >>= λ p. int (p .0) >>= λ a. int (p .1) >>= both a (p .2)) >>= use-two k)
+    from (ok p) = first k (p .1) (p .2) (int (p .0))
+    from (fault e) = refl
+
+-- No two integers: the operator fails as its operands do.
+pub two-bad : (k : Binary) {m : Machine} {st : List ℕ} {r : TwoInts} {e : Error}
+    → FetchesTwo m st r
+    → r ≡ Two.Bad e
+    → (f : Floo.Machine → Result Floo.Machine)
+    → ((μ : Floo.Machine) → f μ ≡ onTwo k μ)
+    → OnStack f m st st (Fail e)
+unfolding _>>=_
+two-bad k {e} F q f is =
+    record {
+      does = λ x d c l μ R.
+          (is μ ∙ via-two k μ ∙ ap (λ t. t >>= use-two k) (subst (TwoIs μ) q (F .says x d c l μ R)), refl);
+    }
+
+-- Two integers, and a result that needs no heap.
+pub two-good : (k : Binary) {m m′ : Machine} {st st′ : List ℕ} {r : TwoInts} {a b t p : ℕ} {v : Value}
+    → FetchesTwo m st r
+    → r ≡ Two.Got a b
+    → Replaces 2 t p m m′ st st′
+    → Scalar v t p
+    → (f : Floo.Machine → Result Floo.Machine)
+    → ((μ : Floo.Machine) → f μ ≡ onTwo k μ)
+    → ((τ : Floo.Machine) → k (signed a) (signed b) τ ≡ ok (push v τ))
+    → OnStack f m st st′ (Ok m′)
+unfolding _>>=_ int push withStack
+two-good k {a} {b} {v} F q P sc f is gives =
+    record {
+      does = λ x d c l μ R.
+          let s = subst (TwoIs μ) q (F .says x d c l μ R) in (
+            withStack (v ∷ s .0) μ,
+            is μ ∙ ap (λ r. r >>= λ p. int (p .0) >>= λ i. int (p .1) >>= λ j. k i j (p .2)) (pop2-some μ (s .1)) ∙ gives (withStack (s .0) μ),
+            P .does sc (integer b ∷ integer a ∷ []) (s .0) refl (cons integer-nameless (cons integer-nameless nil)) x d c l μ (s .1) R,
+          );
+    }
+
+pub two-low : {r : TwoInts} {a b n : ℕ} → r ≡ Two.Got a b → twoLow r ≤ n → 2 ≤ n
+two-low {n} q h = subst (λ r. twoLow r ≤ n) q h
+
+-- ---- one integer
+
+abbrev pub Unary : Type 0
+Unary = ℤ → Floo.Machine → Result Floo.Machine
+
+abbrev pub onOne : Unary → Floo.Machine → Result Floo.Machine
+onOne k μ = pop1 μ >>= λ p. int (p .0) >>= λ a. k a (p .1)
+
+abbrev alone : Floo.Machine → ℤ → Result (ℤ × Floo.Machine)
+alone τ a = ok (a, τ)
+
+abbrev use-one : Unary → ℤ × Floo.Machine → Result Floo.Machine
+use-one k t = k (t .0) (t .1)
+
+only : (k : Unary) (τ : Floo.Machine) (r : Result ℤ) → (r >>= λ a. k a τ) ≡ ((r >>= alone τ) >>= use-one k)
+unfolding _>>=_
+only k τ (ok a) = refl
+only k τ (fault e) = refl
+
+via-one : (k : Unary) (μ : Floo.Machine) → onOne k μ ≡ (oneInt μ >>= use-one k)
+unfolding oneInt _>>=_
+via-one k μ = from (pop1 μ)
+  where
+    from : (r : Result (Value × Floo.Machine)) → (r >>= λ p. int (p .0) >>= λ a. k a (p .1)) ≡ ((r >>= λ p. int (p .0) >>= alone (p .1)) >>= use-one k)
+    from (ok p) = only k (p .1) (int (p .0))
+    from (fault e) = refl
+
+pub one-bad : (k : Unary) {m : Machine} {st : List ℕ} {r : OneInt} {e : Error}
+    → FetchesOne m st r
+    → r ≡ One.Bad e
+    → (f : Floo.Machine → Result Floo.Machine)
+    → ((μ : Floo.Machine) → f μ ≡ onOne k μ)
+    → OnStack f m st st (Fail e)
+unfolding _>>=_
+one-bad k F q f is =
+    record {
+      does = λ x d c l μ R. (is μ ∙ via-one k μ ∙ ap (λ t. t >>= use-one k) (subst (OneIs μ) q (F .says x d c l μ R)), refl);
+    }
+
+pub one-good : (k : Unary) {m m′ : Machine} {st st′ : List ℕ} {r : OneInt} {a t p : ℕ} {v : Value}
+    → FetchesOne m st r
+    → r ≡ One.Got a
+    → Replaces 1 t p m m′ st st′
+    → Scalar v t p
+    → (f : Floo.Machine → Result Floo.Machine)
+    → ((μ : Floo.Machine) → f μ ≡ onOne k μ)
+    → ((τ : Floo.Machine) → k (signed a) τ ≡ ok (push v τ))
+    → OnStack f m st st′ (Ok m′)
+unfolding _>>=_ int push withStack
+one-good k {a} {v} F q P sc f is gives =
+    record {
+      does = λ x d c l μ R.
+          let s = subst (OneIs μ) q (F .says x d c l μ R) in (
+            withStack (v ∷ s .0) μ,
+            is μ ∙ ap (λ r. r >>= λ p. int (p .0) >>= λ i. k i (p .1)) (pop1-some μ (s .1)) ∙ gives (withStack (s .0) μ),
+            P .does sc (integer a ∷ []) (s .0) refl (cons integer-nameless nil) x d c l μ (s .1) R,
+          );
+    }
+
+pub one-low : {r : OneInt} {a n : ℕ} → r ≡ One.Got a → oneLow r ≤ n → 1 ≤ n
+one-low {n} q h = subst (λ r. oneLow r ≤ n) q h
+
+-- ---- what the results are
+
+abbrev pub computing : (ℤ → ℤ → Result ℤ) → Binary
+computing f a b τ = f a b >>= λ c. ok (push (integer (word c)) τ)
+
+abbrev pub shifting : Binary
+shifting a b τ = ok (push (integer (shift (word a) b)) τ)
+
+abbrev pub comparing : (ℤ → ℤ → Bool) → Binary
+comparing f a b τ = ok (push (boolean (f a b)) τ)
+
+abbrev pub computing1 : (ℤ → ℤ) → Unary
+computing1 f a τ = ok (push (integer (word (f a))) τ)
+
+-- The word of the result is the word that is put.
+pub computed : (f : ℤ → ℤ → Result ℤ) (a b : ℕ) {z : ℤ} {w : ℕ}
+    → f (signed a) (signed b) ≡ ok z
+    → w ≡ word z
+    → (τ : Floo.Machine)
+    → computing f (signed a) (signed b) τ ≡ ok (push (integer w) τ)
+unfolding _>>=_
+computed f a b e q τ = ap (λ r. r >>= λ c. ok (push (integer (word c)) τ)) e ∙ ap (λ x. ok (push (integer x) τ)) (sym q)
+
+pub computed1 : (f : ℤ → ℤ) (a : ℕ) {w : ℕ} → w ≡ word (f (signed a)) → (τ : Floo.Machine) → computing1 f (signed a) τ ≡ ok (push (integer w) τ)
+computed1 f a q τ = ap (λ x. ok (push (integer x) τ)) (sym q)
+
+pub compared : (f : ℤ → ℤ → Bool) (a b : ℕ) {t : Bool}
+    → t ≡ f (signed a) (signed b)
+    → (τ : Floo.Machine)
+    → comparing f (signed a) (signed b) τ ≡ ok (push (boolean t) τ)
+compared f a b q τ = ap (λ x. ok (push (boolean x) τ)) (sym q)
+
+pub shifted : (a b : ℕ) {w : ℕ} → a < 2 ^ 32 → w ≡ shift a (signed b) → (τ : Floo.Machine) → shifting (signed a) (signed b) τ ≡ ok (push (integer w) τ)
+shifted a b f q τ = ap (λ x. ok (push (integer (shift x (signed b))) τ)) (word-signed a f) ∙ ap (λ x. ok (push (integer x) τ)) (sym q)
+
+-- Two integers on which the operator fails.
+pub two-fails : (k : Binary) {m : Machine} {st : List ℕ} {r : TwoInts} {a b : ℕ} {e : Error}
+    → FetchesTwo m st r
+    → r ≡ Two.Got a b
+    → (f : Floo.Machine → Result Floo.Machine)
+    → ((μ : Floo.Machine) → f μ ≡ onTwo k μ)
+    → ((τ : Floo.Machine) → k (signed a) (signed b) τ ≡ fault e)
+    → OnStack f m st st (Fail e)
+unfolding _>>=_ int
+two-fails k F q f is gives =
+    record {
+      does = λ x d c l μ R.
+          let s = subst (TwoIs μ) q (F .says x d c l μ R) in
+          (is μ ∙ ap (λ r. r >>= λ p. int (p .0) >>= λ i. int (p .1) >>= λ j. k i j (p .2)) (pop2-some μ (s .1)) ∙ gives (withStack (s .0) μ), refl);
+    }

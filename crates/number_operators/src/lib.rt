@@ -1,0 +1,149 @@
+// The operators on integers: arithmetic, shifts and comparisons. Each does exactly what the definition's operator of its name does, errors and their
+// order included, and touches the stack's words alone.
+ghost use mathlib.Core.Path.{_≡_};
+ghost use lib.ListN.{length};
+ghost use Prim.Native.Nat.{_*_, _≤_};
+ghost use Rattle.semantics.specs.Text.{bytes};
+ghost use Rattle.semantics.specs.Operators.{perform};
+ghost use Rattle.machine.specs.Rep.{OnStack};
+ghost use Rattle.store.specs.Rep.{bit as bitOf};
+use machine::Did;
+use machine::Machine;
+use machine::OneInt;
+use machine::TAG_BOOLEAN;
+use machine::TAG_INTEGER;
+use machine::TwoInts;
+use semantics::Error;
+use word::Quotient;
+
+pub fn add(m: Machine, stack: &mut [u32]) -> Did
+    requires { ⌜ 2 * m .depth ≤ length (now stack) ⌝ }
+    ensures { λ r. ⌜ OnStack (perform (bytes "add")) m (now (stack .entry)) (now (stack .exit)) r ⌝ }
+{
+    match m.two_ints(stack) {
+        TwoInts::Bad(e) => Did::Fail(e),
+        TwoInts::Got(a, b) => Did::Ok(m.replace(stack, 2, TAG_INTEGER, word::add(a, b))),
+    }
+}
+
+pub fn sub(m: Machine, stack: &mut [u32]) -> Did
+    requires { ⌜ 2 * m .depth ≤ length (now stack) ⌝ }
+    ensures { λ r. ⌜ OnStack (perform (bytes "sub")) m (now (stack .entry)) (now (stack .exit)) r ⌝ }
+{
+    match m.two_ints(stack) {
+        TwoInts::Bad(e) => Did::Fail(e),
+        TwoInts::Got(a, b) => Did::Ok(m.replace(stack, 2, TAG_INTEGER, word::sub(a, b))),
+    }
+}
+
+pub fn mul(m: Machine, stack: &mut [u32]) -> Did
+    requires { ⌜ 2 * m .depth ≤ length (now stack) ⌝ }
+    ensures { λ r. ⌜ OnStack (perform (bytes "mul")) m (now (stack .entry)) (now (stack .exit)) r ⌝ }
+{
+    match m.two_ints(stack) {
+        TwoInts::Bad(e) => Did::Fail(e),
+        TwoInts::Got(a, b) => Did::Ok(m.replace(stack, 2, TAG_INTEGER, word::mul(a, b))),
+    }
+}
+
+pub fn idiv(m: Machine, stack: &mut [u32]) -> Did
+    requires { ⌜ 2 * m .depth ≤ length (now stack) ⌝ }
+    ensures { λ r. ⌜ OnStack (perform (bytes "idiv")) m (now (stack .entry)) (now (stack .exit)) r ⌝ }
+{
+    match m.two_ints(stack) {
+        TwoInts::Bad(e) => Did::Fail(e),
+        TwoInts::Got(a, b) => match word::idiv(a, b) {
+            Quotient::ZeroDivisor => Did::Fail(Error::UndefinedResult),
+            Quotient::Value(w) => Did::Ok(m.replace(stack, 2, TAG_INTEGER, w)),
+        },
+    }
+}
+
+pub fn rem(m: Machine, stack: &mut [u32]) -> Did
+    requires { ⌜ 2 * m .depth ≤ length (now stack) ⌝ }
+    ensures { λ r. ⌜ OnStack (perform (bytes "mod")) m (now (stack .entry)) (now (stack .exit)) r ⌝ }
+{
+    match m.two_ints(stack) {
+        TwoInts::Bad(e) => Did::Fail(e),
+        TwoInts::Got(a, b) => match word::rem(a, b) {
+            Quotient::ZeroDivisor => Did::Fail(Error::UndefinedResult),
+            Quotient::Value(w) => Did::Ok(m.replace(stack, 2, TAG_INTEGER, w)),
+        },
+    }
+}
+
+pub fn abs(m: Machine, stack: &mut [u32]) -> Did
+    requires { ⌜ 2 * m .depth ≤ length (now stack) ⌝ }
+    ensures { λ r. ⌜ OnStack (perform (bytes "abs")) m (now (stack .entry)) (now (stack .exit)) r ⌝ }
+{
+    match m.one_int(stack) {
+        OneInt::Bad(e) => Did::Fail(e),
+        OneInt::Got(a) => Did::Ok(m.replace(stack, 1, TAG_INTEGER, word::abs(a))),
+    }
+}
+
+pub fn neg(m: Machine, stack: &mut [u32]) -> Did
+    requires { ⌜ 2 * m .depth ≤ length (now stack) ⌝ }
+    ensures { λ r. ⌜ OnStack (perform (bytes "neg")) m (now (stack .entry)) (now (stack .exit)) r ⌝ }
+{
+    match m.one_int(stack) {
+        OneInt::Bad(e) => Did::Fail(e),
+        OneInt::Got(a) => Did::Ok(m.replace(stack, 1, TAG_INTEGER, word::neg(a))),
+    }
+}
+
+pub fn bitshift(m: Machine, stack: &mut [u32]) -> Did
+    requires { ⌜ 2 * m .depth ≤ length (now stack) ⌝ }
+    ensures { λ r. ⌜ OnStack (perform (bytes "bitshift")) m (now (stack .entry)) (now (stack .exit)) r ⌝ }
+{
+    match m.two_ints(stack) {
+        TwoInts::Bad(e) => Did::Fail(e),
+        TwoInts::Got(a, b) => Did::Ok(m.replace(stack, 2, TAG_INTEGER, word::bitshift(a, b))),
+    }
+}
+
+pub fn lt(m: Machine, stack: &mut [u32]) -> Did
+    requires { ⌜ 2 * m .depth ≤ length (now stack) ⌝ }
+    ensures { λ r. ⌜ OnStack (perform (bytes "lt")) m (now (stack .entry)) (now (stack .exit)) r ⌝ }
+{
+    match m.two_ints(stack) {
+        TwoInts::Bad(e) => Did::Fail(e),
+        TwoInts::Got(a, b) => Did::Ok(m.replace(stack, 2, TAG_BOOLEAN, bit(word::lt(a, b)))),
+    }
+}
+
+pub fn le(m: Machine, stack: &mut [u32]) -> Did
+    requires { ⌜ 2 * m .depth ≤ length (now stack) ⌝ }
+    ensures { λ r. ⌜ OnStack (perform (bytes "le")) m (now (stack .entry)) (now (stack .exit)) r ⌝ }
+{
+    match m.two_ints(stack) {
+        TwoInts::Bad(e) => Did::Fail(e),
+        TwoInts::Got(a, b) => Did::Ok(m.replace(stack, 2, TAG_BOOLEAN, bit(word::le(a, b)))),
+    }
+}
+
+pub fn gt(m: Machine, stack: &mut [u32]) -> Did
+    requires { ⌜ 2 * m .depth ≤ length (now stack) ⌝ }
+    ensures { λ r. ⌜ OnStack (perform (bytes "gt")) m (now (stack .entry)) (now (stack .exit)) r ⌝ }
+{
+    match m.two_ints(stack) {
+        TwoInts::Bad(e) => Did::Fail(e),
+        TwoInts::Got(a, b) => Did::Ok(m.replace(stack, 2, TAG_BOOLEAN, bit(word::gt(a, b)))),
+    }
+}
+
+pub fn ge(m: Machine, stack: &mut [u32]) -> Did
+    requires { ⌜ 2 * m .depth ≤ length (now stack) ⌝ }
+    ensures { λ r. ⌜ OnStack (perform (bytes "ge")) m (now (stack .entry)) (now (stack .exit)) r ⌝ }
+{
+    match m.two_ints(stack) {
+        TwoInts::Bad(e) => Did::Fail(e),
+        TwoInts::Got(a, b) => Did::Ok(m.replace(stack, 2, TAG_BOOLEAN, bit(word::ge(a, b)))),
+    }
+}
+
+fn bit(b: bool) -> u32
+    ensures { λ r. ⌜ r ≡ bitOf b ⌝ }
+{
+    if b { 1 } else { 0 }
+}

@@ -1,0 +1,12 @@
+pub mod Standing
+pub mod Places
+pub mod Sorts
+pub mod Deaths
+pub mod Changes
+pub mod Elements
+pub mod Rooting
+pub mod Fresh
+pub mod Bytes
+pub mod Holding
+pub mod Rooming
+pub mod Counting
