@@ -173,7 +173,8 @@ module _ {keys : List (List ℕ)} {n : ℕ} {ρ : ℕ → ℕ} {g : Ghost} {m : 
       omega (arith, byte-read c k i max (down-at (g .own) (g .top) (g .size) (λ x. word m x 2) (S .chains) (a + 2) (i / 8) k z) w z l)
 
   -- and it is set there.
-  pub byte-set : {e p hand : ℕ} {m′ : List ℕ} → Shape g e m → Counts g p hand m → (c k i b : ℕ) (bs : List ℕ) → g .own c ≡ on (a + 2) k → objectAt store (ρ a) ≡ text bs → g .size (a + 2) ≡ i / 8 + suc k → i < length bs → b < 256
+  pub byte-set : {e p hand : ℕ} {m′ : List ℕ} → Shape g e m → Counts g p hand m
+      → (c k i b : ℕ) (bs : List ℕ) → g .own c ≡ on (a + 2) k → objectAt store (ρ a) ≡ text bs → g .size (a + 2) ≡ i / 8 + suc k → i < length bs → b < 256
       → Put m c (i % 8 / 4) (withByte (word m c (i % 8 / 4)) (i % 8 % 4) b) m′ → Rep keys n ρ g m′ (set store (ρ a) (text (set bs i b))) roots
   byte-set S C c k i b bs oc ob z l small P = let s : i / 8 * 8 + i % 8 ≡ i = omega arith in
       rw s at (rep-byte S C R c a k (i / 8) (i % 8) b bs oc la ob z (omega arith) (omega arith) small P)

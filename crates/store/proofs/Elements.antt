@@ -1,5 +1,5 @@
--- An element of a live array becomes another value: the cells then stand for the store with that element set. By cases on the cell that is
--- stored to and the others; the release that follows changes nothing more.
+-- An element of a live array is read, and becomes another value: the cells then stand for the store with that element set. By cases on the
+-- cell that is stored to and the others; the release that follows changes nothing more.
 -- Assumes nothing.
 use mathlib.Core.Path.{_≡_, refl, sym, ap, _∙_}
 use mathlib.Core.List.{List, [], map}

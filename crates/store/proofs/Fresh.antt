@@ -22,7 +22,6 @@ use Rattle.heap.specs.Assign.{Alives}
 use Rattle.heap.specs.declared.Lists.{Lists}
 use Rattle.heap.proofs.Upds.{upd-same, upd-at, upd-other, same?}
 use Rattle.heap.proofs.Chains.{fresh-on, fresh-live}
-use Rattle.heap.proofs.Parts as parts
 use Rattle.heap.proofs.Since.{lt-or-le}
 use Rattle.store.specs.Rep.{isText, Stands, a-null, a-string, an-array, a-procedure, byteOf, Names, objectAt, element, Alive, Rep}
 use Rattle.store.proofs.Standing.{getElem?-append, stands-map, stands-keys, names-cast, null-names, at-kind}
@@ -91,7 +90,8 @@ module _ (store : List Object) (o : Object) where
         (λ (l : j < length store). rw (old j l) at w)
         (λ (l : length store ≤ j). ⊎-elim
         (λ (e : j ≡ length store). absurd (null-names w (ap (λ x. element (store ++ (o ∷ [])) x q) e ∙ ap (λ x. getD (elementsOf x) q null) new ∙ nulls q)))
-        (λ (e : j ≡ length store → ⊥). absurd (null-names w (ap (λ x. getD (elementsOf x) q null) (List·getD-eq-default (store ++ (o ∷ [])) (elements []) {n = j} (omega (arith, more-length)))))) (same? j (length store)))
+        (λ (e : j ≡ length store → ⊥).
+        absurd (null-names w (ap (λ x. getD (elementsOf x) q null) (List·getD-eq-default (store ++ (o ∷ [])) (elements []) {n = j} (omega (arith, more-length)))))) (same? j (length store)))
         (lt-or-le j (length store))
 
 -- A value stands as before where header h, which did not live, stands for the new object;
