@@ -91,7 +91,7 @@ pub fn seek(m: &[u32], h: u32, i: u32) -> u32
 pub fn allocate(s: Lists, m: &mut [u32], kind: u32, n: u32) -> Taken
     requires { ⌜ ((p : ℕ) × (g : Ghost) × Full g p 0 s (now m)) ⌝ }
     requires { ⌜ n + 1 + s .edge ≤ cells (now m) + s .listed ⌝ }
-    ensures { λ r. ⌜ (r .lists .listed + s .edge + n + 1 ≡ s .listed + r .lists .edge) × Made kind n (r .cell) s (now (m .entry)) (r .lists) (now (m .exit)) ⌝ }
+    ensures { λ r. ⌜ (r .lists .listed + s .edge + n + 1 ≡ s .listed + r .lists .edge) × Made kind n (r .cell) s (now (m .entry)) (r .lists) (now (m .exit)) × (r .lists .dead ≡ s .dead) ⌝ }
 {
     let t = new_header(s, m, kind);
     let h = t.cell;
@@ -150,7 +150,7 @@ pub fn release(s: Lists, m: &mut [u32], o: u32) -> Lists
 // A free cell, off its list.
 fn take(s: Lists, m: &[u32]) -> Taken
     requires { ⌜ Fine s (now m) × (s .edge < cells (now m) + s .listed) ⌝ }
-    ensures { λ r. ⌜ (r .lists .listed + s .edge + 1 ≡ s .listed + r .lists .edge) × Took s (now (m .entry)) (r .cell) (r .lists) ⌝ }
+    ensures { λ r. ⌜ (r .lists .listed + s .edge + 1 ≡ s .listed + r .lists .edge) × Took s (now (m .entry)) (r .cell) (r .lists) × (r .lists .dead ≡ s .dead) ⌝ }
 {
     if s.listed == 0 {
         let lists = Lists {
@@ -181,7 +181,7 @@ fn take(s: Lists, m: &[u32]) -> Taken
 // A header with no body, in hand.
 fn new_header(s: Lists, m: &mut [u32], kind: u32) -> Taken
     requires { ⌜ Fine s (now m) × (s .edge < cells (now m) + s .listed) ⌝ }
-    ensures { λ r. ⌜ (r .lists .listed + s .edge + 1 ≡ s .listed + r .lists .edge) × Made kind 0 (r .cell) s (now (m .entry)) (r .lists) (now (m .exit)) ⌝ }
+    ensures { λ r. ⌜ (r .lists .listed + s .edge + 1 ≡ s .listed + r .lists .edge) × Made kind 0 (r .cell) s (now (m .entry)) (r .lists) (now (m .exit)) × (r .lists .dead ≡ s .dead) ⌝ }
 {
     let t = take(s, m);
     let h = t.cell;
@@ -194,7 +194,7 @@ fn new_header(s: Lists, m: &mut [u32], kind: u32) -> Taken
 // The body of the live header h gets one cell more, in front.
 fn prepend(s: Lists, m: &mut [u32], h: u32) -> Lists
     requires { ⌜ FineLive h s (now m) × (s .edge < cells (now m) + s .listed) ⌝ }
-    ensures { λ r. ⌜ (r .listed + s .edge + 1 ≡ s .listed + r .edge) × Grew 1 h s (now (m .entry)) r (now (m .exit)) ⌝ }
+    ensures { λ r. ⌜ (r .listed + s .edge + 1 ≡ s .listed + r .edge) × Grew 1 h s (now (m .entry)) r (now (m .exit)) × (r .dead ≡ s .dead) ⌝ }
 {
     let t = take(s, m);
     let c = t.cell;

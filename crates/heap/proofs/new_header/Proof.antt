@@ -45,7 +45,7 @@ returns c =
     let after-put2 = c .before .before .before .before .before .before in
     let after-put = after-put2 .before .before .before .before in
     let after-take = after-put .before .before in
-    (after-take .take .ensures .0, λ p g F. headed F (after-take .take .ensures .1) (after-put .put .ensures) (after-put2 .put2 .ensures) (c .before .before .put3 .ensures))
+    (after-take .take .ensures .0, λ p g F. headed F (after-take .take .ensures .1) (after-put .put .ensures) (after-put2 .put2 .ensures) (c .before .before .put3 .ensures), after-take .take .ensures .2)
 
 pub new-header-spec : {M : Type 1} → statement M
 new-header-spec =

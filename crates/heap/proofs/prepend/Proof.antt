@@ -72,7 +72,7 @@ returns c =
     let filled = after-init-cell .init-cell .ensures in
     let first = after-put .put .ensures in
     let size = after-put2 .put2 .ensures in
-    (taken .0, λ p hand g F l. grown F l (taken .1) (after-get .get .ensures) (after-get2 .get2 .ensures) (after-skip-word .skip-word .ensures) filled first size)
+    (taken .0, λ p hand g F l. grown F l (taken .1) (after-get .get .ensures) (after-get2 .get2 .ensures) (after-skip-word .skip-word .ensures) filled first size, taken .2)
 
 pub prepend-spec : {M : Type 1} → statement M
 prepend-spec =

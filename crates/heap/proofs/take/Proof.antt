@@ -19,10 +19,10 @@ sub-t10 : tie.Need-sub-t10
 sub-t10 c = search needs
 
 returns : tie.Need-returns
-returns c = (omega arith, λ p hand g F. edges F (c .before .if1 .taken) (omega arith))
+returns c = (omega arith, λ p hand g F. edges F (c .before .if1 .taken) (omega arith), refl)
 
 returns-2 : tie.Need-returns-2
-returns-2 c = (omega arith, λ p hand g F. rw (c .before .get .ensures) (picks F (c .before .before .if1 .left)))
+returns-2 c = (omega arith, λ p hand g F. rw (c .before .get .ensures) (picks F (c .before .before .if1 .left)), refl)
 
 pub take-spec : {M : Type 1} → statement M
 take-spec = tie.close (tie.spec add-t9 get-requires sub-t10 returns returns-2)
