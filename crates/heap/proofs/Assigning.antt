@@ -31,6 +31,7 @@ module _ (g : Ghost) (e p : ℕ) (m m′ : List ℕ) (S : Shape g e m) (C : Coun
     header = λ x. rw (P .there x 1 (omega arith) (λ q r. omega arith), P .there x 3 (omega arith) (λ q r. omega arith)) (S .header x);
     counted = rw (P .size) (S .counted);
     skips = λ x s k i q. rw (P .there x 3 (omega arith) (λ r t. omega arith)) (S .skips x s k i q);
+    plain = λ x s k i q. rw (P .there x 3 (omega arith) (λ r t. omega arith)) (S .plain x s k i q);
   }
 
   rise-counts : Counts g p (suc o) m′
@@ -88,6 +89,7 @@ module _ (g : Ghost) (e p tag pay : ℕ) (m m₁ m₂ : List ℕ) (S : Shape g e
         (λ (q : x ≡ c → ⊥). rw (same x 1 (omega arith) (λ r. absurd (q r)), same x 3 (omega arith) (λ r. absurd (q r))) (S .header x)) (same? x c);
     counted = rw long (S .counted);
     skips = λ x s j i q. rw (same x 3 (omega arith) (λ _. inr refl)) (S .skips x s j i q);
+    plain = λ x s j i q. rw (same x 3 (omega arith) (λ _. inr refl)) (S .plain x s j i q);
   }
 
   pub swap-counts : Counts (aimed g c (target 0 tag pay)) p (g .aim c) m₂

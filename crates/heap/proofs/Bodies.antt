@@ -1,6 +1,6 @@
 -- A body gets one cell more, and a header is made: a cell on no list changes its owner, at one point of the ghost.
 -- Assumes nothing.
-use Prim.Native.Nat.{ℕ, zero, suc, _+_, _≤_, _<_}
+use Prim.Native.Nat.{ℕ, zero, suc, _+_, _-_, _≤_, _<_}
 use mathlib.Core.Path.{_≡_, refl, sym, ap, _∙_}
 use mathlib.Core.Bool.{Bool, true, false}
 use mathlib.Core.List.{List}
@@ -11,15 +11,17 @@ use lib.Dec.{eqb}
 use Rattle.heap.specs.Word.{word, Put}
 use Rattle.heap.specs.Upd.{pick, upd, total}
 use Rattle.heap.specs.Chain.{Owner, live, out, on}
-use Rattle.heap.specs.Shape.{Ghost, Shape, Skip, Counts, Full, NoOut, OnlyOut, Header, cells, isHead, isBody, isFresh, isOn, is, target, pushed}
+use Rattle.heap.specs.Shape.{Ghost, Shape, Skip, Counts, Full, NoOut, OnlyOut, Header, cells, isHead, isBody, isFresh, isOn, is, target, pushed, headerMark}
 use Rattle.heap.specs.Grow.{Grows, Took, Filled}
 use Rattle.heap.specs.declared.Lists.{Lists}
 use Rattle.heap.proofs.Upds.{upd-same, upd-at, upd-other, same?, at-upd, upd-keeps, total-same}
 use Rattle.heap.proofs.Chains.{push, out-on, out-live, live-on, on-list, on-rank, no-out}
-use Rattle.heap.proofs.Skips.{skips-aside}
+use Rattle.heap.proofs.Skips.{skips-aside, plain-aside}
 use Rattle.heap.proofs.Shapes.{inside, header-of, push-counted}
 use Rattle.heap.proofs.Pops.{body-head}
 use Rattle.heap.proofs.Falls.{is-same, is-other, true-false, body-object}
+use Rattle.heap.proofs.Walks.{skip-plain}
+use Rattle.heap.proofs.Since.{lt-or-le}
 use Rattle.heap.proofs.Growing.{grows-trans}
 
 target-null : (kind pay : ℕ) → target kind 0 pay ≡ 0
@@ -45,8 +47,8 @@ module _ {g : Ghost} {e : ℕ} {m : List ℕ} (S : Shape g e m) (c : ℕ) (oc : 
 
 module _ (g : Ghost) (e p hand : ℕ) (m m′ : List ℕ) (S : Shape g e m) (C : Counts g p hand m) (h c : ℕ) (lh : g .own h ≡ live) (oc : g .own c ≡ out) (long : length m′ ≡ length m)
     (c0 : word m′ c 0 ≡ 0) (c1 : word m′ c 1 ≡ 0) (c2 : word m′ c 2 ≡ g .top (h + 2))
-    (c3 : (k : ℕ) → g .size (h + 2) ≡ suc k → Skip (g .own) (h + 2) k (word m′ c 3))
-    (h1 : word m′ h 1 ≡ suc (g .size (h + 2))) (h3 : word m′ h 3 ≡ c)
+    (c3 : (k : ℕ) → g .size (h + 2) ≡ suc k → Skip (g .own) (h + 2) k (word m′ c 3)) (unmarked : word m′ c 3 < headerMark)
+    (h1 : word m′ h 1 ≡ suc (g .size (h + 2))) (h3 : word m′ h 3 ≡ headerMark + c)
     (same : (x u : ℕ) → u < 4 → (x ≡ c → ⊥) → (x ≡ h → (u ≡ 0) ⊎ (u ≡ 2)) → word m′ x u ≡ word m x u) where
   v : Owner
   v = on (h + 2) (g .size (h + 2))
@@ -83,6 +85,9 @@ module _ (g : Ghost) (e p hand : ℕ) (m m′ : List ℕ) (S : Shape g e m) (C :
     skips = λ d s k l. at-upd (λ w. w ≡ on s (suc k) → Skip (upd (g .own) c v) s k (word m′ d 3)) (g .own) c v d
         (λ r q. rw (r, ← on-list q) (skip-stays (c3 k (on-rank q))))
         (λ r q. rw (same d 3 (omega arith) r (λ t. absurd (live-on (sym lh ∙ ap (g .own) (sym t) ∙ q)))) (skip-stays (S .skips d s k l q)));
+    plain = λ d s k l. at-upd (λ w. w ≡ on s k → word m′ d 3 < headerMark) (g .own) c v d
+        (λ r q. rw r unmarked)
+        (λ r q. rw (same d 3 (omega arith) r (λ t. absurd (live-on (sym lh ∙ ap (g .own) (sym t) ∙ q)))) (S .plain d s k l q));
   }
 
   pub grow-counts : Counts (pushed g (h + 2) c) p hand m′
@@ -122,10 +127,10 @@ module _ (g : Ghost) (e p hand : ℕ) (m m′ : List ℕ) (S : Shape g e m) (C :
   }
 
 module _ (g : Ghost) (e p : ℕ) (m m′ : List ℕ) (S : Shape g e m) (C : Counts g p 0 m) (h : ℕ) (oh : g .own h ≡ out) (long : length m′ ≡ length m)
-    (w1 : word m′ h 1 ≡ 0) (w2 : word m′ h 2 ≡ 1) (same : (x u : ℕ) → u < 4 → (x ≡ h → ⊥) → word m′ x u ≡ word m x u) where
+    (w1 : word m′ h 1 ≡ 0) (w2 : word m′ h 2 ≡ 1) (w3 : word m′ h 3 ≡ headerMark) (same : (x u : ℕ) → u < 4 → (x ≡ h → ⊥) → word m′ x u ≡ word m x u) where
   -- the header h lives
   abbrev born : Ghost
-  born = record { own = upd (g .own) h live; top = upd (g .top) (h + 2) (word m′ h 3); size = g .size; aim = g .aim }
+  born = record { own = upd (g .own) h live; top = upd (g .top) (h + 2) 0; size = g .size; aim = g .aim }
 
   stay : (x : ℕ) {o : Owner} → g .own x ≡ o → (out ≡ o → ⊥) → (upd (g .own) h live x ≡ o) × (x ≡ h → ⊥)
   stay x q n = let r : x ≡ h → ⊥ = λ r. n (sym oh ∙ ap (g .own) (sym r) ∙ q) in (upd-other (g .own) h live x r ∙ q, r)
@@ -138,17 +143,18 @@ module _ (g : Ghost) (e p : ℕ) (m m′ : List ℕ) (S : Shape g e m) (C : Coun
     chains = record {
       above = λ c s k q. S .chains .above c s k (was-on c s k q);
       link = λ c s k q. let b = was-on c s (suc k) q in rw (same c 2 (omega arith) (stay c b out-on .1)) (stay (word m c 2) (S .chains .link c s k b) out-on .0);
-      first = λ s k q. rw (upd-other (g .top) (h + 2) (word m′ h 3) s (λ r. omega (arith, ap (g .size) r, bare S h oh))) (stay (g .top s) (S .chains .first s k q) out-on .0);
+      first = λ s k q. rw (upd-other (g .top) (h + 2) 0 s (λ r. omega (arith, ap (g .size) r, bare S h oh))) (stay (g .top s) (S .chains .first s k q) out-on .0);
       one = λ c d s k q r. S .chains .one c d s k (was-on c s k q) (was-on d s k r);
     };
     few = rw long (S .few);
     within = rw long (S .within);
     low = λ d. upd-keeps isFresh (g .own) h live d (sym (ap isFresh oh)) ∙ S .low d;
-    header = λ x. at-upd (λ w. Header (isHead w) (g .size (x + 2)) (upd (g .top) (h + 2) (word m′ h 3) (x + 2)) (word m′ x 1) (word m′ x 3)) (g .own) h live x
-        (λ r. rw (r, upd-same (g .top) (h + 2) (word m′ h 3)) (w1 ∙ sym (bare S h oh), refl))
-        (λ r. rw (upd-other (g .top) (h + 2) (word m′ h 3) (x + 2) (λ s. r (omega arith)), same x 1 (omega arith) r, same x 3 (omega arith) r) (S .header x));
+    header = λ x. at-upd (λ w. Header (isHead w) (g .size (x + 2)) (upd (g .top) (h + 2) 0 (x + 2)) (word m′ x 1) (word m′ x 3)) (g .own) h live x
+        (λ r. rw (r, upd-same (g .top) (h + 2) 0) (w1 ∙ sym (bare S h oh), omega (arith, w3)))
+        (λ r. rw (upd-other (g .top) (h + 2) 0 (x + 2) (λ s. r (omega arith)), same x 1 (omega arith) r, same x 3 (omega arith) r) (S .header x));
     counted = rw long (λ t. total-same (λ c. isOn t (g .own c)) (λ c. isOn t (upd (g .own) h live c)) (cells m) (λ c _. upd-keeps (isOn t) (g .own) h live c (sym (ap (isOn t) oh))) ∙ S .counted t);
     skips = skips-aside S h out live oh refl refl m′ (λ x s k q. same x 3 (omega arith) (stay x q out-on .1));
+    plain = plain-aside S h out live oh refl refl m′ (λ x s k q. same x 3 (omega arith) (stay x q out-on .1));
   }
 
   pub head-counts : Counts born p (suc h) m′
@@ -186,16 +192,17 @@ module _ (g : Ghost) (e p : ℕ) (m m′ : List ℕ) (S : Shape g e m) (C : Coun
   }
 
 -- the two, as the code does them
-pub grown : {g : Ghost} {p hand h c first n w : ℕ} {s r : Lists} {m m₁ m₂ m₃ : List ℕ} → Full g p hand s m → g .own h ≡ live → Took s m c r → first ≡ word m h 3 → n ≡ word m h 1
-    → ((g : Ghost) (e s : ℕ) → Shape g e m → 2 ≤ s → g .size s ≡ n → g .top s ≡ first → (k : ℕ) → n ≡ suc k → Skip (g .own) s k w)
-    → Filled m c first w m₁ → Put m₁ h 3 c m₂ → Put m₂ h 1 (n + 1) m₃
+pub grown : {g : Ghost} {p hand h c first n w : ℕ} {s r : Lists} {m m₁ m₂ m₃ : List ℕ} → Full g p hand s m → g .own h ≡ live → Took s m c r → first ≡ word m h 3 - headerMark → n ≡ word m h 1
+    → ((g : Ghost) (e s : ℕ) → Shape g e m → 2 ≤ s → g .size s ≡ n → g .top s ≡ first → (k : ℕ) → n ≡ suc k → Skip (g .own) s k w) → (n ≡ 0 → w ≡ 0)
+    → Filled m c first w m₁ → Put m₁ h 3 (headerMark + c) m₂ → Put m₂ h 1 (n + 1) m₃
     → (g′ : Ghost) × Full g′ p hand r m₃ × Grows h g m g′ m₃ × (g′ .own h ≡ live) × (g′ .size (h + 2) ≡ 1 + g .size (h + 2)) × (NoOut g → NoOut g′)
-grown {g} {p} {hand} {h} {c} {first} {n} {w} {s} {r} {m} {m₁} {m₂} {m₃} F l T ef en K Fi P₂ P₃ =
+grown {g} {p} {hand} {h} {c} {first} {n} {w} {s} {r} {m} {m₁} {m₂} {m₃} F l T ef en K K₀ Fi P₂ P₃ =
     let X = T p hand g F in
     let g₁ = X .0 in
     let S = X .1 .heap .shape in
     let hc : h ≡ c → ⊥ = λ q. out-live (sym (X .2) ∙ ap (g₁ .own) (sym q) ∙ l₁ X) in
     let head = header-of S h (l₁ X) refl in
+    let top : first ≡ g₁ .top (h + 2) = omega (arith, head .1) in
     let same : (x u : ℕ) → u < 4 → (x ≡ c → ⊥) → (x ≡ h → (u ≡ 0) ⊎ (u ≡ 2)) → word m₃ x u ≡ word m x u =
     λ x u a b d. P₃ .there x u a (λ q w. ⊎-elim (λ (z : u ≡ 0). omega arith) (λ (z : u ≡ 2). omega arith) (d q))
     ∙ P₂ .there x u a (λ q w. ⊎-elim (λ (z : u ≡ 0). omega arith) (λ (z : u ≡ 2). omega arith) (d q)) ∙ Fi .there x u a b in
@@ -203,24 +210,26 @@ grown {g} {p} {hand} {h} {c} {first} {n} {w} {s} {r} {m} {m₁} {m₂} {m₃} F 
     let long : length m₃ ≡ length m = P₃ .size ∙ P₂ .size ∙ Fi .size in
     let c0 = at-c 0 (omega arith) ∙ Fi .tag in
     let c1 = at-c 1 (omega arith) ∙ Fi .pay in
-    let c2 = at-c 2 (omega arith) ∙ Fi .next ∙ ef ∙ head .1 in
+    let c2 = at-c 2 (omega arith) ∙ Fi .next ∙ top in
     let c3 : (k : ℕ) → g₁ .size (h + 2) ≡ suc k → Skip (g₁ .own) (h + 2) k (word m₃ c 3) =
-    λ k z. rw (at-c 3 (omega arith), Fi .skip) (K g₁ _ (h + 2) S (omega arith) (sym (head .0) ∙ sym en) (sym (head .1) ∙ sym ef) k (en ∙ head .0 ∙ z)) in
+    λ k z. rw (at-c 3 (omega arith), Fi .skip) (K g₁ _ (h + 2) S (omega arith) (sym (head .0) ∙ sym en) (sym top) k (en ∙ head .0 ∙ z)) in
+    let unmarked : word m₃ c 3 < headerMark = rw (at-c 3 (omega arith), Fi .skip) (⊎-elim (λ (q : 0 < n). skip-plain S (h + 2) (n - 1) w
+    (K g₁ _ (h + 2) S (omega arith) (sym (head .0) ∙ sym en) (sym top) (n - 1) (omega arith))) (λ (q : n ≤ 0). omega (arith, K₀ (omega arith))) (lt-or-le 0 n)) in
     let h1 : word m₃ h 1 ≡ suc (g₁ .size (h + 2)) = omega (arith, P₃ .here, head .0) in
     let h3 = P₃ .there h 3 (omega arith) (λ q w. omega arith) ∙ P₂ .here in
     let H = X .1 .heap in (
       pushed g₁ (h + 2) c,
       record {
         heap = record {
-          shape = grow-shape g₁ _ p hand m m₃ S (X .1 .counts) h c (l₁ X) (X .2) long c0 c1 c2 c3 h1 h3 same;
+          shape = grow-shape g₁ _ p hand m m₃ S (X .1 .counts) h c (l₁ X) (X .2) long c0 c1 c2 c3 unmarked h1 h3 same;
           free = upd-other (g₁ .top) (h + 2) c 0 (λ q. omega arith) ∙ H .free;
           listed = upd-other (g₁ .size) (h + 2) (suc (g₁ .size (h + 2))) 0 (λ q. omega arith) ∙ H .listed;
           work = upd-other (g₁ .top) (h + 2) c 1 (λ q. omega arith) ∙ H .work;
           dead = upd-other (g₁ .size) (h + 2) (suc (g₁ .size (h + 2))) 1 (λ q. omega arith) ∙ H .dead;
         };
-        counts = grow-counts g₁ _ p hand m m₃ S (X .1 .counts) h c (l₁ X) (X .2) long c0 c1 c2 c3 h1 h3 same;
+        counts = grow-counts g₁ _ p hand m m₃ S (X .1 .counts) h c (l₁ X) (X .2) long c0 c1 c2 c3 unmarked h1 h3 same;
       },
-      grows-trans (X .3 h) (grow-grows g₁ _ p hand m m₃ S (X .1 .counts) h c (l₁ X) (X .2) long c0 c1 c2 c3 h1 h3 same) (λ _. l₁ X),
+      grows-trans (X .3 h) (grow-grows g₁ _ p hand m m₃ S (X .1 .counts) h c (l₁ X) (X .2) long c0 c1 c2 c3 unmarked h1 h3 same) (λ _. l₁ X),
       upd-other (g₁ .own) c (on (h + 2) (g₁ .size (h + 2))) h hc ∙ l₁ X,
       upd-same (g₁ .size) (h + 2) (suc (g₁ .size (h + 2))) ∙ omega (arith, X .3 c .lives h hc l .1),
       λ n. no-out (g₁ .own) c (on (h + 2) (g₁ .size (h + 2))) (X .4 n) (λ q. out-on (sym q)),
@@ -230,33 +239,34 @@ grown {g} {p} {hand} {h} {c} {first} {n} {w} {s} {r} {m} {m₁} {m₂} {m₃} F 
     l₁ : (X : (g′ : Ghost) × Full g′ p hand r m × (g′ .own c ≡ out) × ((x : ℕ) → Grows x g m g′ m) × (NoOut g → OnlyOut g′ c)) → X .0 .own h ≡ live
     l₁ X = X .3 (suc h) .lives h (λ q. omega arith) l .0
 
-pub headed : {g : Ghost} {p h kind : ℕ} {s r : Lists} {m m₁ m₂ m₃ : List ℕ} → Full g p 0 s m → Took s m h r → Put m h 0 kind m₁ → Put m₁ h 1 0 m₂ → Put m₂ h 2 1 m₃
-    → (g′ : Ghost) × Full g′ p (suc h) r m₃ × Grows h g m g′ m₃ × (g′ .own h ≡ live) × (g′ .size (h + 2) ≡ 0) × (word m₃ h 0 ≡ kind) × (g .own h ≡ live → ⊥) × (NoOut g → NoOut g′)
+pub headed : {g : Ghost} {p h kind : ℕ} {s r : Lists} {m m₁ m₂ m₃ m₄ : List ℕ} → Full g p 0 s m → Took s m h r → Put m h 0 kind m₁ → Put m₁ h 1 0 m₂ → Put m₂ h 2 1 m₃ → Put m₃ h 3 headerMark m₄
+    → (g′ : Ghost) × Full g′ p (suc h) r m₄ × Grows h g m g′ m₄ × (g′ .own h ≡ live) × (g′ .size (h + 2) ≡ 0) × (word m₄ h 0 ≡ kind) × (g .own h ≡ live → ⊥) × (NoOut g → NoOut g′)
     × ((c k : ℕ) → g .own c ≡ on (h + 2) k → ⊥)
-headed {g} {p} {h} {kind} {s} {r} {m} {m₁} {m₂} {m₃} F T P₁ P₂ P₃ =
+headed {g} {p} {h} {kind} {s} {r} {m} {m₁} {m₂} {m₃} {m₄} F T P₁ P₂ P₃ P₄ =
     let X = T p 0 g F in
     let g₁ = X .0 in
     let H = X .1 .heap in
     let S = H .shape in
-    let same : (x u : ℕ) → u < 4 → (x ≡ h → ⊥) → word m₃ x u ≡ word m x u = λ x u a b. P₃ .there x u a (λ q _. b q) ∙ P₂ .there x u a (λ q _. b q) ∙ P₁ .there x u a (λ q _. b q) in
-    let long : length m₃ ≡ length m = P₃ .size ∙ P₂ .size ∙ P₁ .size in
-    let w1 = P₃ .there h 1 (omega arith) (λ q w. omega arith) ∙ P₂ .here in
+    let same : (x u : ℕ) → u < 4 → (x ≡ h → ⊥) → word m₄ x u ≡ word m x u = λ x u a b. P₄ .there x u a (λ q _. b q) ∙ P₃ .there x u a (λ q _. b q) ∙ P₂ .there x u a (λ q _. b q) ∙ P₁ .there x u a (λ q _. b q) in
+    let long : length m₄ ≡ length m = P₄ .size ∙ P₃ .size ∙ P₂ .size ∙ P₁ .size in
+    let w1 = P₄ .there h 1 (omega arith) (λ q w. omega arith) ∙ P₃ .there h 1 (omega arith) (λ q w. omega arith) ∙ P₂ .here in
+    let w2 = P₄ .there h 2 (omega arith) (λ q w. omega arith) ∙ P₃ .here in
     let was : g .own h ≡ live → g₁ .own h ≡ live = λ q. X .3 (suc h) .lives h (λ w. omega arith) q .0 in (
-      born g₁ _ p m m₃ S (X .1 .counts) h (X .2) long w1 (P₃ .here) same,
+      born g₁ _ p m m₄ S (X .1 .counts) h (X .2) long w1 w2 (P₄ .here) same,
       record {
         heap = record {
-          shape = head-shape g₁ _ p m m₃ S (X .1 .counts) h (X .2) long w1 (P₃ .here) same;
-          free = upd-other (g₁ .top) (h + 2) (word m₃ h 3) 0 (λ q. omega arith) ∙ H .free;
+          shape = head-shape g₁ _ p m m₄ S (X .1 .counts) h (X .2) long w1 w2 (P₄ .here) same;
+          free = upd-other (g₁ .top) (h + 2) 0 0 (λ q. omega arith) ∙ H .free;
           listed = H .listed;
-          work = upd-other (g₁ .top) (h + 2) (word m₃ h 3) 1 (λ q. omega arith) ∙ H .work;
+          work = upd-other (g₁ .top) (h + 2) 0 1 (λ q. omega arith) ∙ H .work;
           dead = H .dead;
         };
-        counts = head-counts g₁ _ p m m₃ S (X .1 .counts) h (X .2) long w1 (P₃ .here) same;
+        counts = head-counts g₁ _ p m m₄ S (X .1 .counts) h (X .2) long w1 w2 (P₄ .here) same;
       },
-      grows-trans (X .3 h) (head-grows g₁ _ p m m₃ S (X .1 .counts) h (X .2) long w1 (P₃ .here) same) was,
+      grows-trans (X .3 h) (head-grows g₁ _ p m m₄ S (X .1 .counts) h (X .2) long w1 w2 (P₄ .here) same) was,
       upd-same (g₁ .own) h live,
       bare S h (X .2),
-      P₃ .there h 0 (omega arith) (λ q w. omega arith) ∙ P₂ .there h 0 (omega arith) (λ q w. omega arith) ∙ P₁ .here,
+      P₄ .there h 0 (omega arith) (λ q w. omega arith) ∙ P₃ .there h 0 (omega arith) (λ q w. omega arith) ∙ P₂ .there h 0 (omega arith) (λ q w. omega arith) ∙ P₁ .here,
       λ q. out-live (sym (X .2) ∙ was q),
       λ n. no-out (g₁ .own) h live (X .4 n) (λ q. out-live (sym q)),
       λ c k q. not-header S h (X .2) c h k (X .3 h .keeps c h k q .0) refl,

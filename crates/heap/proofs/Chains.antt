@@ -1,7 +1,7 @@
 -- A cell goes on a list, and off it, at its front: every other cell keeps its list and its rank, so each fact has two cases.
 -- Assumes nothing.
 use Prim.Native.Nat.{ℕ, suc, _<_, _≤_}
-use mathlib.Core.Path.{_≡_, sym, ap, _∙_}
+use mathlib.Core.Path.{_≡_, refl, sym, ap, _∙_}
 use mathlib.Core.Logic.{⊎-elim}
 use native.Mathlib.Omega.{arith}
 use Rattle.heap.specs.Upd.{upd}
@@ -124,8 +124,9 @@ module _ (own : ℕ → Owner) (top size nxt : ℕ → ℕ) (K : Chains own top 
   keeps d s k e ne = upd-other own (top t) out d
       (λ q. let p : on t n ≡ on s k = sym (K .first t n z) ∙ ap own (sym q) ∙ e in ne (sym (on-list p)) (sym (on-rank p))) ∙ e
 
-  pub pop : Chains (upd own (top t) out) (upd top t (nxt (top t))) (upd size t n) nxt
-  pop = record {
+  -- v is the next cell, if there is one
+  pub pop-to : (v : ℕ) → ((k : ℕ) → n ≡ suc k → v ≡ nxt (top t)) → Chains (upd own (top t) out) (upd top t v) (upd size t n) nxt
+  pop-to v next = record {
     above = λ d s k e. let p : (own d ≡ on s k) × (d ≡ top t → ⊥) = was d s k e in ⊎-elim
         (λ r. rw (upd-at size t n s r) (strict k n (omega (arith, K .above d s k (p .0), ap size r)) (λ x. p .1 (K .one d (top t) s k (p .0) (cc (K .first t n z))))))
         (λ r. rw (upd-other size t n s r) (K .above d s k (p .0))) (same? s t);
@@ -133,10 +134,13 @@ module _ (own : ℕ → Owner) (top size nxt : ℕ → ℕ) (K : Chains own top 
         keeps (nxt d) s k (K .link d s k (p .0)) (λ x y. omega (arith, K .above d s (suc k) (p .0), ap size x));
     first = λ s k e. ⊎-elim
         (λ r. let p : n ≡ suc k = sym (upd-at size t n s r) ∙ e in
-        rw (upd-at top t (nxt (top t)) s r)
+        rw (upd-at top t v s r, next k p)
         (keeps (nxt (top t)) s k (rw r (K .link (top t) t k (rw (← p) (K .first t n z)))) (λ x y. omega arith)))
         (λ r. let p : size s ≡ suc k = sym (upd-other size t n s r) ∙ e in
-        rw (upd-other top t (nxt (top t)) s r) (keeps (top s) s k (K .first s k p) (λ x y. r x)))
+        rw (upd-other top t v s r) (keeps (top s) s k (K .first s k p) (λ x y. r x)))
         (same? s t);
     one = λ d d′ s k e e′. K .one d d′ s k (was d s k e .0) (was d′ s k e′ .0);
   }
+
+  pub pop : Chains (upd own (top t) out) (upd top t (nxt (top t))) (upd size t n) nxt
+  pop = pop-to (nxt (top t)) (λ k e. refl)

@@ -14,7 +14,7 @@ use Rattle.heap.specs.Chain.{Owner, fresh, live, out, on}
 use Rattle.heap.specs.Shape.{Ghost, Shape, Counts, Step, cells, isHead, isBody, isObject, isFresh, isOn, is, pushed}
 use Rattle.heap.proofs.Upds.{upd-other, same?, at-upd, upd-keeps}
 use Rattle.heap.proofs.Chains.{push, chains-nxt, live-on, on-list}
-use Rattle.heap.proofs.Skips.{skips-aside}
+use Rattle.heap.proofs.Skips.{skips-aside, plain-aside}
 use Rattle.heap.proofs.Shapes.{inside, push-counted}
 
 pub is-same : (h t : ℕ) → t ≡ suc h → is h t ≡ 1
@@ -42,6 +42,7 @@ module _ (g : Ghost) (e p : ℕ) (m m′ : List ℕ) (S : Shape g e m) (o v : �
     header = λ x. rw (P .there x 1 (omega arith) (λ q r. omega arith), P .there x 3 (omega arith) (λ q r. omega arith)) (S .header x);
     counted = rw (P .size) (S .counted);
     skips = λ x s k i q. rw (P .there x 3 (omega arith) (λ r t. omega arith)) (S .skips x s k i q);
+    plain = λ x s k i q. rw (P .there x 3 (omega arith) (λ r t. omega arith)) (S .plain x s k i q);
   }
 
   pub drop-counts : Counts g p 0 m′
@@ -104,6 +105,7 @@ module _ (g : Ghost) (e p : ℕ) (m m′ : List ℕ) (S : Shape g e m) (o : ℕ)
     ) (S .header d);
     counted = rw (P .size) (push-counted (g .own) (g .size) (cells m) o 1 (g .size 1) (inside S o lo refl .0) (λ t. ap (isOn t) lo) (S .counted));
     skips = skips-aside S o live (on 1 (g .size 1)) lo refl refl m′ (λ x s k q. P .there x 3 (omega arith) (λ r w. omega arith));
+    plain = plain-aside S o live (on 1 (g .size 1)) lo refl refl m′ (λ x s k q. P .there x 3 (omega arith) (λ r w. omega arith));
   }
 
   pub kill-counts : Counts (pushed g 1 o) p 0 m′

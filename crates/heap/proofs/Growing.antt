@@ -16,7 +16,7 @@ use Rattle.heap.specs.Grow.{Grows}
 use Rattle.heap.specs.declared.Lists.{Lists}
 use Rattle.heap.proofs.Upds.{upd-same, upd-at, upd-other, at-upd, upd-keeps, total-same}
 use Rattle.heap.proofs.Chains.{pop, out-on, out-live, fresh-on, only-out}
-use Rattle.heap.proofs.Skips.{skips-aside}
+use Rattle.heap.proofs.Skips.{skips-aside, plain-aside}
 use Rattle.heap.proofs.Shapes.{inside, pop-counted}
 use Rattle.heap.proofs.Since.{lt-or-le}
 use Rattle.heap.proofs.Falls.{quiet-counts, true-false, body-object}
@@ -72,6 +72,7 @@ module _ (g : Ghost) (e : ℕ) (m : List ℕ) (S : Shape g e m) (n : ℕ) (z : g
     ) (S .header x);
     counted = pop-counted (g .own) (g .size) (cells m) b 0 n (inside S b ob refl .0) ob z (S .counted);
     skips = skips-aside S b (on 0 n) out ob refl refl m (λ x s k q. refl);
+    plain = plain-aside S b (on 0 n) out ob refl refl m (λ x s k q. refl);
   }
 
 pub picks : {g : Ghost} {p hand : ℕ} {s : Lists} {m : List ℕ} → Full g p hand s m → (s .listed ≡ 0 → ⊥)
@@ -128,6 +129,7 @@ module _ (g : Ghost) (e : ℕ) (m : List ℕ) (S : Shape g e m) (l : e < cells m
     header = λ x. rw (upd-keeps isHead (g .own) e out x (sym (ap isHead new))) (S .header x);
     counted = λ t. total-same (λ c. isOn t (g .own c)) (λ c. isOn t (upd (g .own) e out c)) (cells m) (λ c _. upd-keeps (isOn t) (g .own) e out c (sym (ap (isOn t) new))) ∙ S .counted t;
     skips = skips-aside S e fresh out new refl refl m (λ x s k q. refl);
+    plain = plain-aside S e fresh out new refl refl m (λ x s k q. refl);
   }
     where
       later : (c : ℕ) → (c ≡ e → ⊥) → leb e c ≡ leb (e + 1) c

@@ -1,6 +1,6 @@
 -- The parts of a release as its functions do them: shape, counts and step of each, put together.
 -- Assumes nothing.
-use Prim.Native.Nat.{ℕ, suc, _+_, _-_, _≤_, _<_}
+use Prim.Native.Nat.{ℕ, suc, _+_, _-_, _%_, _≤_, _<_}
 use mathlib.Core.Path.{_≡_, refl, sym, ap, _∙_}
 use mathlib.Core.List.{List}
 use mathlib.Core.Logic.{inl}
@@ -11,7 +11,7 @@ use lib.ListN.{length}
 use Rattle.heap.specs.Word.{word, Put}
 use Rattle.heap.specs.Upd.{upd}
 use Rattle.heap.specs.Chain.{live, out, on}
-use Rattle.heap.specs.Shape.{Ghost, Heap, Full, NoOut, OnlyOut, target, pushed, popped, emptied, firstObject}
+use Rattle.heap.specs.Shape.{Ghost, Heap, Full, NoOut, OnlyOut, target, pushed, popped, emptied, firstObject, headerMark}
 use Rattle.heap.specs.Gone.{After, Shed}
 use Rattle.heap.specs.declared.Lists.{Lists}
 use Rattle.heap.proofs.Upds.{upd-same, upd-at, upd-other}
@@ -104,12 +104,12 @@ sheds {g} {p} {n} {b} {s} {m} {m′} F l w ln D =
     let d = s .work in
     let f = first-dead F l in
     let h = header-of S d (f .2) refl in
-    let q : b ≡ g .top (d + 2) = D .cell ∙ h .1 in
+    let q : b ≡ g .top (d + 2) = omega (arith, D .cell, h .1) in
     let k : ℕ = n - 1 in
     let z : g .size (d + 2) ≡ suc k = omega (arith, h .0) in
     let P₁ : Put m d 1 k (D .mid) = D .less k (omega arith) in
-    let P₂ : Put (D .mid) d 3 (word m (g .top (d + 2)) 2) m′ = rw q at (D .next) in
-    let v = word m (g .top (d + 2)) 2 in
+    let P₂ : Put (D .mid) d 3 (headerMark + word m (g .top (d + 2)) 2 % headerMark) m′ = rw q at (D .next) in
+    let v = word m (g .top (d + 2)) 2 % headerMark in
     let sw = shed-word g _ m (D .mid) m′ S d (f .0) k (f .2) z P₁ P₂ in
     let ob : g .own b ≡ on (d + 2) k = rw q (S .chains .first (d + 2) k z) in
     let bw : (u : ℕ) → u < 4 → word m′ b u ≡ word m b u = λ u hu. sw b u hu (λ i r. absurd (omega (arith, on-list (sym ob ∙ r)))) in

@@ -12,10 +12,10 @@ use lib.Dec.{eqb}
 use Rattle.heap.specs.Word.{word, Put}
 use Rattle.heap.specs.Upd.{pick, upd, total}
 use Rattle.heap.specs.Chain.{Owner, fresh, live, out, on}
-use Rattle.heap.specs.Shape.{Ghost, Shape, cells, isHead, isFresh, isOn, pushed}
+use Rattle.heap.specs.Shape.{Ghost, Shape, cells, isHead, isFresh, isOn, pushed, headerMark}
 use Rattle.heap.proofs.Upds.{upd-at, upd-other, same?, upd-keeps, total-upd, total-bound}
 use Rattle.heap.proofs.Chains.{push, out-on}
-use Rattle.heap.proofs.Skips.{skips-aside}
+use Rattle.heap.proofs.Skips.{skips-aside, plain-aside}
 
 -- a cell in use lies within the words
 pub inside : {g : Ghost} {e : ℕ} {m : List ℕ} → Shape g e m → (c : ℕ) {o : Owner} → g .own c ≡ o → isFresh o ≡ false → (c < cells m) × (c < e)
@@ -25,7 +25,7 @@ pub room : {g : Ghost} {e : ℕ} {m : List ℕ} → Shape g e m → (c : ℕ) {o
 room S c p f = omega (arith, inside S c p f .0)
 
 -- a header's words
-pub header-of : {g : Ghost} {e : ℕ} {m : List ℕ} → Shape g e m → (h : ℕ) {o : Owner} → g .own h ≡ o → isHead o ≡ true → (word m h 1 ≡ g .size (h + 2)) × (word m h 3 ≡ g .top (h + 2))
+pub header-of : {g : Ghost} {e : ℕ} {m : List ℕ} → Shape g e m → (h : ℕ) {o : Owner} → g .own h ≡ o → isHead o ≡ true → (word m h 1 ≡ g .size (h + 2)) × (word m h 3 ≡ headerMark + g .top (h + 2))
 header-of S h p t = rw (ap isHead p ∙ t) at (S .header h)
 
 isOn-le : (t : ℕ) (o : Owner) → isOn t o ≤ 1
@@ -91,4 +91,5 @@ module _ (g : Ghost) (e : ℕ) (m m′ : List ℕ) (S : Shape g e m) (c : ℕ) (
     ) (S .header d);
     counted = rw (P .size) (push-counted (g .own) (g .size) (cells m) c 0 (g .size 0) (inside S c o refl .0) (λ t. ap (isOn t) o) (S .counted));
     skips = skips-aside S c out (on 0 (g .size 0)) o refl refl m′ (λ x s k q. P .there x 3 (omega arith) (λ r w. omega arith));
+    plain = plain-aside S c out (on 0 (g .size 0)) o refl refl m′ (λ x s k q. P .there x 3 (omega arith) (λ r w. omega arith));
   }

@@ -9,7 +9,7 @@ use borrow.Author.Tests.{lt-ltb}
 use Rattle.heap.specs.Word.{word}
 use Rattle.heap.specs.Upd.{pick, upd}
 use Rattle.heap.specs.Chain.{Owner, on}
-use Rattle.heap.specs.Shape.{Ghost, Shape, Skip, isBody}
+use Rattle.heap.specs.Shape.{Ghost, Shape, Skip, isBody, headerMark}
 use Rattle.heap.proofs.Upds.{upd-other, at-upd}
 
 -- what body cells there are had their places and skip words before, and each stays but the first of its body
@@ -25,14 +25,25 @@ skips-keep S own m′ was stays c s k l q =
       lower = K .lower;
     })
 
+-- no body cell gets the mark
+pub plain-keep : {g : Ghost} {e : ℕ} {m : List ℕ} → Shape g e m → (own : ℕ → Owner) (m′ : List ℕ)
+    → ((c s k : ℕ) → 2 ≤ s → own c ≡ on s k → (g .own c ≡ on s k) × (word m′ c 3 ≡ word m c 3))
+    → (c s k : ℕ) → 2 ≤ s → own c ≡ on s k → word m′ c 3 < headerMark
+plain-keep S own m′ was c s k l q = let b = was c s k l q in rw (b .1) (S .plain c s k l (b .0))
+
 no-body : (o : Owner) (s k : ℕ) → 2 ≤ s → isBody o ≡ false → o ≡ on s k → ⊥
 no-body o s k l f q = omega (arith, ap (λ (b : Bool). pick {X = ℕ} b 1 0) (sym (lt-ltb 1 s l) ∙ ap isBody (sym q) ∙ f))
 
 -- a cell that is in no body becomes another that is in none
-pub skips-aside : {g : Ghost} {e : ℕ} {m : List ℕ} → Shape g e m → (c : ℕ) (o v : Owner) → g .own c ≡ o → isBody o ≡ false → isBody v ≡ false
-    → (m′ : List ℕ) → ((x s k : ℕ) → g .own x ≡ on s k → word m′ x 3 ≡ word m x 3)
-    → (x s k : ℕ) → 2 ≤ s → upd (g .own) c v x ≡ on s (suc k) → Skip (upd (g .own) c v) s k (word m′ x 3)
-skips-aside {g} {e} {m} S c o v oc fo fv m′ same = skips-keep S (upd (g .own) c v) m′
-    (λ x s k l. at-upd (λ w. w ≡ on s k → (g .own x ≡ on s k) × (word m′ x 3 ≡ word m x 3)) (g .own) c v x
-    (λ r q. absurd (no-body v s k l fv q)) (λ r q. (q, same x s k q)))
-    (λ x s k l q _. upd-other (g .own) c v x (λ r. no-body o s k l fo (sym oc ∙ ap (g .own) (sym r) ∙ q)) ∙ q)
+module _ {g : Ghost} {e : ℕ} {m : List ℕ} (S : Shape g e m) (c : ℕ) (o v : Owner) (oc : g .own c ≡ o) (fo : isBody o ≡ false) (fv : isBody v ≡ false)
+    (m′ : List ℕ) (same : (x s k : ℕ) → g .own x ≡ on s k → word m′ x 3 ≡ word m x 3) where
+  was-body : (x s k : ℕ) → 2 ≤ s → upd (g .own) c v x ≡ on s k → (g .own x ≡ on s k) × (word m′ x 3 ≡ word m x 3)
+  was-body x s k l = at-upd (λ w. w ≡ on s k → (g .own x ≡ on s k) × (word m′ x 3 ≡ word m x 3)) (g .own) c v x
+      (λ r q. absurd (no-body v s k l fv q)) (λ r q. (q, same x s k q))
+
+  pub skips-aside : (x s k : ℕ) → 2 ≤ s → upd (g .own) c v x ≡ on s (suc k) → Skip (upd (g .own) c v) s k (word m′ x 3)
+  skips-aside = skips-keep S (upd (g .own) c v) m′ was-body
+      (λ x s k l q _. upd-other (g .own) c v x (λ r. no-body o s k l fo (sym oc ∙ ap (g .own) (sym r) ∙ q)) ∙ q)
+
+  pub plain-aside : (x s k : ℕ) → 2 ≤ s → upd (g .own) c v x ≡ on s k → word m′ x 3 < headerMark
+  plain-aside = plain-keep S (upd (g .own) c v) m′ was-body

@@ -19,6 +19,7 @@ empty m p few lo hi = (
         header = λ h. refl;
         counted = λ t. total-none (λ _. 0) (cells m) (λ x l. refl);
         skips = λ c s k l q. absurd (fresh-on q);
+        plain = λ c s k l q. absurd (fresh-on q);
       };
       free = refl;
       listed = refl;

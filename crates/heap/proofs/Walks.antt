@@ -1,22 +1,25 @@
 -- How a body is walked: by next words one rank down, by skip words some ranks down; and the skip word of a new first cell.
 -- Assumes nothing.
 use Prim.Native.Nat.{ℕ, suc, _+_, _*_, _-_, _/_, _%_, _≤_, _<_}
-use mathlib.Core.Path.{_≡_, refl, sym, _∙_}
+use mathlib.Core.Path.{_≡_, refl, _∙_}
 use mathlib.Core.List.{List}
 use native.Mathlib.Omega.{arith}
 use Rattle.heap.specs.Word.{word}
 use Rattle.heap.specs.Chain.{live, on}
-use Rattle.heap.specs.Shape.{Ghost, Shape, Skip, rankUnit}
-use Rattle.heap.proofs.Shapes.{inside, header-of}
+use Rattle.heap.specs.Shape.{Ghost, Shape, Skip, rankUnit, headerMark}
+use Rattle.heap.proofs.Shapes.{inside, header-of, list-le}
 
 module _ {g : Ghost} {e : ℕ} {m : List ℕ} (S : Shape g e m) where
   -- the first of n cells
   pub first-of : (s k : ℕ) {first n : ℕ} → g .size s ≡ n → g .top s ≡ first → n ≡ suc k → g .own first ≡ on s k
   first-of s k z t q = rw t at (S .chains .first s k (z ∙ q))
 
-  -- word 3 of a live header is its body's first cell
-  pub first-cell : (h k : ℕ) → g .own h ≡ live → g .size (h + 2) ≡ suc k → g .own (word m h 3) ≡ on (h + 2) k
-  first-cell h k l z = first-of (h + 2) k z (sym (header-of S h l refl .1)) refl
+  -- word 3 of a live header, less the mark, is its body's first cell
+  pub first-is : (h : ℕ) → g .own h ≡ live → g .top (h + 2) ≡ word m h 3 - headerMark
+  first-is h l = omega (arith, header-of S h l refl .1)
+
+  pub first-cell : (h k : ℕ) → g .own h ≡ live → g .size (h + 2) ≡ suc k → g .own (word m h 3 - headerMark) ≡ on (h + 2) k
+  first-cell h k l z = first-of (h + 2) k z (first-is h l) refl
 
   -- word 2 of a body cell is the next cell
   pub next-cell : (c s k : ℕ) → g .own c ≡ on s (suc k) → g .own (word m c 2) ≡ on s k
@@ -25,6 +28,10 @@ module _ {g : Ghost} {e : ℕ} {m : List ℕ} (S : Shape g e m) where
   -- word 3 of a body cell of rank j is a skip word
   pub skip-of : (c s j : ℕ) → 2 ≤ s → 0 < j → g .own c ≡ on s j → Skip (g .own) s (j - 1) (word m c 3)
   skip-of c s j l p q = let z : j ≡ suc (j - 1) = omega arith in S .skips c s (j - 1) l (rw z at q)
+
+  -- a skip word has no mark
+  pub skip-plain : (s k w : ℕ) → Skip (g .own) s k w → w < headerMark
+  skip-plain s k w K = omega (arith, S .chains .above (w % rankUnit) s (w / rankUnit) (K .lands), list-le S s, S .few)
 
   -- to the first of n cells
   pub skip-first : (s k w : ℕ) {first n : ℕ} → g .size s ≡ n → g .top s ≡ first → n ≡ suc k → w ≡ first + rankUnit * k → Skip (g .own) s k w

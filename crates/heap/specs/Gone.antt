@@ -1,5 +1,5 @@
 -- What a release frees: the objects that only dead objects name.
-use Prim.Native.Nat.{ℕ, suc, _+_, _≤_, _<_}
+use Prim.Native.Nat.{ℕ, suc, _+_, _-_, _%_, _≤_, _<_}
 use mathlib.Core.Path.{_≡_}
 use mathlib.Core.Bool.{true, false}
 use mathlib.Core.List.{List}
@@ -7,7 +7,7 @@ use mathlib.Core.Logic.{_⊎_}
 use lib.ListN.{length}
 use Rattle.heap.specs.Word.{word, Put}
 use Rattle.heap.specs.Chain.{live, out, on}
-use Rattle.heap.specs.Shape.{Ghost, Heap, Full, pushed, NoOut, cells, isBody}
+use Rattle.heap.specs.Shape.{Ghost, Heap, Full, pushed, NoOut, cells, isBody, headerMark}
 use Rattle.heap.specs.declared.Lists.{Lists}
 
 -- each place that names h is a body cell, of an object that is gone
@@ -50,6 +50,6 @@ Freed c s m r m′ = Put m c 2 (s .free) m′ × (r .listed ≡ s .listed + 1)
 -- the first cell b of the body of d, which has n, comes off
 pub record Shed (m : List ℕ) (d n b : ℕ) (m′ : List ℕ) : Type 0 where
   pub mid : List ℕ
-  pub cell : b ≡ word m d 3
+  pub cell : b ≡ word m d 3 - headerMark
   pub less : (v : ℕ) → n ≡ suc v → Put m d 1 v mid
-  pub next : Put mid d 3 (word m b 2) m′
+  pub next : Put mid d 3 (headerMark + word m b 2 % headerMark) m′

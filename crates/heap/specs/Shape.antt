@@ -1,5 +1,5 @@
 -- The cells as the words have them: the lists, the headers, the cells never used.
-use Prim.Native.Nat.{ℕ, suc, _+_, _/_, _%_, _≤_, _<_}
+use Prim.Native.Nat.{ℕ, suc, _+_, _/_, _%_, _^_, _≤_, _<_}
 use mathlib.Core.Path.{_≡_}
 use mathlib.Core.Bool.{Bool, true, false}
 use mathlib.Core.List.{List}
@@ -54,9 +54,13 @@ pub record Ghost : Type 0 where
   pub size : ℕ → ℕ
   pub aim : ℕ → ℕ
 
--- a header's words 1 and 3 are its body's size and first cell; what is no header has no body
+-- what a header's word 3 has over its body's first cell, and no body cell's word 3
+abbrev pub headerMark : ℕ
+headerMark = 2 ^ 31
+
+-- a header's words 1 and 3 are its body's size and first cell, with the mark; what is no header has no body
 abbrev pub Header : Bool → ℕ → ℕ → ℕ → ℕ → Type 0
-Header true size top w1 w3 = (w1 ≡ size) × (w3 ≡ top)
+Header true size top w1 w3 = (w1 ≡ size) × (w3 ≡ headerMark + top)
 Header false size top w1 w3 = size ≡ 0
 
 -- a skip word packs a cell and its rank
@@ -68,7 +72,8 @@ pub record Skip (own : ℕ → Owner) (s k w : ℕ) : Type 0 where
   pub lands : own (w % rankUnit) ≡ on s (w / rankUnit)
   pub lower : w / rankUnit ≤ k
 
--- the lists, the headers, the skip words (word 3 of each body cell but the last), and the cells from e on, which were never used
+-- the lists, the headers, the skip words (word 3 of each body cell but the last, and without the mark in all), and the cells from e on, which
+-- were never used
 pub record Shape (g : Ghost) (e : ℕ) (m : List ℕ) : Type 0 where
   pub chains : Chains (g .own) (g .top) (g .size) (λ c. word m c 2)
   pub few : cells m ≤ 32768
@@ -77,6 +82,7 @@ pub record Shape (g : Ghost) (e : ℕ) (m : List ℕ) : Type 0 where
   pub header : (h : ℕ) → Header (isHead (g .own h)) (g .size (h + 2)) (g .top (h + 2)) (word m h 1) (word m h 3)
   pub counted : (t : ℕ) → total (λ c. isOn t (g .own c)) (cells m) ≡ g .size t
   pub skips : (c s k : ℕ) → 2 ≤ s → g .own c ≡ on s (suc k) → Skip (g .own) s k (word m c 3)
+  pub plain : (c s k : ℕ) → 2 ≤ s → g .own c ≡ on s k → word m c 3 < headerMark
 
 -- the same, with the lists that s holds
 pub record Heap (g : Ghost) (s : Lists) (m : List ℕ) : Type 0 where

@@ -1,12 +1,12 @@
 // Arrays and strings in cells of four words, over a lent slice, each object with the number of places that name it.
-// A header is (kind, number of body cells, count, first body cell), and a body cell (tag, payload, next cell, skip word).
+// A header is (kind, number of body cells, count, first body cell and a mark), and a body cell (tag, payload, next cell, skip word).
 // The promise: where every count is exact before, it is exact after, and what is freed is what only dead objects name.
 ghost use mathlib.Core.Path.{_≡_};
-ghost use Prim.Native.Nat.{ℕ, suc, _+_, _*_, _<_, _≤_};
+ghost use Prim.Native.Nat.{ℕ, suc, _+_, _-_, _*_, _<_, _≤_};
 ghost use lib.ListN.{length};
 ghost use Rattle.heap.specs.Word.{word, Put};
 ghost use Rattle.heap.specs.Chain.{live, out, on};
-ghost use Rattle.heap.specs.Shape.{Ghost, Shape, Skip, Empty, Heap, Full, cells};
+ghost use Rattle.heap.specs.Shape.{Ghost, Shape, Skip, Empty, Heap, Full, cells, headerMark};
 ghost use Rattle.heap.specs.Assign.{Alives, Assigned, Target, Risen};
 ghost use Rattle.heap.specs.Grow.{Fine, FineLive, Took, Grew, Made, Filled};
 ghost use Rattle.heap.specs.Gone.{Sound, Goes, Shed, Freed};
@@ -16,6 +16,9 @@ pub const FIRST_OBJECT: u32 = 8;
 
 // A skip word is a cell and RANK_UNIT times its rank, the number of cells after it in its body.
 const RANK_UNIT: u32 = 65536;
+
+// A header's word 3 has it, and no body cell's.
+const HEADER_MARK: u32 = 0x8000_0000;
 
 // The lists of cells: the free cells (first, how many), the cells from `edge` on that were never used, and the dead
 // headers whose cells are still to be freed (first, how many).
@@ -71,7 +74,7 @@ pub fn seek(m: &[u32], h: u32, i: u32) -> u32
 {
     let n = get(m, h, 1);
     let rank = n - 1 - i;
-    let mut c = get(m, h, 3);
+    let mut c = get(m, h, 3) - HEADER_MARK;
     let mut j = n - 1;
     while rank < j {
         let w = get(m, c, 3);
@@ -188,6 +191,7 @@ fn new_header(s: Lists, m: &mut [u32], kind: u32) -> Taken
     put(m, h, 0, kind);
     put(m, h, 1, 0);
     put(m, h, 2, 1);
+    put(m, h, 3, HEADER_MARK);
     t
 }
 
@@ -198,11 +202,11 @@ fn prepend(s: Lists, m: &mut [u32], h: u32) -> Lists
 {
     let t = take(s, m);
     let c = t.cell;
-    let first = get(m, h, 3);
+    let first = get(m, h, 3) - HEADER_MARK;
     let n = get(m, h, 1);
     let skip = skip_word(m, first, n);
     init_cell(m, c, first, skip);
-    put(m, h, 3, c);
+    put(m, h, 3, HEADER_MARK + c);
     put(m, h, 1, n + 1);
     t.lists
 }
@@ -211,7 +215,7 @@ fn prepend(s: Lists, m: &mut [u32], h: u32) -> Lists
 // skips from there are of one length, past both (Myers, An applicative random-access stack).
 fn skip_word(m: &[u32], first: u32, n: u32) -> u32
     requires { ⌜ ((g : Ghost) × (e : ℕ) × (s : ℕ) × Shape g e (now m) × (2 ≤ s) × (g .size s ≡ n) × (g .top s ≡ first)) ⌝ }
-    ensures { λ r. ⌜ ((g : Ghost) (e s : ℕ) → Shape g e (now (m .entry)) → 2 ≤ s → g .size s ≡ n → g .top s ≡ first → (k : ℕ) → n ≡ suc k → Skip (g .own) s k r) ⌝ }
+    ensures { λ r. ⌜ ((g : Ghost) (e s : ℕ) → Shape g e (now (m .entry)) → 2 ≤ s → g .size s ≡ n → g .top s ≡ first → (k : ℕ) → n ≡ suc k → Skip (g .own) s k r) × (n ≡ 0 → r ≡ 0) ⌝ }
 {
     if n == 0 {
         return 0;
@@ -312,15 +316,15 @@ fn free_body_cell(s: Lists, m: &mut [u32], n: u32) -> Lists
     t
 }
 
-// The first cell comes off the body of the header d, which has n cells.
+// The first cell comes off the body of the header d, which has n cells. The last cell has no next, and its word may be any.
 fn pop_body(m: &mut [u32], d: u32, n: u32) -> u32
-    requires { ⌜ (0 < n) × (d * 4 + 4 ≤ length (now m)) × (word (now m) d 3 * 4 + 4 ≤ length (now m)) ⌝ }
+    requires { ⌜ (0 < n) × (d * 4 + 4 ≤ length (now m)) × (headerMark ≤ word (now m) d 3) × ((word (now m) d 3 - headerMark) * 4 + 4 ≤ length (now m)) ⌝ }
     ensures { λ r. ⌜ Shed (now (m .entry)) d n r (now (m .exit)) ⌝ }
 {
-    let b = get(m, d, 3);
+    let b = get(m, d, 3) - HEADER_MARK;
     let next = get(m, b, 2);
     put(m, d, 1, n - 1);
-    put(m, d, 3, next);
+    put(m, d, 3, HEADER_MARK + next % HEADER_MARK);
     b
 }
 

@@ -75,6 +75,7 @@ module _ {g : Ghost} {e p hand : ℕ} {m m′ : List ℕ} (S : Shape g e m) (C :
         (λ (s : d ≡ c → ⊥). rw (P .there d 1 (omega arith) (λ r. absurd (s r)), P .there d 3 (omega arith) (λ r. absurd (s r))) (S .header d)) (same? d c);
     counted = rw (P .size) (S .counted);
     skips = λ d s f l od. rw (P .there d 3 (omega arith) (λ _ r. omega arith)) (S .skips d s f l od);
+    plain = λ d s f l od. rw (P .there d 3 (omega arith) (λ _ r. omega arith)) (S .plain d s f l od);
   }
 
   word-counts : Counts g p hand m′

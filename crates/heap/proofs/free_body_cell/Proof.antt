@@ -1,6 +1,6 @@
 -- `free_body_cell` meets its contract: the first body cell comes off and goes on the free list (`strips`); what it named is in hand and counted down.
 -- Assumes nothing.
-use Prim.Native.Nat.{_-_}
+use Prim.Native.Nat.{_+_, _-_}
 use mathlib.Core.Path.{refl, _∙_}
 use native.Mathlib.Omega.{arith}
 use Rattle.heap.proofs.Shapes.{room, header-of}
@@ -13,7 +13,8 @@ pop-body-requires : tie.Need-pop-body-requires
 pop-body-requires c κs =
     let P = c .before .before .pre in let F = P .0 .2 in let S = F .heap .shape in let f = first-dead F (P .1) in let h = header-of S _ (f .2) refl in
     let n = c .before .before .args .n in
-    (P .3, room S _ (f .2) refl, rw (h .1) (room S _ (S .chains .first _ (n - 1) (omega (arith, h .0, P .2, P .3))) refl))
+    let first = room S _ (S .chains .first (c .before .before .args .s .work + 2) (n - 1) (omega (arith, h .0, P .2, P .3))) refl in
+    (P .3, room S _ (f .2) refl, omega (arith, h .1), omega (arith, h .1, first))
 
 get-requires : tie.Need-get-requires
 get-requires c κs =

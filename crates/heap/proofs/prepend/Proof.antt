@@ -1,11 +1,13 @@
 -- `prepend` meets its contract: the cell that was taken is the new first cell of the body, and its skip word is right (`grown`).
 -- Assumes nothing.
-use Prim.Native.Nat.{_+_}
-use mathlib.Core.Path.{refl, sym, _∙_}
+use Prim.Native.Nat.{_+_, _-_}
+use mathlib.Core.Path.{refl, sym, ap, _∙_}
 use native.Mathlib.Omega.{arith}
 use borrow.Author.Needs.{needs}
 use Rattle.heap.proofs.Bodies.{grown}
-use Rattle.heap.proofs.Shapes.{room, header-of, list-le}
+use Rattle.heap.specs.Shape.{headerMark}
+use Rattle.heap.proofs.Walks.{first-is}
+use Rattle.heap.proofs.Shapes.{inside, room, header-of, list-le}
 use Rattle.heap.proofs.prepend.Statement.{statement}
 use Rattle.heap.proofs.prepend.Tie as tie
 
@@ -14,6 +16,9 @@ take-requires c κs = search needs
 
 get-requires : tie.Need-get-requires
 get-requires c κs = let F = c .before .before .before .before .pre .0 in (omega arith, room (F .3 .heap .shape) _ (F .4) refl)
+
+sub-first : tie.Need-sub-first
+sub-first c = let F = c .before .before .before .before .before .pre .0 in omega (arith, c .get .ensures, header-of (F .3 .heap .shape) _ (F .4) refl .1)
 
 get-requires-2 : tie.Need-get-requires-2
 get-requires-2 c κs = let F = c .before .before .before .before .before .before .pre .0 in (omega arith, room (F .3 .heap .shape) _ (F .4) refl)
@@ -25,13 +30,20 @@ skip-word-requires c κs =
     let F = start .pre .0 in
     let S = F .3 .heap .shape in
     let words = header-of S _ (F .4) refl in
-    (F .2, _, start .args .h + 2, S, omega arith, sym (words .0) ∙ sym (c .before .get2 .ensures), sym (words .1) ∙ sym (after-get .get .ensures))
+    (F .2, _, start .args .h + 2, S, omega arith, sym (words .0) ∙ sym (c .before .get2 .ensures), first-is S _ (F .4) ∙ ap (λ w. w - headerMark) (sym (after-get .get .ensures)))
 
 init-cell-requires : tie.Need-init-cell-requires
 init-cell-requires c κs =
     let F = c .before .before .before .before .before .before .before .before .before .before .pre .0 in
     let X = c .before .before .before .before .before .before .before .take .ensures .1 (F .0) (F .1) (F .2) (F .3) in
     room (X .1 .heap .shape) _ (X .2) refl
+
+add-put : tie.Need-add-put
+add-put c =
+    let after-take = c .before .before .before .before .before .before .before .before .before .before .before in
+    let F = after-take .before .before .before .pre .0 in
+    let X = after-take .take .ensures .1 (F .0) (F .1) (F .2) (F .3) in
+    omega (arith, inside (X .1 .heap .shape) _ (X .2) refl .0, X .1 .heap .shape .few)
 
 put-requires : tie.Need-put-requires
 put-requires c κs =
@@ -40,8 +52,8 @@ put-requires c κs =
     let F = start .pre .0 in
     (omega arith, rw (after-init-cell .init-cell .ensures .size) (room (F .3 .heap .shape) _ (F .4) refl))
 
-add-put : tie.Need-add-put
-add-put c =
+add-put-2 : tie.Need-add-put-2
+add-put-2 c =
     let after-get2 = c .before .before .before .before .before .before .before .before .before .before .before in
     let start = after-get2 .before .before .before .before .before .before .before in
     let F = start .pre .0 in
@@ -69,10 +81,11 @@ returns c =
     let after-get = after-get2 .before .before in
     let after-take = after-get .before .before in
     let taken = after-take .take .ensures in
+    let skip = after-skip-word .skip-word .ensures in
     let filled = after-init-cell .init-cell .ensures in
     let first = after-put .put .ensures in
     let size = after-put2 .put2 .ensures in
-    (taken .0, λ p hand g F l. grown F l (taken .1) (after-get .get .ensures) (after-get2 .get2 .ensures) (after-skip-word .skip-word .ensures) filled first size, taken .2)
+    (taken .0, λ p hand g F l. grown F l (taken .1) (ap (λ w. w - headerMark) (after-get .get .ensures)) (after-get2 .get2 .ensures) (skip .0) (skip .1) filled first size, taken .2)
 
 pub prepend-spec : {M : Type 1} → statement M
 prepend-spec =
@@ -80,11 +93,13 @@ prepend-spec =
     (tie.spec
     take-requires
     get-requires
+    sub-first
     get-requires-2
     skip-word-requires
     init-cell-requires
-    put-requires
     add-put
+    put-requires
+    add-put-2
     put-requires-2
     same-length
     returns)

@@ -28,6 +28,9 @@ sub-rank-2 c = let P = c .before .before .pre in omega (arith, c .get .ensures, 
 get-requires-2 : tie.Need-get-requires-2 Inv-loop μ-loop
 get-requires-2 c κs = let P = c .before .before .pre in (omega arith, room (P .2) _ (P .3) refl)
 
+sub-c : tie.Need-sub-c Inv-loop μ-loop
+sub-c c = let P = c .before .before .before .pre in omega (arith, c .get2 .ensures, header-of (P .2) _ (P .3) refl .1)
+
 sub-j : tie.Need-sub-j Inv-loop μ-loop
 sub-j c = let P = c .before .before .before .pre in omega (arith, c .before .get .ensures, header-of (P .2) _ (P .3) refl .0)
 
@@ -85,6 +88,7 @@ seek-spec =
     sub-rank
     sub-rank-2
     get-requires-2
+    sub-c
     sub-j
     loop-holds
     get-requires-3

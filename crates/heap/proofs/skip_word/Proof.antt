@@ -10,10 +10,10 @@ use Rattle.heap.proofs.skip_word.Statement.{statement}
 use Rattle.heap.proofs.skip_word.Tie as tie
 
 returns : tie.Need-returns
-returns c = λ g e s S l z t k q. absurd (omega (arith, c .if1 .taken))
+returns c = (λ g e s S l z t k q. absurd (omega (arith, c .if1 .taken)), λ q. refl)
 
 returns-2 : tie.Need-returns-2
-returns-2 c = λ g e s S l z t k q. skip-first S s k _ z t q (omega (arith, c .if2 .taken))
+returns-2 c = (λ g e s S l z t k q. skip-first S s k _ z t q (omega (arith, c .if2 .taken)), λ q. absurd (omega (arith, c .if2 .taken)))
 
 get-requires : tie.Need-get-requires
 get-requires c κs =
@@ -39,10 +39,13 @@ add-if4-2 : tie.Need-add-if4-2
 add-if4-2 c = search needs
 
 returns-3 : tie.Need-returns-3
-returns-3 c = λ g e s S l z t k q.
-    let o = first-of S s k z t q in
-    let K = skip-of S _ s k l (omega (arith, c .before .before .before .before .if2 .left)) o in
-    skip-over S s (k - 1) k _ _ l (rw (c .before .before .before .get .ensures) K) (c .before .before .if3 .taken) (omega arith) (c .before .get2 .ensures)
+returns-3 c = (
+  λ g e s S l z t k q.
+      let o = first-of S s k z t q in
+      let K = skip-of S _ s k l (omega (arith, c .before .before .before .before .if2 .left)) o in
+      skip-over S s (k - 1) k _ _ l (rw (c .before .before .before .get .ensures) K) (c .before .before .if3 .taken) (omega arith) (c .before .get2 .ensures),
+  λ q. absurd (c .before .before .before .before .before .if1 .left q),
+)
 
 sub-result : tie.Need-sub-result
 sub-result c = search needs
@@ -57,7 +60,7 @@ add-result c =
     omega (arith, list-le (P .3) (P .2), P .3 .few, P .5, inside (P .3) _ o refl .0)
 
 returns-4 : tie.Need-returns-4
-returns-4 c = λ g e s S l z t k q. skip-first S s k _ z t q (omega arith)
+returns-4 c = (λ g e s S l z t k q. skip-first S s k _ z t q (omega arith), λ q. absurd (c .before .before .before .if1 .left q))
 
 pub skip-word-spec : {M : Type 1} → statement M
 skip-word-spec =
