@@ -14,3 +14,5 @@ pub mod Starts
 pub mod Assigning
 pub mod Rooms
 pub mod Roots
+pub mod Listing
+pub mod Readings

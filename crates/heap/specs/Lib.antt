@@ -5,3 +5,4 @@ pub mod Shape
 pub mod Gone
 pub mod Grow
 pub mod Assign
+pub mod Reading
