@@ -29,6 +29,7 @@ use Rattle.heap.proofs.Since.{lt-or-le, true-or-false, alive-of}
 use Rattle.heap.proofs.Rooms.{total-swap}
 use Rattle.heap.proofs.Parts as parts
 use Rattle.store.specs.Rep.{Names, by-string, by-array, objectAt, element, Rep}
+pub use Rattle.store.specs.Matching.{times}
 use Rattle.store.proofs.Standing.{stands-names, names-stands, names-cast}
 use Rattle.store.proofs.Places.{zero-or-suc, down, down-at, body-of, aims-at, total-some}
 use Rattle.store.proofs.Sorts.{no-element}
@@ -107,9 +108,6 @@ module _ {g : Ghost} {e : ℕ} {m : List ℕ} (S : Shape g e m) (G : ℕ → ℕ
       ∙ total-same G (λ c. total (λ a. total (λ q. pick (eqb c (cell a q)) (v a q) 0) (g .size (a + 2))) (cells m)) (cells m) by-element)
 
 -- ---- how often a list names i
-
-abbrev pub times : ℕ → List ℕ → ℕ
-times i l = sumOf (λ k. pick (eqb k i) 1 0) l
 
 module _ (i : ℕ) where
   times-append : (a b : List ℕ) → times i (a ++ b) ≡ times i a + times i b

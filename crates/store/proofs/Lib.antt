@@ -10,3 +10,4 @@ pub mod Bytes
 pub mod Holding
 pub mod Rooming
 pub mod Counting
+pub mod Exactness
