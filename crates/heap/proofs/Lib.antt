@@ -16,3 +16,4 @@ pub mod Rooms
 pub mod Roots
 pub mod Listing
 pub mod Readings
+pub mod ReadingCases
