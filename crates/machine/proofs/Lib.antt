@@ -1,4 +1,15 @@
 pub mod Naming
 pub mod Items
 pub mod Stacking
+pub mod Carrying
+pub mod Recounting
+pub mod Worlds
+pub mod Roots
+pub mod Rerooting
+pub mod Exchanging
+pub mod Restacking
 pub mod Operands
+pub mod Dropping
+pub mod Copying
+pub mod Swapping
+pub mod Rooms

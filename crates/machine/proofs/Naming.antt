@@ -27,7 +27,7 @@ nameless h n = h .none (names-object n)
 -- ---- the stack's places
 
 module _ {A : Type 0} (f : A → Value) where
-  past-end : (l : List A) (j i : ℕ) → length l ≤ j → Names (fromEnd f l j) i → ⊥
+  pub past-end : (l : List A) (j i : ℕ) → length l ≤ j → Names (fromEnd f l j) i → ⊥
   unfolding fromEnd
   past-end [] j i h = λ n. absurd (names-object n)
   past-end (a ∷ l) j i h =

@@ -18,7 +18,7 @@ use Rattle.store.proofs.Standing.{is-integer}
 use Rattle.machine.specs.Places.{Nameless}
 use Rattle.machine.specs.Operands as Operands
 use Rattle.machine.specs.Operands.{Scalar, oneInt, twoInts}
-use Rattle.machine.specs.Rep.{Rep, Is, Items, bottom, item}
+use Rattle.machine.specs.Rep.{Rep, World, Is, IsIn, Items, bottom, item}
 use Rattle.machine.specs.declared.Machine.{Machine}
 use Rattle.machine.proofs.Items.{items-frame, items-below}
 use Rattle.machine.proofs.Stacking.{atDepth, restack}
@@ -97,14 +97,14 @@ module _ {m : Machine} {st e d c l : List ℕ} {μ : Floo.Machine} (R : Rep m st
   unfolding oneInt _>>=_
   one-bad k h n =
       let x = top (R .items) k h in
-      rw (pop1-some μ (x .split), stands-no-integer (x .words) n)
+      rw (pop1-some μ (x .split), stands-no-integer (x .words .stands) n)
 
   pub one-got : (k : ℕ) → m .depth ≡ suc k → getD st (2 * k) 0 ≡ 1 → (rest : List Value) × (μ .stack ≡ integer (getD st (2 * k + 1) 0) ∷ rest)
   one-got k h i =
       let x = top (R .items) k h in
-      (x .rest, x .split ∙ ap (λ v. v ∷ x .rest) (is-integer (x .words) i))
+      (x .rest, x .split ∙ ap (λ v. v ∷ x .rest) (is-integer (x .words .stands) i))
 
-  pop2-short : (n : ℕ) → Items (Is (R .world) μ) st n (μ .stack) → n < 2 → pop2 μ ≡ fault StackUnderflow
+  pop2-short : (n : ℕ) → Items (IsIn (R .world) μ) st n (μ .stack) → n < 2 → pop2 μ ≡ fault StackUnderflow
   pop2-short zero i l = pop2-none μ (no-items i (omega arith))
   pop2-short (suc zero) i l =
       let x = top i 0 refl in
@@ -117,10 +117,10 @@ module _ {m : Machine} {st e d c l : List ℕ} {μ : Floo.Machine} (R : Rep m st
 
   -- The upper operand is item u, the lower one item k.
   module _ (k u : ℕ) (h : m .depth ≡ suc u) (next : u ≡ suc k) where
-    upper : Top (Is (R .world) μ) st u (μ .stack)
+    upper : Top (IsIn (R .world) μ) st u (μ .stack)
     upper = top (R .items) u h
 
-    lower : Top (Is (R .world) μ) st k (upper .rest)
+    lower : Top (IsIn (R .world) μ) st k (upper .rest)
     lower = top (upper .below) k next
 
     both : μ .stack ≡ upper .value ∷ lower .value ∷ lower .rest
@@ -128,26 +128,26 @@ module _ {m : Machine} {st e d c l : List ℕ} {μ : Floo.Machine} (R : Rep m st
 
     pub two-first-bad : (getD st (2 * k) 0 ≡ 1 → ⊥) → twoInts μ ≡ fault TypeCheck
     unfolding twoInts _>>=_
-    two-first-bad n = rw (pop2-some μ both, stands-no-integer (lower .words) n)
+    two-first-bad n = rw (pop2-some μ both, stands-no-integer (lower .words .stands) n)
 
     pub two-second-bad : getD st (2 * k) 0 ≡ 1 → (getD st (2 * u) 0 ≡ 1 → ⊥) → twoInts μ ≡ fault TypeCheck
     unfolding twoInts _>>=_ int
-    two-second-bad i n = rw (pop2-some μ both, is-integer (lower .words) i, stands-no-integer (upper .words) n)
+    two-second-bad i n = rw (pop2-some μ both, is-integer (lower .words .stands) i, stands-no-integer (upper .words .stands) n)
 
     pub two-got : getD st (2 * k) 0 ≡ 1
         → getD st (2 * u) 0 ≡ 1
         → (rest : List Value) × (μ .stack ≡ integer (getD st (2 * u + 1) 0) ∷ integer (getD st (2 * k + 1) 0) ∷ rest)
     two-got i j = (
       lower .rest,
-      both ∙ ap (λ v. v ∷ lower .value ∷ lower .rest) (is-integer (upper .words) j)
-          ∙ ap (λ v. integer (getD st (2 * u + 1) 0) ∷ v ∷ lower .rest) (is-integer (lower .words) i),
+      both ∙ ap (λ v. v ∷ lower .value ∷ lower .rest) (is-integer (upper .words .stands) j)
+          ∙ ap (λ v. integer (getD st (2 * u + 1) 0) ∷ v ∷ lower .rest) (is-integer (lower .words .stands) i),
     )
 
 -- ---- a result in their place
 
-scalar-stands : {keys : List (List ℕ)} {texts : List Bool} {ρ : ℕ → ℕ} {v : Value} {t p : ℕ} → Scalar v t p → Stands keys texts ρ v t p
-scalar-stands Operands.an-integer = an-integer
-scalar-stands Operands.a-boolean = a-boolean
+scalar-stands : {w : World} {names : List (List ℕ)} {strings : List Bool} {v : Value} {t p : ℕ} → Scalar v t p → Is w names strings v t p
+scalar-stands Operands.an-integer = record { stands = an-integer; alive = λ l. absurd (omega arith) }
+scalar-stands Operands.a-boolean = record { stands = a-boolean; alive = λ l. absurd (omega arith) }
 
 scalar-nameless : {v : Value} {t p : ℕ} → Scalar v t p → Nameless v
 scalar-nameless Operands.an-integer = record { none = λ t. t }
@@ -155,17 +155,19 @@ scalar-nameless Operands.a-boolean = record { none = λ t. t }
 
 -- Two words stored at a slot.
 module _ (st : List ℕ) (k t p : ℕ) (fits : 2 * k + 2 ≤ length st) where
-  two-first : getD (set (set st (2 * k) t) (2 * k + 1) p) (2 * k) 0 ≡ t
+  pub two-first : getD (set (set st (2 * k) t) (2 * k + 1) p) (2 * k) 0 ≡ t
   two-first = getD-set-other (set st (2 * k) t) (2 * k + 1) (2 * k) p 0 (λ q. omega arith) ∙ getD-set-same st (2 * k) t 0 (omega arith)
 
-  two-second : getD (set (set st (2 * k) t) (2 * k + 1) p) (2 * k + 1) 0 ≡ p
+  pub two-second : getD (set (set st (2 * k) t) (2 * k + 1) p) (2 * k + 1) 0 ≡ p
   two-second = getD-set-same (set st (2 * k) t) (2 * k + 1) p 0 (omega (arith, length-set st (2 * k) t))
 
-  two-below : (j : ℕ) → j < 2 * k → getD (set (set st (2 * k) t) (2 * k + 1) p) j 0 ≡ getD st j 0
-  two-below j l =
-      getD-set-other (set st (2 * k) t) (2 * k + 1) j p 0 (λ q. omega arith) ∙ getD-set-other st (2 * k) j t 0 (λ q. omega arith)
+  pub two-others : (j : ℕ) → (j ≡ 2 * k → ⊥) → (j ≡ 2 * k + 1 → ⊥) → getD (set (set st (2 * k) t) (2 * k + 1) p) j 0 ≡ getD st j 0
+  two-others j a b = getD-set-other (set st (2 * k) t) (2 * k + 1) j p 0 b ∙ getD-set-other st (2 * k) j t 0 a
 
-  two-length : length (set (set st (2 * k) t) (2 * k + 1) p) ≡ length st
+  pub two-below : (j : ℕ) → j < 2 * k → getD (set (set st (2 * k) t) (2 * k + 1) p) j 0 ≡ getD st j 0
+  two-below j l = two-others j (λ q. omega arith) (λ q. omega arith)
+
+  pub two-length : length (set (set st (2 * k) t) (2 * k + 1) p) ≡ length st
   two-length = length-set (set st (2 * k) t) (2 * k + 1) p ∙ length-set st (2 * k) t
 
 -- k items are left below the operands, and the result is put above them.
@@ -184,9 +186,9 @@ pub replaced : {m : Machine} {st e d c l : List ℕ} {μ : Floo.Machine}
 replaced {m} {st} {μ} R k n t p z few {v} sc old rest len nameless s =
     let fits : 2 * k + 2 ≤ length st = omega (arith, R .stack-room) in
     let room : 2 * (k + 1) ≤ length st = omega arith in
-    let old-items = subst (λ x. Items (Is (R .world) μ) st (m .depth) x) s (R .items) in
+    let old-items = subst (λ x. Items (IsIn (R .world) μ) st (m .depth) x) s (R .items) in
     let below = items-frame (two-below st k t p fits) (items-below old k (omega arith) old-items) in
-    let words : Is (R .world) μ v (getD (set (set st (2 * k) t) (2 * k + 1) p) (2 * k) 0) (getD (set (set st (2 * k) t) (2 * k + 1) p) (2 * k + 1) 0) =
+    let words : IsIn (R .world) μ v (getD (set (set st (2 * k) t) (2 * k + 1) p) (2 * k) 0) (getD (set (set st (2 * k) t) (2 * k + 1) p) (2 * k + 1) 0) =
     rw (two-first st k t p fits, two-second st k t p fits) (scalar-stands sc) in
-    let items = subst (λ x. Items (Is (R .world) μ) (set (set st (2 * k) t) (2 * k + 1) p) x (v ∷ rest)) (sym (add-one k)) (item words below) in
+    let items = subst (λ x. Items (IsIn (R .world) μ) (set (set st (2 * k) t) (2 * k + 1) p) x (v ∷ rest)) (sym (add-one k)) (item words below) in
     restack R (set (set st (2 * k) t) (2 * k + 1) p) (k + 1) old (v ∷ []) rest s nameless (cons (scalar-nameless sc) nil) (two-length st k t p fits) room items

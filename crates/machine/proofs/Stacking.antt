@@ -11,7 +11,7 @@ use Rattle.semantics.specs.Machine.{withStack}
 use Rattle.semantics.specs.ListLaws.{All}
 use Rattle.store.proofs.Rooting.{rep-alike}
 use Rattle.machine.specs.Places.{Nameless}
-use Rattle.machine.specs.Rep.{Rep, Is, Items}
+use Rattle.machine.specs.Rep.{Rep, IsIn, Items}
 use Rattle.machine.specs.declared.Machine.{Machine}
 use Rattle.machine.proofs.Naming.{front-alike}
 
@@ -26,7 +26,7 @@ module _ {m : Machine} {st e d c l : List ℕ} {μ : Floo.Machine} (R : Rep m st
       → All Nameless new
       → length st′ ≡ length st
       → 2 * n ≤ length st
-      → Items (Is (R .world) μ) st′ n (new ++ rest)
+      → Items (IsIn (R .world) μ) st′ n (new ++ rest)
       → Rep (atDepth n m) st′ e d c l (withStack (new ++ rest) μ)
   unfolding withStack
   restack st′ n old new rest s p q long fits items =

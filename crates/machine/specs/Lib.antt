@@ -1,3 +1,6 @@
 pub mod Places
 pub mod Rep
 pub mod Operands
+pub mod Recount
+pub mod Moves
+pub mod Room

@@ -1,6 +1,7 @@
 -- How the lent words and the small state stand for a machine of the definition.
 -- Assumes nothing.
 use mathlib.Core.Path.{_≡_}
+use mathlib.Core.Bool.{Bool}
 use mathlib.Core.Bool.{true}
 use mathlib.Core.List.{List, [], _∷_}
 use mathlib.Core.Option.{Option, none, some}
@@ -11,6 +12,8 @@ use Rattle.semantics.specs.Machine as Floo
 use Rattle.semantics.specs.Machine.{Frame, pending, running, looping, repeating, counting, Slot, elementsOf}
 use Rattle.heap.specs.Chain.{on}
 use Rattle.heap.specs.Shape.{Ghost, Full, NoOut, cells}
+use Rattle.heap.specs.Assign.{Alives}
+use Rattle.heap.specs.declared.Lists.{Lists}
 use Rattle.store.specs.Rep as Store
 use Rattle.store.specs.Rep.{Stands, byteOf}
 use Rattle.machine.specs.Places.{roots, rootCount, keys, texts}
@@ -19,72 +22,77 @@ use Rattle.machine.specs.declared.Did.{Did}
 use Rattle.machine.specs.declared.Did.the-variants.{Ok, Fail}
 
 -- The two words of each stack item, the topmost item first.
-pub data Items (Is : Value → ℕ → ℕ → Type 0) (words : List ℕ) : ℕ → List Value → Type 0 where
-  bottom : Items Is words 0 []
+pub data Items (IsValue : Value → ℕ → ℕ → Type 0) (words : List ℕ) : ℕ → List Value → Type 0 where
+  bottom : Items IsValue words 0 []
   item : {n : ℕ} {v : Value} {s : List Value}
-      → Is v (getD words (2 * n) 0) (getD words (2 * n + 1) 0)
-      → Items Is words n s
-      → Items Is words (suc n) (v ∷ s)
+      → IsValue v (getD words (2 * n) 0) (getD words (2 * n + 1) 0)
+      → Items IsValue words n s
+      → Items IsValue words (suc n) (v ∷ s)
 
 -- The words of an execution slot: kind, the value's two, and three numbers. Of a running procedure these are the cell of its next element, if
 -- any is left, and how many are left.
-pub data FrameIs (Is : Value → ℕ → ℕ → Type 0) (g : Ghost) (store : List Object) : Frame → ℕ → ℕ → ℕ → ℕ → ℕ → ℕ → Type 0 where
-  a-pending : {v : Value} {t p a b c : ℕ} → Is v t p → FrameIs Is g store (pending v) 0 t p a b c
+pub data FrameIs (IsValue : Value → ℕ → ℕ → Type 0) (g : Ghost) (store : List Object) : Frame → ℕ → ℕ → ℕ → ℕ → ℕ → ℕ → Type 0 where
+  a-pending : {v : Value} {t p a b c : ℕ} → IsValue v t p → FrameIs IsValue g store (pending v) 0 t p a b c
   a-running : {i k t p a b c : ℕ}
-      → Is (array true i) t p
+      → IsValue (array true i) t p
       → b + k ≡ length (elementsOf (Store.objectAt store i))
       → ((r : ℕ) → b ≡ suc r → g .own a ≡ on (p + 2) r)
-      → FrameIs Is g store (running i k) 1 t p a b c
-  a-looping : {v : Value} {t p a b c : ℕ} → Is v t p → FrameIs Is g store (looping v) 2 t p a b c
-  a-repeating : {v : Value} {n t p b c : ℕ} → Is v t p → FrameIs Is g store (repeating n v) 3 t p n b c
-  a-counting : {v : Value} {n i f t p : ℕ} → Is v t p → FrameIs Is g store (counting n i f v) 4 t p n i f
+      → FrameIs IsValue g store (running i k) 1 t p a b c
+  a-looping : {v : Value} {t p a b c : ℕ} → IsValue v t p → FrameIs IsValue g store (looping v) 2 t p a b c
+  a-repeating : {v : Value} {n t p b c : ℕ} → IsValue v t p → FrameIs IsValue g store (repeating n v) 3 t p n b c
+  a-counting : {v : Value} {n i f t p : ℕ} → IsValue v t p → FrameIs IsValue g store (counting n i f v) 4 t p n i f
 
 -- The words of the execution slots, the topmost first.
-pub data Frames (Is : Value → ℕ → ℕ → Type 0) (g : Ghost) (store : List Object) (words : List ℕ) : ℕ → List Frame → Type 0 where
-  bottom : Frames Is g store words 0 []
+pub data Frames (IsValue : Value → ℕ → ℕ → Type 0) (g : Ghost) (store : List Object) (words : List ℕ) : ℕ → List Frame → Type 0 where
+  bottom : Frames IsValue g store words 0 []
   frame : {n : ℕ} {f : Frame} {fs : List Frame}
-      → FrameIs Is g store f (getD words (8 * n) 0) (getD words (8 * n + 1) 0) (getD words (8 * n + 2) 0) (getD words (8 * n + 3) 0) (getD words (8 * n + 4) 0) (getD words (8 * n + 5) 0)
-      → Frames Is g store words n fs
-      → Frames Is g store words (suc n) (f ∷ fs)
+      → FrameIs IsValue g store f (getD words (8 * n) 0) (getD words (8 * n + 1) 0) (getD words (8 * n + 2) 0) (getD words (8 * n + 3) 0) (getD words (8 * n + 4) 0) (getD words (8 * n + 5) 0)
+      → Frames IsValue g store words n fs
+      → Frames IsValue g store words (suc n) (f ∷ fs)
 
 -- A binding's two words; tag 7 where there is none.
-pub data Bound (Is : Value → ℕ → ℕ → Type 0) : Option Value → ℕ → ℕ → Type 0 where
-  unbound : {p : ℕ} → Bound Is none 7 p
-  bound : {v : Value} {t p : ℕ} → Is v t p → Bound Is (some v) t p
+pub data Bound (IsValue : Value → ℕ → ℕ → Type 0) : Option Value → ℕ → ℕ → Type 0 where
+  unbound : {p : ℕ} → Bound IsValue none 7 p
+  bound : {v : Value} {t p : ℕ} → IsValue v t p → Bound IsValue (some v) t p
 
 -- The words of dictionary slot d: the name's length, its bytes, four to a word and zeros after them, and the binding.
-pub record SlotIs (Is : Value → ℕ → ℕ → Type 0) (words : List ℕ) (d : ℕ) (s : Slot) : Type 0 where
+pub record SlotIs (IsValue : Value → ℕ → ℕ → Type 0) (words : List ℕ) (d : ℕ) (s : Slot) : Type 0 where
   pub size : getD words (12 * d) 0 ≡ length (s .key)
   pub short : length (s .key) ≤ 31
   pub spelt : (j : ℕ) → j < 32 → byteOf (getD words (12 * d + 1 + j / 4) 0) (j % 4) ≡ getD (s .key) j 0
-  pub binding : Bound Is (s .binding) (getD words (12 * d + 9) 0) (getD words (12 * d + 10) 0)
+  pub binding : Bound IsValue (s .binding) (getD words (12 * d + 9) 0) (getD words (12 * d + 10) 0)
 
 -- The words of the dictionary's slots from slot d on.
-pub data Slots (Is : Value → ℕ → ℕ → Type 0) (words : List ℕ) : ℕ → List Slot → Type 0 where
-  end : {d : ℕ} → Slots Is words d []
-  slot : {d : ℕ} {s : Slot} {ss : List Slot} → SlotIs Is words d s → Slots Is words (suc d) ss → Slots Is words d (s ∷ ss)
+pub data Slots (IsValue : Value → ℕ → ℕ → Type 0) (words : List ℕ) : ℕ → List Slot → Type 0 where
+  end : {d : ℕ} → Slots IsValue words d []
+  slot : {d : ℕ} {s : Slot} {ss : List Slot} → SlotIs IsValue words d s → Slots IsValue words (suc d) ss → Slots IsValue words d (s ∷ ss)
 
 -- What all parts share: which names have slots, which objects are strings, and which header stands for which object.
 pub record World : Type 0 where
   pub ρ : ℕ → ℕ
   pub ghost : Ghost
 
--- The heap stands for the objects, with these root values.
-pub record Stored (w : World) (m : Machine) (cs : List ℕ) (μ : Floo.Machine) : Type 0 where
-  pub full : Full (w .ghost) (cells cs + rootCount) 0 (m .lists) cs
-  pub none-dead : w .ghost .size 1 ≡ 0
+-- The heap stands for the objects, with these root values. No object waits to be freed, and no cell is lost.
+pub record Stored (w : World) (lists : Lists) (cs : List ℕ) (names : List (List ℕ)) (store : List Object) (rts : ℕ → Value) : Type 0 where
+  pub full : Full (w .ghost) (cells cs + rootCount) 0 lists cs
+  pub none-dead : lists .dead ≡ 0
   pub none-out : NoOut (w .ghost)
-  pub objects : Store.Rep (keys μ) rootCount (w .ρ) (w .ghost) cs (μ .store) (roots μ)
+  pub objects : Store.Rep names rootCount (w .ρ) (w .ghost) cs store rts
 
-abbrev pub Is : World → Floo.Machine → Value → ℕ → ℕ → Type 0
-Is w μ v t p = Stands (keys μ) (texts μ) (w .ρ) v t p
+-- Two words are a value: they stand for it, and the header that they name lives.
+pub record Is (w : World) (names : List (List ℕ)) (strings : List Bool) (v : Value) (t p : ℕ) : Type 0 where
+  pub stands : Stands names strings (w .ρ) v t p
+  pub alive : Alives (w .ghost) t p
+
+abbrev pub IsIn : World → Floo.Machine → Value → ℕ → ℕ → Type 0
+IsIn w μ = Is w (keys μ) (texts μ)
 
 pub record Rep (m : Machine) (stack exec dict cs log : List ℕ) (μ : Floo.Machine) : Type 0 where
   pub world : World
-  pub stored : Stored world m cs μ
-  pub items : Items (Is world μ) stack (m .depth) (μ .stack)
-  pub frames : Frames (Is world μ) (world .ghost) (μ .store) exec (m .frames) (μ .exec)
-  pub slots : Slots (Is world μ) dict 0 (μ .dictionary)
+  pub stored : Stored world (m .lists) cs (keys μ) (μ .store) (roots μ)
+  pub items : Items (IsIn world μ) stack (m .depth) (μ .stack)
+  pub frames : Frames (IsIn world μ) (world .ghost) (μ .store) exec (m .frames) (μ .exec)
+  pub slots : Slots (IsIn world μ) dict 0 (μ .dictionary)
   pub names : m .names ≡ length (μ .dictionary)
   pub logged : take (m .written) log ≡ μ .log
   pub stopped : m .stopped ≡ μ .stopped
@@ -110,3 +118,17 @@ pub record MovesStack (f : Floo.Machine → Floo.Machine) (m r : Machine) (s s�
 -- An operator that touches the stack's words alone does f, or fails as f does.
 pub record OnStack (f : Floo.Machine → Result Floo.Machine) (m : Machine) (s s′ : List ℕ) (r : Did) : Type 0 where
   pub does : (e d c l : List ℕ) (μ : Floo.Machine) → Rep m s e d c l μ → Answer (λ m′. Rep m′ s′ e d c l) (s′ ≡ s) r (f μ)
+
+-- ---- promises about the stack and the heap
+
+-- The words stand for some machine.
+abbrev pub Somewhere : Machine → List ℕ → List ℕ → Type 0
+Somewhere m s c = (e : List ℕ) × (d : List ℕ) × (l : List ℕ) × (μ : Floo.Machine) × Rep m s e d c l μ
+
+-- A primitive that touches the words of the stack and of the cells does f.
+pub record MovesHeap (f : Floo.Machine → Floo.Machine) (m r : Machine) (s s′ c c′ : List ℕ) : Type 0 where
+  pub moves : (e d l : List ℕ) (μ : Floo.Machine) → Rep m s e d c l μ → Rep r s′ e d c′ l (f μ)
+
+-- An operator that touches them does f, or fails as f does.
+pub record OnHeap (f : Floo.Machine → Result Floo.Machine) (m : Machine) (s s′ c c′ : List ℕ) (r : Did) : Type 0 where
+  pub does : (e d l : List ℕ) (μ : Floo.Machine) → Rep m s e d c l μ → Answer (λ m′. Rep m′ s′ e d c′ l) ((s′ ≡ s) × (c′ ≡ c)) r (f μ)

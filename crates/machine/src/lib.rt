@@ -1,9 +1,13 @@
 // The machine's small state, its slots, and what moves a value between places. Each function keeps `Rep`: the lent words stand for a machine of
 // the definition, and the function does to that machine what its contract names.
 ghost use mathlib.Core.Path.{_≡_};
-ghost use Prim.Native.Nat.{_+_, _*_, _-_, _≤_};
+ghost use Prim.Native.Nat.{_+_, _*_, _-_, _≤_, _<_};
 ghost use lib.ListN.{length};
+ghost use Rattle.machine.specs.Rep.{Somewhere, MovesStack, MovesHeap};
+ghost use Rattle.machine.specs.Moves.{dropped, copied, copiedOver, swapped};
+ghost use Rattle.machine.specs.Recount.{Placed, Recounts};
 ghost use Rattle.machine.specs.Operands.{FetchesOne, FetchesTwo, oneLow, twoLow, Replaces};
+use heap::FIRST_OBJECT;
 use heap::Lists;
 use semantics::Error;
 
@@ -107,4 +111,93 @@ impl Machine {
         self.depth = self.depth - n + 1;
         self
     }
+
+    // The topmost item goes.
+    pub fn drop(mut self, stack: &[u32], cells: &mut [u32]) -> Machine
+        requires { ⌜ (1 ≤ self .depth) × Somewhere self (now stack) (now cells) ⌝ }
+        ensures { λ r. ⌜ MovesHeap dropped self r (now (stack .entry)) (now (stack .entry)) (now (cells .entry)) (now (cells .exit)) ⌝ }
+        ensures { λ r. ⌜ r .depth ≡ self .depth - 1 ⌝ }
+    {
+        let k = self.depth - 1;
+        let lists = self.lists;
+        let old = stack[2 * k];
+        let was = stack[2 * k + 1];
+        let left = recount(lists, cells, old, was, TAG_NULL, 0);
+        self.depth = k;
+        self.lists = left;
+        self
+    }
+
+    // A copy of item i from the top is pushed.
+    pub fn push_copy(mut self, stack: &mut [u32], cells: &mut [u32], i: usize) -> Machine
+        requires { ⌜ (i < self .depth) × (2 * self .depth + 2 ≤ length (now stack)) × Somewhere self (now stack) (now cells) ⌝ }
+        ensures { λ r. ⌜ MovesHeap (copied i) self r (now (stack .entry)) (now (stack .exit)) (now (cells .entry)) (now (cells .exit)) ⌝ }
+        ensures { λ r. ⌜ r .depth ≡ self .depth + 1 ⌝ }
+    {
+        let n = self.depth;
+        let k = n - 1 - i;
+        let lists = self.lists;
+        let tag = stack[2 * k];
+        let pay = stack[2 * k + 1];
+        let left = recount(lists, cells, TAG_NULL, 0, tag, pay);
+        stack[2 * n] = tag;
+        stack[2 * n + 1] = pay;
+        self.depth = n + 1;
+        self.lists = left;
+        self
+    }
+
+    // Item i gives way to a copy of item j.
+    pub fn copy_over(mut self, stack: &mut [u32], cells: &mut [u32], i: usize, j: usize) -> Machine
+        requires { ⌜ (i < self .depth) × (j < self .depth) × Somewhere self (now stack) (now cells) ⌝ }
+        ensures { λ r. ⌜ MovesHeap (copiedOver i j) self r (now (stack .entry)) (now (stack .exit)) (now (cells .entry)) (now (cells .exit)) ⌝ }
+        ensures { λ r. ⌜ r .depth ≡ self .depth ⌝ }
+    {
+        let n = self.depth;
+        let k = n - 1 - i;
+        let o = n - 1 - j;
+        let lists = self.lists;
+        let old = stack[2 * k];
+        let was = stack[2 * k + 1];
+        let tag = stack[2 * o];
+        let pay = stack[2 * o + 1];
+        let left = recount(lists, cells, old, was, tag, pay);
+        stack[2 * k] = tag;
+        stack[2 * k + 1] = pay;
+        self.lists = left;
+        self
+    }
+
+    // Items i and j change places.
+    pub fn swap(self, stack: &mut [u32], i: usize, j: usize) -> Machine
+        requires { ⌜ (i < self .depth) × (j < self .depth) × (2 * self .depth ≤ length (now stack)) ⌝ }
+        ensures { λ r. ⌜ MovesStack (swapped i j) self r (now (stack .entry)) (now (stack .exit)) ⌝ }
+        ensures { λ r. ⌜ r .depth ≡ self .depth ⌝ }
+    {
+        let n = self.depth;
+        let k = n - 1 - i;
+        let o = n - 1 - j;
+        let t = stack[2 * k];
+        let p = stack[2 * k + 1];
+        let u = stack[2 * o];
+        let q = stack[2 * o + 1];
+        stack[2 * k] = u;
+        stack[2 * k + 1] = q;
+        stack[2 * o] = t;
+        stack[2 * o + 1] = p;
+        self
+    }
+}
+
+// A place that held the words (old, was) holds (tag, pay): the new object is counted before the old one is let go, so that an object that is both
+// stays.
+pub fn recount(s: Lists, cells: &mut [u32], old: u32, was: u32, tag: u32, pay: u32) -> Lists
+    requires { ⌜ Placed s (now cells) old was tag pay ⌝ }
+    ensures { λ r. ⌜ Recounts s (now (cells .entry)) old was tag pay r (now (cells .exit)) ⌝ }
+{
+    heap::increment(cells, tag, pay);
+    if FIRST_OBJECT <= old {
+        return heap::release(s, cells, was);
+    }
+    s
 }

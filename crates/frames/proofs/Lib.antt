@@ -1,0 +1,7 @@
+pub mod Frames
+pub mod Regions
+pub mod Entering
+pub mod Slots
+pub mod Tops
+pub mod Resetting
+pub mod Running

@@ -1,0 +1,167 @@
+-- The topmost execution slot: it goes, its value goes to the stack, or a copy of its value becomes pending.
+-- Assumes nothing.
+use mathlib.Core.Path.{_≡_, refl, sym, ap, _∙_, subst}
+use mathlib.Core.List.{List, _∷_}
+use Prim.Native.Nat.{ℕ, suc, _+_, _*_, _≤_, _<_}
+use native.Mathlib.Omega.{arith}
+use native.Mathlib.Numerals.{add-one}
+use lib.ListN.{length, getD, set, drop}
+use Rattle.semantics.specs.Values.{Value, null, Object}
+use Rattle.semantics.specs.Machine as Floo
+use Rattle.semantics.specs.Machine.{Frame, pending, withStack, withExec, push, enter}
+use Rattle.heap.specs.Shape.{Ghost}
+use Rattle.heap.specs.Upd.{upd}
+use Rattle.heap.specs.declared.Lists.{Lists}
+use Rattle.machine.specs.Places.{fromEnd, frameValue, roots}
+use Rattle.machine.specs.Rep.{Rep, IsIn, Items, item, FrameIs, a-pending, a-running, a-looping, a-repeating, a-counting, Frames, frame}
+use Rattle.machine.specs.Recount.{Placed, Recounts}
+use Rattle.machine.specs.declared.Machine.{Machine}
+use Rattle.machine.proofs.Dropping.{nothing}
+use Rattle.machine.proofs.Exchanging.{upd-alike, exchange-rep}
+use Rattle.machine.proofs.Items.{items-length, items-frame}
+use Rattle.machine.proofs.Operands.{two-first, two-second, two-below, two-length}
+use Rattle.machine.proofs.Rerooting.{withDepths, placed, rerooted}
+use Rattle.machine.proofs.Rooms.{frames-length}
+use Rattle.machine.proofs.Roots.{stack-root, exec-root, roots-at, at-front, at-other, at-end}
+use Rattle.frames.specs.Moves.{topValue, frameDropped, returned, bodyPended}
+use Rattle.frames.proofs.Entering.{Put}
+use Rattle.frames.proofs.Frames.{frames-frame}
+use Rattle.frames.proofs.Regions.{front-at, rest-at, exec-at}
+
+-- The topmost of k + 1 slots, its words and what lies below it.
+pub record TopFrame (A : Value → ℕ → ℕ → Type 0) (g : Ghost) (store : List Object) (e : List ℕ) (k : ℕ) (fs : List Frame) : Type 0 where
+  pub top : Frame
+  pub rest : List Frame
+  pub split : fs ≡ top ∷ rest
+  pub words : FrameIs A g store top (getD e (8 * k) 0) (getD e (8 * k + 1) 0) (getD e (8 * k + 2) 0) (getD e (8 * k + 3) 0) (getD e (8 * k + 4) 0) (getD e (8 * k + 5) 0)
+  pub below : Frames A g store e k rest
+
+module _ {A : Value → ℕ → ℕ → Type 0} {g : Ghost} {store : List Object} where
+  top-frame : {e : List ℕ} {n : ℕ} {fs : List Frame} → Frames A g store e n fs → (k : ℕ) → n ≡ suc k → TopFrame A g store e k fs
+  top-frame Frames.bottom k q = absurd (omega arith)
+  top-frame {e} (frame {n = n} {f = f} {fs = fs} h i) k q =
+      let same : n ≡ k = omega arith in
+      subst (λ x. TopFrame A g store e x (f ∷ fs)) same (record { top = f; rest = fs; split = refl; words = h; below = i })
+
+  -- A slot's value by its two words.
+  pub frame-value : {f : Frame} {kind t p a b c : ℕ} → FrameIs A g store f kind t p a b c → A (frameValue f) t p
+  frame-value (a-pending h) = h
+  frame-value (a-running h s l) = h
+  frame-value (a-looping h) = h
+  frame-value (a-repeating h) = h
+  frame-value (a-counting h) = h
+
+module _ {m : Machine} {st e d c l : List ℕ} {μ : Floo.Machine} (R : Rep m st e d c l μ) (k : ℕ) (h : m .frames ≡ suc k) where
+  pub slot : TopFrame (IsIn (R .world) μ) (R .world .ghost) (μ .store) e k (μ .exec)
+  slot = top-frame (R .frames) k h
+
+  abbrev value : Value
+  value = frameValue (slot .top)
+
+  below : length (slot .rest) ≡ k
+  below = frames-length (slot .below)
+
+  inside : 4 * k + 1 < 2048
+  inside = omega (arith, R .exec-room, R .exec-few)
+
+  pub words : IsIn (R .world) μ value (getD e (8 * k + 1) 0) (getD e (8 * k + 2) 0)
+  words = frame-value (slot .words)
+
+  -- The slot's root place holds its value.
+  held : roots μ (4 * k + 1) ≡ value
+  held =
+      exec-root μ k
+      ∙ ap (λ fs. fromEnd frameValue fs k) (slot .split)
+      ∙ ap (fromEnd frameValue (slot .top ∷ slot .rest)) (sym below)
+      ∙ at-front frameValue (slot .top) (slot .rest)
+
+  old : IsIn (R .world) μ (roots μ (4 * k + 1)) (getD e (8 * k + 1) 0) (getD e (8 * k + 2) 0)
+  old = subst (λ v. IsIn (R .world) μ v (getD e (8 * k + 1) 0) (getD e (8 * k + 2) 0)) (sym held) words
+
+  without : (y : ℕ) → fromEnd frameValue (slot .rest) y ≡ upd (fromEnd frameValue (μ .exec)) k null y
+  without y = rest-at frameValue (slot .top) (slot .rest) k below y ∙ ap (λ fs. upd (fromEnd frameValue fs) k null y) (sym (slot .split))
+
+  pub top-value : topValue μ ≡ value
+  unfolding topValue
+  top-value = ap (λ fs. frameValue (getD fs 0 (pending null))) (slot .split)
+
+  -- ---- the slot goes
+
+  pub drop-placed : Placed (m .lists) c (getD e (8 * k + 1) 0) (getD e (8 * k + 2) 0) 0 0
+  drop-placed = placed R (4 * k + 1) inside old nothing
+
+  pub drop-rep : {s′ : Lists} {c′ : List ℕ}
+      → Recounts (m .lists) c (getD e (8 * k + 1) 0) (getD e (8 * k + 2) 0) 0 0 s′ c′
+      → Rep (withDepths (m .depth) k s′ m) st e d c′ l (frameDropped μ)
+  unfolding frameDropped withExec withStack
+  drop-rep {s′} {c′} K =
+      subst (λ fs. Rep (withDepths (m .depth) k s′ m) st e d c′ l (withExec (drop 1 fs) μ)) (sym (slot .split))
+      (rerooted R (4 * k + 1) inside old nothing K (μ .stack) (slot .rest)
+      (exec-at μ (withExec (slot .rest) μ) refl k null refl without)
+      refl refl (R .stack-room) (omega (arith, R .exec-room)) (R .items) (slot .below))
+
+  -- ---- its value goes to the stack
+
+  module _ (room : 2 * m .depth + 2 ≤ length st) where
+    depth : length (μ .stack) ≡ m .depth
+    depth = items-length (R .items)
+
+    changed : (r : ℕ) → roots (withExec (slot .rest) (withStack (value ∷ μ .stack) μ)) r ≡ upd (upd (roots μ) (4 * m .depth) (roots μ (4 * k + 1))) (4 * k + 1) (roots μ (4 * m .depth)) r
+    unfolding withExec withStack
+    changed r =
+        let first = withStack (value ∷ μ .stack) μ in
+        let free : roots μ (4 * m .depth) ≡ null = stack-root μ (m .depth) ∙ at-end (λ x. x) (μ .stack) (m .depth) (omega (arith, depth)) in
+        exec-at first (withExec (slot .rest) first) refl k null refl without r
+        ∙ upd-alike (roots first) (upd (roots μ) (4 * m .depth) value) (4 * k + 1) null r
+        (roots-at μ (value ∷ μ .stack) (m .depth) value
+        (λ j q. at-other (λ x. x) value (μ .stack) j (λ z. q (z ∙ depth)))
+        (ap (fromEnd (λ x. x) (value ∷ μ .stack)) (sym depth) ∙ at-front (λ x. x) value (μ .stack)) r)
+        ∙ rw (free, held) refl
+
+    pub return-rep : Rep (withDepths (m .depth + 1) k (m .lists) m)
+        (set (set st (2 * m .depth) (getD e (8 * k + 1) 0)) (2 * m .depth + 1) (getD e (8 * k + 2) 0)) e d c l (returned μ)
+    unfolding returned frameDropped push withExec withStack
+    return-rep =
+        let n = m .depth in
+        let t = getD e (8 * k + 1) 0 in
+        let p = getD e (8 * k + 2) 0 in
+        let st′ = set (set st (2 * n) t) (2 * n + 1) p in
+        let at-top : IsIn (R .world) μ value (getD st′ (2 * n) 0) (getD st′ (2 * n + 1) 0) = rw (two-first st n t p room, two-second st n t p room) words in
+        let items = subst (λ x. Items (IsIn (R .world) μ) st′ x (value ∷ μ .stack)) (sym (add-one n)) (item at-top (items-frame (two-below st n t p room) (R .items))) in
+        let base = exchange-rep R (4 * n) (4 * k + 1) (omega (arith, R .stack-few)) inside (value ∷ μ .stack) (slot .rest) changed
+        (two-length st n t p room) refl (omega arith) (omega (arith, R .exec-room)) items (slot .below) in
+        subst (λ v. Rep (withDepths (n + 1) k (m .lists) m) st′ e d c l (push v (withExec (drop 1 (μ .exec)) μ))) (sym top-value)
+        (subst (λ fs. Rep (withDepths (n + 1) k (m .lists) m) st′ e d c l (push value (withExec (drop 1 fs) μ))) (sym (slot .split)) base)
+
+  -- ---- a copy becomes pending
+
+  module _ (room : 8 * m .frames + 8 ≤ length e) where
+    used : length (μ .exec) ≡ m .frames
+    used = frames-length (R .frames)
+
+    free : IsIn (R .world) μ (roots μ (4 * m .frames + 1)) 0 0
+    free =
+        subst (λ v. IsIn (R .world) μ v 0 0)
+        (sym (exec-root μ (m .frames) ∙ at-end frameValue (μ .exec) (m .frames) (omega (arith, used))))
+        nothing
+
+    above : 4 * m .frames + 1 < 2048
+    above = omega (arith, R .exec-few)
+
+    pub body-placed : Placed (m .lists) c 0 0 (getD e (8 * k + 1) 0) (getD e (8 * k + 2) 0)
+    body-placed = placed R (4 * m .frames + 1) above free words
+
+    pub body-rep : {s′ : Lists} {c′ e′ : List ℕ} {x y z : ℕ}
+        → Recounts (m .lists) c 0 0 (getD e (8 * k + 1) 0) (getD e (8 * k + 2) 0) s′ c′
+        → Put e e′ (m .frames) 0 (getD e (8 * k + 1) 0) (getD e (8 * k + 2) 0) x y z
+        → Rep (withDepths (m .depth) (m .frames + 1) s′ m) st e′ d c′ l (bodyPended μ)
+    unfolding bodyPended enter withExec withStack
+    body-rep {s′} {c′} {e′} K put =
+        let n = m .frames in
+        let at-top : FrameIs (IsIn (R .world) μ) (R .world .ghost) (μ .store) (pending value) (getD e′ (8 * n) 0) (getD e′ (8 * n + 1) 0) (getD e′ (8 * n + 2) 0) (getD e′ (8 * n + 3) 0) (getD e′ (8 * n + 4) 0) (getD e′ (8 * n + 5) 0) =
+        rw (put .kind-is, put .tag-is, put .pay-is, put .a-is, put .b-is, put .c-is) (a-pending words) in
+        let frames = subst (λ x. Frames (IsIn (R .world) μ) (R .world .ghost) (μ .store) e′ x (pending value ∷ μ .exec)) (sym (add-one n)) (frame at-top (frames-frame (put .below) (R .frames))) in
+        subst (λ v. Rep (withDepths (m .depth) (n + 1) s′ m) st e′ d c′ l (withExec (pending v ∷ μ .exec) μ)) (sym top-value)
+        (rerooted R (4 * n + 1) above free words K (μ .stack) (pending value ∷ μ .exec)
+        (exec-at μ (withExec (pending value ∷ μ .exec) μ) refl n value refl (front-at frameValue (pending value) (μ .exec) n value used refl))
+        refl (put .long) (R .stack-room) (omega arith) (R .items) frames)

@@ -1,0 +1,106 @@
+-- The test of room: it passes where the words stand for the machine after the step and no object was made, and fails with stackoverflow where only
+-- the stack is too deep.
+-- Assumes nothing.
+use mathlib.Core.Path.{_≡_, refl, ap, _∙_}
+use mathlib.Core.List.{List}
+use Prim.Native.Nat.{ℕ, suc, _/_, _≤_, _<_}
+use native.Mathlib.Omega.{arith}
+use lib.ListN.{length, length-take, drop-of-length-le}
+use borrow.Author.Tests.{le-leb, lt-leb}
+use Rattle.semantics.specs.Values.{Result, ok, fault, _>>=_, check, Object}
+use Rattle.semantics.specs.Machine as Floo
+use Rattle.semantics.specs.Held.{sumOf}
+use Rattle.semantics.specs.Steps.{Limits, roomFor, newCells, cellsFor}
+use Rattle.semantics.specs.declared.Error.the-variants.{StackOverflow}
+use Rattle.machine.specs.Rep.{Rep, OnStack, OnHeap, Frames, frame}
+use Rattle.machine.specs.Room.{lent, fitted, DoesStack, DoesHeap}
+use Rattle.machine.specs.declared.Machine.{Machine}
+use Rattle.machine.specs.declared.Did.{Did}
+use Rattle.machine.specs.declared.Did.the-variants.{Ok, Fail}
+use Rattle.machine.proofs.Items.{items-length}
+
+pub frames-length : {A : _} {g : _} {store : List Object} {words : List ℕ} {n : ℕ} {fs : List Floo.Frame} → Frames A g store words n fs → length fs ≡ n
+frames-length Frames.bottom = refl
+frames-length (frame h i) = ap suc (frames-length i)
+
+-- ---- the sizes of a machine that the words stand for
+
+module _ {m : Machine} {s e d c l : List ℕ} {μ : Floo.Machine} (R : Rep m s e d c l μ) where
+  pub stack-fits : length (μ .stack) ≤ length s / 2
+  stack-fits = omega (arith, items-length (R .items), R .stack-room)
+
+  pub exec-fits : length (μ .exec) ≤ length e / 8
+  exec-fits = omega (arith, frames-length (R .frames), R .exec-room)
+
+  pub dictionary-fits : length (μ .dictionary) ≤ length d / 12
+  dictionary-fits = omega (arith, R .names, R .dict-room)
+
+  pub log-fits : length (μ .log) ≤ length l
+  log-fits = omega (arith, ap length (R .logged), length-take (m .written) l)
+
+-- ---- the test
+
+no-new-cells : (before after : Floo.Machine) → length (after .store) ≡ length (before .store) → newCells before after ≡ 0
+unfolding newCells sumOf
+no-new-cells before after h = rw (drop-of-length-le (after .store) {i = length (before .store)} (omega arith)) refl
+
+module _ (limits : Limits) (before after : Floo.Machine) (dictionary : length (after .dictionary) ≤ limits .dictionarySlots) (exec : length (after .exec) ≤ limits .execSlots) where
+  pub room-passes : length (after .stack) ≤ limits .stackSlots
+      → length (after .store) ≡ length (before .store)
+      → length (after .log) ≤ limits .logBytes
+      → roomFor limits before after ≡ ok after
+  unfolding roomFor check _>>=_ cellsFor
+  room-passes stack store log =
+      rw (le-leb _ _ dictionary, le-leb _ _ exec, le-leb _ _ stack, no-new-cells before after store, le-leb _ _ log) refl
+
+  pub room-stack : limits .stackSlots < length (after .stack) → roomFor limits before after ≡ fault StackOverflow
+  unfolding roomFor check _>>=_
+  room-stack stack = rw (le-leb _ _ dictionary, le-leb _ _ exec, lt-leb _ _ stack) refl
+
+-- Where the words stand for the machine after, all fits.
+pub rep-passes : {m : Machine} {s e d c l : List ℕ} {after : Floo.Machine}
+    → Rep m s e d c l after
+    → (before : Floo.Machine) (s₀ : List ℕ) (c₀ : List ℕ)
+    → length s ≡ length s₀
+    → length (after .store) ≡ length (before .store)
+    → roomFor (lent s₀ e d c₀ l) before after ≡ ok after
+unfolding lent
+rep-passes {e = e} {d = d} {l = l} {after = after} R before s₀ c₀ long store =
+    let stack : length (after .stack) ≤ length s₀ / 2 = omega (arith, stack-fits R) in
+    room-passes (lent s₀ e d c₀ l) before after (dictionary-fits R) (exec-fits R) stack store (log-fits R)
+
+-- ---- operators that make no object
+
+-- An operator whose results have as many objects as before.
+abbrev pub MakesNone : (Floo.Machine → Result Floo.Machine) → Type 0
+MakesNone f = (before after : Floo.Machine) → f before ≡ ok after → length (after .store) ≡ length (before .store)
+
+pub lift-stack : {f : Floo.Machine → Result Floo.Machine} {m : Machine} {s s′ : List ℕ} (r : Did)
+    → MakesNone f
+    → length s′ ≡ length s
+    → OnStack f m s s′ r
+    → DoesStack f m s s′ r
+unfolding fitted _>>=_
+lift-stack {s = s} (Fail x) none long O =
+    record { does = λ e d c l μ R. let a = O .does e d c l μ R in (ap (λ q. q >>= roomFor (lent s e d c l) μ) (a .0), a .1) }
+lift-stack {s = s} (Ok m′) none long O =
+    record {
+      does = λ e d c l μ R.
+          let a = O .does e d c l μ R in
+          (a .0, ap (λ q. q >>= roomFor (lent s e d c l) μ) (a .1) ∙ rep-passes (a .2) μ s c long (none μ (a .0) (a .1)), a .2);
+    }
+
+pub lift-heap : {f : Floo.Machine → Result Floo.Machine} {m : Machine} {s s′ c c′ : List ℕ} (r : Did)
+    → MakesNone f
+    → length s′ ≡ length s
+    → OnHeap f m s s′ c c′ r
+    → DoesHeap f m s s′ c c′ r
+unfolding fitted _>>=_
+lift-heap {s = s} {c = c} (Fail x) none long O =
+    record { does = λ e d l μ R. let a = O .does e d l μ R in (ap (λ q. q >>= roomFor (lent s e d c l) μ) (a .0), a .1) }
+lift-heap {s = s} {c = c} (Ok m′) none long O =
+    record {
+      does = λ e d l μ R.
+          let a = O .does e d l μ R in
+          (a .0, ap (λ q. q >>= roomFor (lent s e d c l) μ) (a .1) ∙ rep-passes (a .2) μ s c long (none μ (a .0) (a .1)), a .2);
+    }
