@@ -13,3 +13,6 @@ pub mod Dropping
 pub mod Copying
 pub mod Swapping
 pub mod Rooms
+pub mod Results
+pub mod Logicals
+pub mod Retagging

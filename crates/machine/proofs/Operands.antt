@@ -10,7 +10,7 @@ use lib.ListN.{length, getD, set, length-set}
 use lib.Seq.{getD-set-same, getD-set-other}
 use Rattle.semantics.specs.Values.{Value, integer, ok, fault, _>>=_, int}
 use Rattle.semantics.specs.Machine as Floo
-use Rattle.semantics.specs.Machine.{withStack, pop1, pop2}
+use Rattle.semantics.specs.Machine.{withStack, push, pop1, pop2}
 use Rattle.semantics.specs.ListLaws.{All, nil, cons}
 use Rattle.semantics.specs.declared.Error.the-variants.{StackUnderflow, TypeCheck}
 use Rattle.store.specs.Rep.{Stands, a-null, an-integer, a-boolean, a-mark, an-operator, a-literal, an-executable, a-string, an-array, a-procedure}
@@ -104,7 +104,7 @@ module _ {m : Machine} {st e d c l : List ℕ} {μ : Floo.Machine} (R : Rep m st
       let x = top (R .items) k h in
       (x .rest, x .split ∙ ap (λ v. v ∷ x .rest) (is-integer (x .words .stands) i))
 
-  pop2-short : (n : ℕ) → Items (IsIn (R .world) μ) st n (μ .stack) → n < 2 → pop2 μ ≡ fault StackUnderflow
+  pub pop2-short : (n : ℕ) → Items (IsIn (R .world) μ) st n (μ .stack) → n < 2 → pop2 μ ≡ fault StackUnderflow
   pop2-short zero i l = pop2-none μ (no-items i (omega arith))
   pop2-short (suc zero) i l =
       let x = top i 0 refl in
@@ -117,13 +117,13 @@ module _ {m : Machine} {st e d c l : List ℕ} {μ : Floo.Machine} (R : Rep m st
 
   -- The upper operand is item u, the lower one item k.
   module _ (k u : ℕ) (h : m .depth ≡ suc u) (next : u ≡ suc k) where
-    upper : Top (IsIn (R .world) μ) st u (μ .stack)
+    pub upper : Top (IsIn (R .world) μ) st u (μ .stack)
     upper = top (R .items) u h
 
-    lower : Top (IsIn (R .world) μ) st k (upper .rest)
+    pub lower : Top (IsIn (R .world) μ) st k (upper .rest)
     lower = top (upper .below) k next
 
-    both : μ .stack ≡ upper .value ∷ lower .value ∷ lower .rest
+    pub both : μ .stack ≡ upper .value ∷ lower .value ∷ lower .rest
     both = upper .split ∙ ap (λ r. upper .value ∷ r) (lower .split)
 
     pub two-first-bad : (getD st (2 * k) 0 ≡ 1 → ⊥) → twoInts μ ≡ fault TypeCheck
@@ -143,15 +143,19 @@ module _ {m : Machine} {st e d c l : List ℕ} {μ : Floo.Machine} (R : Rep m st
           ∙ ap (λ v. integer (getD st (2 * u + 1) 0) ∷ v ∷ lower .rest) (is-integer (lower .words .stands) i),
     )
 
--- ---- a result in their place
+-- ---- a value that needs no heap
 
 scalar-stands : {w : World} {names : List (List ℕ)} {strings : List Bool} {v : Value} {t p : ℕ} → Scalar v t p → Is w names strings v t p
 scalar-stands Operands.an-integer = record { stands = an-integer; alive = λ l. absurd (omega arith) }
 scalar-stands Operands.a-boolean = record { stands = a-boolean; alive = λ l. absurd (omega arith) }
+scalar-stands Operands.a-mark = record { stands = a-mark; alive = λ l. absurd (omega arith) }
+scalar-stands Operands.a-null = record { stands = a-null; alive = λ l. absurd (omega arith) }
 
 scalar-nameless : {v : Value} {t p : ℕ} → Scalar v t p → Nameless v
 scalar-nameless Operands.an-integer = record { none = λ t. t }
 scalar-nameless Operands.a-boolean = record { none = λ t. t }
+scalar-nameless Operands.a-mark = record { none = λ t. t }
+scalar-nameless Operands.a-null = record { none = λ t. t }
 
 -- Two words stored at a slot.
 module _ (st : List ℕ) (k t p : ℕ) (fits : 2 * k + 2 ≤ length st) where
@@ -170,7 +174,28 @@ module _ (st : List ℕ) (k t p : ℕ) (fits : 2 * k + 2 ≤ length st) where
   pub two-length : length (set (set st (2 * k) t) (2 * k + 1) p) ≡ length st
   two-length = length-set (set st (2 * k) t) (2 * k + 1) p ∙ length-set st (2 * k) t
 
--- k items are left below the operands, and the result is put above them.
+-- k items are left, and a value is put above them.
+put-above : {m : Machine} {st e d c l : List ℕ} {μ : Floo.Machine}
+    → Rep m st e d c l μ
+    → (k t p : ℕ)
+    → 2 * k + 2 ≤ length st
+    → {v : Value}
+    → Scalar v t p
+    → (old rest : List Value)
+    → m .depth ≡ k + length old
+    → All Nameless old
+    → μ .stack ≡ old ++ rest
+    → Rep (atDepth (k + 1) m) (set (set st (2 * k) t) (2 * k + 1) p) e d c l (withStack (v ∷ rest) μ)
+put-above {m} {st} {μ} R k t p fits {v} sc old rest z nameless s =
+    let room : 2 * (k + 1) ≤ length st = omega arith in
+    let old-items = subst (λ x. Items (IsIn (R .world) μ) st (m .depth) x) s (R .items) in
+    let below = items-frame (two-below st k t p fits) (items-below old k z old-items) in
+    let words : IsIn (R .world) μ v (getD (set (set st (2 * k) t) (2 * k + 1) p) (2 * k) 0) (getD (set (set st (2 * k) t) (2 * k + 1) p) (2 * k + 1) 0) =
+    rw (two-first st k t p fits, two-second st k t p fits) (scalar-stands sc) in
+    let items = subst (λ x. Items (IsIn (R .world) μ) (set (set st (2 * k) t) (2 * k + 1) p) x (v ∷ rest)) (sym (add-one k)) (item words below) in
+    restack R (set (set st (2 * k) t) (2 * k + 1) p) (k + 1) old (v ∷ []) rest s nameless (cons (scalar-nameless sc) nil) (two-length st k t p fits) room items
+
+-- n operands give way to a result.
 pub replaced : {m : Machine} {st e d c l : List ℕ} {μ : Floo.Machine}
     → Rep m st e d c l μ
     → (k n t p : ℕ)
@@ -183,12 +208,17 @@ pub replaced : {m : Machine} {st e d c l : List ℕ} {μ : Floo.Machine}
     → All Nameless old
     → μ .stack ≡ old ++ rest
     → Rep (atDepth (k + 1) m) (set (set st (2 * k) t) (2 * k + 1) p) e d c l (withStack (v ∷ rest) μ)
-replaced {m} {st} {μ} R k n t p z few {v} sc old rest len nameless s =
+replaced {st = st} R k n t p z few sc old rest len nameless s =
     let fits : 2 * k + 2 ≤ length st = omega (arith, R .stack-room) in
-    let room : 2 * (k + 1) ≤ length st = omega arith in
-    let old-items = subst (λ x. Items (IsIn (R .world) μ) st (m .depth) x) s (R .items) in
-    let below = items-frame (two-below st k t p fits) (items-below old k (omega arith) old-items) in
-    let words : IsIn (R .world) μ v (getD (set (set st (2 * k) t) (2 * k + 1) p) (2 * k) 0) (getD (set (set st (2 * k) t) (2 * k + 1) p) (2 * k + 1) 0) =
-    rw (two-first st k t p fits, two-second st k t p fits) (scalar-stands sc) in
-    let items = subst (λ x. Items (IsIn (R .world) μ) (set (set st (2 * k) t) (2 * k + 1) p) x (v ∷ rest)) (sym (add-one k)) (item words below) in
-    restack R (set (set st (2 * k) t) (2 * k + 1) p) (k + 1) old (v ∷ []) rest s nameless (cons (scalar-nameless sc) nil) (two-length st k t p fits) room items
+    put-above R k t p fits sc old rest (omega arith) nameless s
+
+-- A value is pushed.
+pub pushed : {m : Machine} {st e d c l : List ℕ} {μ : Floo.Machine}
+    → Rep m st e d c l μ
+    → (t p : ℕ)
+    → 2 * m .depth + 2 ≤ length st
+    → {v : Value}
+    → Scalar v t p
+    → Rep (atDepth (m .depth + 1) m) (set (set st (2 * m .depth) t) (2 * m .depth + 1) p) e d c l (push v μ)
+unfolding push
+pushed {m} {μ = μ} R t p fits sc = put-above R (m .depth) t p fits sc [] (μ .stack) (omega arith) nil refl

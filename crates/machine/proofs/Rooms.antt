@@ -7,10 +7,12 @@ use Prim.Native.Nat.{ℕ, suc, _/_, _≤_, _<_}
 use native.Mathlib.Omega.{arith}
 use lib.ListN.{length, length-take, drop-of-length-le}
 use borrow.Author.Tests.{le-leb, lt-leb}
-use Rattle.semantics.specs.Values.{Result, ok, fault, _>>=_, check, Object}
+use Rattle.semantics.specs.Values.{Value, Result, ok, fault, _>>=_, check, Object}
 use Rattle.semantics.specs.Machine as Floo
+use Rattle.semantics.specs.Machine.{withStack}
 use Rattle.semantics.specs.Held.{sumOf}
 use Rattle.semantics.specs.Steps.{Limits, roomFor, newCells, cellsFor}
+use Rattle.semantics.specs.declared.Error.{Error}
 use Rattle.semantics.specs.declared.Error.the-variants.{StackOverflow}
 use Rattle.machine.specs.Rep.{Rep, OnStack, OnHeap, Frames, frame}
 use Rattle.machine.specs.Room.{lent, fitted, DoesStack, DoesHeap}
@@ -68,6 +70,22 @@ unfolding lent
 rep-passes {e = e} {d = d} {l = l} {after = after} R before s₀ c₀ long store =
     let stack : length (after .stack) ≤ length s₀ / 2 = omega (arith, stack-fits R) in
     room-passes (lent s₀ e d c₀ l) before after (dictionary-fits R) (exec-fits R) stack store (log-fits R)
+
+-- Where the stack has not grown, and nothing else has changed, all fits.
+pub stack-passes : {m : Machine} {s e d c l : List ℕ} {μ : Floo.Machine}
+    → Rep m s e d c l μ
+    → (new : List Value)
+    → length new ≤ length (μ .stack)
+    → roomFor (lent s e d c l) μ (withStack new μ) ≡ ok (withStack new μ)
+unfolding lent withStack
+stack-passes {s = s} {e = e} {d = d} {c = c} {l = l} {μ = μ} R new few =
+    let stack : length new ≤ length s / 2 = omega (arith, stack-fits R) in
+    room-passes (lent s e d c l) μ (withStack new μ) (dictionary-fits R) (exec-fits R) stack refl (log-fits R)
+
+-- What fails, fails with the test of room after it.
+pub fitted-fails : (limits : Limits) (f : Floo.Machine → Result Floo.Machine) (μ : Floo.Machine) {x : Error} → f μ ≡ fault x → fitted limits f μ ≡ fault x
+unfolding fitted _>>=_
+fitted-fails limits f μ e = ap (λ q. q >>= roomFor limits μ) e
 
 -- ---- operators that make no object
 

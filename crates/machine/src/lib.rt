@@ -4,9 +4,9 @@ ghost use mathlib.Core.Path.{_≡_};
 ghost use Prim.Native.Nat.{_+_, _*_, _-_, _≤_, _<_};
 ghost use lib.ListN.{length};
 ghost use Rattle.machine.specs.Rep.{Somewhere, MovesStack, MovesHeap};
-ghost use Rattle.machine.specs.Moves.{dropped, copied, copiedOver, swapped};
+ghost use Rattle.machine.specs.Moves.{dropped, copied, copiedOver, swapped, retagged, tagAs};
 ghost use Rattle.machine.specs.Recount.{Placed, Recounts};
-ghost use Rattle.machine.specs.Operands.{FetchesOne, FetchesTwo, oneLow, twoLow, Replaces};
+ghost use Rattle.machine.specs.Operands.{FetchesOne, FetchesTwo, oneLow, twoLow, FetchesOneLogical, FetchesTwoLogical, oneLogicalLow, twoLogicalLow, Replaces, Pushes};
 use heap::FIRST_OBJECT;
 use heap::Lists;
 use semantics::Error;
@@ -63,6 +63,20 @@ pub enum TwoInts {
     Got(u32, u32),
 }
 
+// An operand of not: a word, a truth value (0 or 1), or what is wrong with it.
+pub enum OneLogical {
+    Bad(Error),
+    Word(u32),
+    Truth(u32),
+}
+
+// Two operands of one kind, words or truth values, the upper one second, or what is wrong with them.
+pub enum TwoLogical {
+    Bad(Error),
+    Words(u32, u32),
+    Truths(u32, u32),
+}
+
 impl Machine {
     pub fn one_int(self, stack: &[u32]) -> OneInt
         requires { ⌜ 2 * self .depth ≤ length (now stack) ⌝ }
@@ -100,6 +114,50 @@ impl Machine {
         TwoInts::Got(stack[i + 1], stack[j + 1])
     }
 
+    pub fn one_logical(self, stack: &[u32]) -> OneLogical
+        requires { ⌜ 2 * self .depth ≤ length (now stack) ⌝ }
+        ensures { λ r. ⌜ FetchesOneLogical self (now (stack .entry)) r ⌝ }
+        ensures { λ r. ⌜ oneLogicalLow r ≤ self .depth ⌝ }
+    {
+        let n = self.depth;
+        if n < 1 {
+            return OneLogical::Bad(Error::StackUnderflow);
+        }
+        let i = 2 * (n - 1);
+        let tag = stack[i];
+        if tag == TAG_INTEGER {
+            return OneLogical::Word(stack[i + 1]);
+        }
+        if tag == TAG_BOOLEAN {
+            return OneLogical::Truth(stack[i + 1]);
+        }
+        OneLogical::Bad(Error::TypeCheck)
+    }
+
+    pub fn two_logical(self, stack: &[u32]) -> TwoLogical
+        requires { ⌜ 2 * self .depth ≤ length (now stack) ⌝ }
+        ensures { λ r. ⌜ FetchesTwoLogical self (now (stack .entry)) r ⌝ }
+        ensures { λ r. ⌜ twoLogicalLow r ≤ self .depth ⌝ }
+    {
+        let n = self.depth;
+        if n < 2 {
+            return TwoLogical::Bad(Error::StackUnderflow);
+        }
+        let i = 2 * (n - 2);
+        let j = 2 * (n - 1);
+        let tag = stack[i];
+        if stack[j] != tag {
+            return TwoLogical::Bad(Error::TypeCheck);
+        }
+        if tag == TAG_INTEGER {
+            return TwoLogical::Words(stack[i + 1], stack[j + 1]);
+        }
+        if tag == TAG_BOOLEAN {
+            return TwoLogical::Truths(stack[i + 1], stack[j + 1]);
+        }
+        TwoLogical::Bad(Error::TypeCheck)
+    }
+
     // Takes n operands that name no object away, and pushes a result.
     pub fn replace(mut self, stack: &mut [u32], n: usize, tag: u32, payload: u32) -> Machine
         requires { ⌜ (2 * self .depth ≤ length (now stack)) × (1 ≤ n) × (n ≤ self .depth) ⌝ }
@@ -109,6 +167,31 @@ impl Machine {
         stack[i] = tag;
         stack[i + 1] = payload;
         self.depth = self.depth - n + 1;
+        self
+    }
+
+    // Pushes a value that needs no dictionary and no heap.
+    pub fn push_scalar(mut self, stack: &mut [u32], tag: u32, payload: u32) -> Machine
+        requires { ⌜ 2 * self .depth + 2 ≤ length (now stack) ⌝ }
+        ensures { λ r. ⌜ Pushes tag payload self r (now (stack .entry)) (now (stack .exit)) ⌝ }
+        ensures { λ r. ⌜ r .depth ≡ self .depth + 1 ⌝ }
+    {
+        let n = self.depth;
+        stack[2 * n] = tag;
+        stack[2 * n + 1] = payload;
+        self.depth = n + 1;
+        self
+    }
+
+    // The topmost item, where it is a name or an array, becomes executable or literal.
+    pub fn retag(self, stack: &mut [u32], executable: bool) -> Machine
+        requires { ⌜ (1 ≤ self .depth) × (2 * self .depth ≤ length (now stack)) ⌝ }
+        ensures { λ r. ⌜ MovesStack (retagged executable) self r (now (stack .entry)) (now (stack .exit)) ⌝ }
+        ensures { λ r. ⌜ r .depth ≡ self .depth ⌝ }
+    {
+        let i = 2 * (self.depth - 1);
+        let tag = tag_as(stack[i], executable);
+        stack[i] = tag;
         self
     }
 
@@ -200,4 +283,26 @@ pub fn recount(s: Lists, cells: &mut [u32], old: u32, was: u32, tag: u32, pay: u
         return heap::release(s, cells, was);
     }
     s
+}
+
+// The tag of a value, made executable or literal.
+fn tag_as(tag: u32, executable: bool) -> u32
+    ensures { λ r. ⌜ r ≡ tagAs executable tag ⌝ }
+{
+    if executable {
+        if tag == TAG_LITERAL {
+            return TAG_EXECUTABLE;
+        }
+        if tag == TAG_ARRAY {
+            return TAG_PROCEDURE;
+        }
+        return tag;
+    }
+    if tag == TAG_EXECUTABLE {
+        return TAG_LITERAL;
+    }
+    if tag == TAG_PROCEDURE {
+        return TAG_ARRAY;
+    }
+    tag
 }

@@ -1,3 +1,4 @@
 pub mod Shapes
 pub mod Named
 pub mod Divisions
+pub mod Connectives

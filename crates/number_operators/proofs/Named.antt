@@ -1,14 +1,16 @@
 -- The definition's operator of each name, in the shape that the laws of `Shapes` speak of.
 -- Assumes nothing.
 use mathlib.Core.Path.{_≡_, refl}
+use mathlib.Core.Bool.{not, _&&_, _||_, Bool·beq}
 use lib.IntN.{pos, negℤ, natAbs, _+ℤ_, _-ℤ_, _*ℤ_}
 use lib.Signed.{ltZ, leZ, quotZ, remZ}
+use lib.Bits.{bitAnd, bitOr, bitXor}
 use Rattle.semantics.specs.Text.{bytes, textual}
 use Rattle.semantics.specs.Values.{ok}
 use Rattle.semantics.specs.Machine.{Machine}
 use Rattle.semantics.specs.NumberOperators.{division}
 use Rattle.semantics.specs.Operators.{perform, find, table, _is_}
-use Rattle.semantics.specs.NumberOperators.{arithmetic, arithmetic1, comparison, bitshift}
+use Rattle.semantics.specs.NumberOperators.{arithmetic, arithmetic1, comparison, bitshift, connective, negation}
 use Rattle.number_operators.proofs.Shapes.{onTwo, onOne, computing, computing1, comparing, shifting}
 
 pub add-is : (μ : Machine) → perform (bytes "add") μ ≡ onTwo (computing (λ x y. ok (x +ℤ y))) μ
@@ -58,3 +60,19 @@ idiv-is μ = refl
 pub mod-is : (μ : Machine) → perform (bytes "mod") μ ≡ onTwo (computing (division remZ)) μ
 unfolding textual perform find table _is_ arithmetic
 mod-is μ = refl
+
+pub and-is : (μ : Machine) → perform (bytes "and") μ ≡ connective bitAnd _&&_ μ
+unfolding textual perform find table _is_
+and-is μ = refl
+
+pub or-is : (μ : Machine) → perform (bytes "or") μ ≡ connective bitOr _||_ μ
+unfolding textual perform find table _is_
+or-is μ = refl
+
+pub xor-is : (μ : Machine) → perform (bytes "xor") μ ≡ connective bitXor (λ a b. not (Bool·beq a b)) μ
+unfolding textual perform find table _is_
+xor-is μ = refl
+
+pub not-is : (μ : Machine) → perform (bytes "not") μ ≡ negation μ
+unfolding textual perform find table _is_
+not-is μ = refl

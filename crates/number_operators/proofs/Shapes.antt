@@ -4,6 +4,7 @@ use mathlib.Core.Path.{_≡_, refl, sym, ap, _∙_, subst}
 use mathlib.Core.Bool.{Bool}
 use mathlib.Core.List.{List, [], _∷_}
 use Prim.Native.Nat.{ℕ, _^_, _<_, _≤_}
+use native.Mathlib.Omega.{arith}
 use lib.IntN.{ℤ}
 use Rattle.semantics.specs.Words.{signed, word, shift}
 use Rattle.semantics.specs.Values.{Value, integer, boolean, Result, ok, fault, _>>=_, int}
@@ -13,7 +14,7 @@ use Rattle.semantics.specs.ListLaws.{nil, cons}
 use Rattle.semantics.specs.declared.Error.{Error}
 use Rattle.machine.specs.Places.{Nameless}
 use Rattle.machine.specs.Operands.{Scalar, oneInt, twoInts, OneIs, TwoIs, FetchesOne, FetchesTwo, oneLow, twoLow, Replaces}
-use Rattle.machine.specs.Rep.{OnStack}
+use Rattle.machine.specs.Room.{lent, DoesStack}
 use Rattle.machine.specs.declared.Machine.{Machine}
 use Rattle.machine.specs.declared.Did.the-variants.{Ok, Fail}
 use Rattle.machine.specs.declared.OneInt.{OneInt}
@@ -22,8 +23,10 @@ use Rattle.machine.specs.declared.TwoInts.{TwoInts}
 use Rattle.machine.specs.declared.TwoInts.the-variants as Two
 use Rattle.word.proofs.Words.{word-signed}
 use Rattle.machine.proofs.Operands.{pop1-some, pop2-some}
+use Rattle.machine.proofs.Rooms.{fitted-fails}
+use Rattle.machine.proofs.Results.{result-fits}
 
-integer-nameless : {w : ℕ} → Nameless (integer w)
+pub integer-nameless : {w : ℕ} → Nameless (integer w)
 integer-nameless = record { none = λ t. t }
 
 -- ---- two integers
@@ -69,12 +72,12 @@ pub two-bad : (k : Binary) {m : Machine} {st : List ℕ} {r : TwoInts} {e : Erro
     → r ≡ Two.Bad e
     → (f : Floo.Machine → Result Floo.Machine)
     → ((μ : Floo.Machine) → f μ ≡ onTwo k μ)
-    → OnStack f m st st (Fail e)
+    → DoesStack f m st st (Fail e)
 unfolding _>>=_
-two-bad k {e} F q f is =
+two-bad k {st} F q f is =
     record {
       does = λ x d c l μ R.
-          (is μ ∙ via-two k μ ∙ ap (λ t. t >>= use-two k) (subst (TwoIs μ) q (F .says x d c l μ R)), refl);
+          (fitted-fails (lent st x d c l) f μ (is μ ∙ via-two k μ ∙ ap (λ t. t >>= use-two k) (subst (TwoIs μ) q (F .says x d c l μ R))), refl);
     }
 
 -- Two integers, and a result that needs no heap.
@@ -86,16 +89,15 @@ pub two-good : (k : Binary) {m m′ : Machine} {st st′ : List ℕ} {r : TwoInt
     → (f : Floo.Machine → Result Floo.Machine)
     → ((μ : Floo.Machine) → f μ ≡ onTwo k μ)
     → ((τ : Floo.Machine) → k (signed a) (signed b) τ ≡ ok (push v τ))
-    → OnStack f m st st′ (Ok m′)
-unfolding _>>=_ int push withStack
-two-good k {a} {b} {v} F q P sc f is gives =
+    → DoesStack f m st st′ (Ok m′)
+unfolding _>>=_ int
+two-good k {a} {b} F q P sc f is gives =
     record {
       does = λ x d c l μ R.
-          let s = subst (TwoIs μ) q (F .says x d c l μ R) in (
-            withStack (v ∷ s .0) μ,
-            is μ ∙ ap (λ r. r >>= λ p. int (p .0) >>= λ i. int (p .1) >>= λ j. k i j (p .2)) (pop2-some μ (s .1)) ∙ gives (withStack (s .0) μ),
-            P .does sc (integer b ∷ integer a ∷ []) (s .0) refl (cons integer-nameless (cons integer-nameless nil)) x d c l μ (s .1) R,
-          );
+          let s = subst (TwoIs μ) q (F .says x d c l μ R) in
+          result-fits f P sc (integer b ∷ integer a ∷ []) (s .0) refl (omega arith) (cons integer-nameless (cons integer-nameless nil)) x d c l μ (s .1)
+          (is μ ∙ ap (λ r. r >>= λ p. int (p .0) >>= λ i. int (p .1) >>= λ j. k i j (p .2)) (pop2-some μ (s .1)) ∙ gives (withStack (s .0) μ))
+          R;
     }
 
 pub two-low : {r : TwoInts} {a b n : ℕ} → r ≡ Two.Got a b → twoLow r ≤ n → 2 ≤ n
@@ -133,11 +135,12 @@ pub one-bad : (k : Unary) {m : Machine} {st : List ℕ} {r : OneInt} {e : Error}
     → r ≡ One.Bad e
     → (f : Floo.Machine → Result Floo.Machine)
     → ((μ : Floo.Machine) → f μ ≡ onOne k μ)
-    → OnStack f m st st (Fail e)
+    → DoesStack f m st st (Fail e)
 unfolding _>>=_
-one-bad k F q f is =
+one-bad k {st} F q f is =
     record {
-      does = λ x d c l μ R. (is μ ∙ via-one k μ ∙ ap (λ t. t >>= use-one k) (subst (OneIs μ) q (F .says x d c l μ R)), refl);
+      does = λ x d c l μ R.
+          (fitted-fails (lent st x d c l) f μ (is μ ∙ via-one k μ ∙ ap (λ t. t >>= use-one k) (subst (OneIs μ) q (F .says x d c l μ R))), refl);
     }
 
 pub one-good : (k : Unary) {m m′ : Machine} {st st′ : List ℕ} {r : OneInt} {a t p : ℕ} {v : Value}
@@ -148,16 +151,15 @@ pub one-good : (k : Unary) {m m′ : Machine} {st st′ : List ℕ} {r : OneInt}
     → (f : Floo.Machine → Result Floo.Machine)
     → ((μ : Floo.Machine) → f μ ≡ onOne k μ)
     → ((τ : Floo.Machine) → k (signed a) τ ≡ ok (push v τ))
-    → OnStack f m st st′ (Ok m′)
-unfolding _>>=_ int push withStack
-one-good k {a} {v} F q P sc f is gives =
+    → DoesStack f m st st′ (Ok m′)
+unfolding _>>=_ int
+one-good k {a} F q P sc f is gives =
     record {
       does = λ x d c l μ R.
-          let s = subst (OneIs μ) q (F .says x d c l μ R) in (
-            withStack (v ∷ s .0) μ,
-            is μ ∙ ap (λ r. r >>= λ p. int (p .0) >>= λ i. k i (p .1)) (pop1-some μ (s .1)) ∙ gives (withStack (s .0) μ),
-            P .does sc (integer a ∷ []) (s .0) refl (cons integer-nameless nil) x d c l μ (s .1) R,
-          );
+          let s = subst (OneIs μ) q (F .says x d c l μ R) in
+          result-fits f P sc (integer a ∷ []) (s .0) refl (omega arith) (cons integer-nameless nil) x d c l μ (s .1)
+          (is μ ∙ ap (λ r. r >>= λ p. int (p .0) >>= λ i. k i (p .1)) (pop1-some μ (s .1)) ∙ gives (withStack (s .0) μ))
+          R;
     }
 
 pub one-low : {r : OneInt} {a n : ℕ} → r ≡ One.Got a → oneLow r ≤ n → 1 ≤ n
@@ -205,11 +207,11 @@ pub two-fails : (k : Binary) {m : Machine} {st : List ℕ} {r : TwoInts} {a b : 
     → (f : Floo.Machine → Result Floo.Machine)
     → ((μ : Floo.Machine) → f μ ≡ onTwo k μ)
     → ((τ : Floo.Machine) → k (signed a) (signed b) τ ≡ fault e)
-    → OnStack f m st st (Fail e)
+    → DoesStack f m st st (Fail e)
 unfolding _>>=_ int
-two-fails k F q f is gives =
+two-fails k {st} F q f is gives =
     record {
       does = λ x d c l μ R.
           let s = subst (TwoIs μ) q (F .says x d c l μ R) in
-          (is μ ∙ ap (λ r. r >>= λ p. int (p .0) >>= λ i. int (p .1) >>= λ j. k i j (p .2)) (pop2-some μ (s .1)) ∙ gives (withStack (s .0) μ), refl);
+          (fitted-fails (lent st x d c l) f μ (is μ ∙ ap (λ r. r >>= λ p. int (p .0) >>= λ i. int (p .1) >>= λ j. k i j (p .2)) (pop2-some μ (s .1)) ∙ gives (withStack (s .0) μ)), refl);
     }

@@ -1,24 +1,26 @@
-// The operators on integers: arithmetic, shifts and comparisons. Each does exactly what the definition's operator of its name does, errors and their
-// order included, and touches the stack's words alone.
+// The operators on integers and truth values: arithmetic, shifts, logic and comparisons. Each does exactly what the definition's operator of its name
+// does, errors and their order and the test of room included, and touches the stack's words alone.
 ghost use mathlib.Core.Path.{_≡_};
 ghost use lib.ListN.{length};
 ghost use Prim.Native.Nat.{_*_, _≤_};
 ghost use Rattle.semantics.specs.Text.{bytes};
 ghost use Rattle.semantics.specs.Operators.{perform};
-ghost use Rattle.machine.specs.Rep.{OnStack};
+ghost use Rattle.machine.specs.Room.{DoesStack};
 ghost use Rattle.store.specs.Rep.{bit as bitOf};
 use machine::Did;
 use machine::Machine;
 use machine::OneInt;
+use machine::OneLogical;
 use machine::TAG_BOOLEAN;
 use machine::TAG_INTEGER;
 use machine::TwoInts;
+use machine::TwoLogical;
 use semantics::Error;
 use word::Quotient;
 
 pub fn add(m: Machine, stack: &mut [u32]) -> Did
     requires { ⌜ 2 * m .depth ≤ length (now stack) ⌝ }
-    ensures { λ r. ⌜ OnStack (perform (bytes "add")) m (now (stack .entry)) (now (stack .exit)) r ⌝ }
+    ensures { λ r. ⌜ DoesStack (perform (bytes "add")) m (now (stack .entry)) (now (stack .exit)) r ⌝ }
 {
     match m.two_ints(stack) {
         TwoInts::Bad(e) => Did::Fail(e),
@@ -28,7 +30,7 @@ pub fn add(m: Machine, stack: &mut [u32]) -> Did
 
 pub fn sub(m: Machine, stack: &mut [u32]) -> Did
     requires { ⌜ 2 * m .depth ≤ length (now stack) ⌝ }
-    ensures { λ r. ⌜ OnStack (perform (bytes "sub")) m (now (stack .entry)) (now (stack .exit)) r ⌝ }
+    ensures { λ r. ⌜ DoesStack (perform (bytes "sub")) m (now (stack .entry)) (now (stack .exit)) r ⌝ }
 {
     match m.two_ints(stack) {
         TwoInts::Bad(e) => Did::Fail(e),
@@ -38,7 +40,7 @@ pub fn sub(m: Machine, stack: &mut [u32]) -> Did
 
 pub fn mul(m: Machine, stack: &mut [u32]) -> Did
     requires { ⌜ 2 * m .depth ≤ length (now stack) ⌝ }
-    ensures { λ r. ⌜ OnStack (perform (bytes "mul")) m (now (stack .entry)) (now (stack .exit)) r ⌝ }
+    ensures { λ r. ⌜ DoesStack (perform (bytes "mul")) m (now (stack .entry)) (now (stack .exit)) r ⌝ }
 {
     match m.two_ints(stack) {
         TwoInts::Bad(e) => Did::Fail(e),
@@ -48,7 +50,7 @@ pub fn mul(m: Machine, stack: &mut [u32]) -> Did
 
 pub fn idiv(m: Machine, stack: &mut [u32]) -> Did
     requires { ⌜ 2 * m .depth ≤ length (now stack) ⌝ }
-    ensures { λ r. ⌜ OnStack (perform (bytes "idiv")) m (now (stack .entry)) (now (stack .exit)) r ⌝ }
+    ensures { λ r. ⌜ DoesStack (perform (bytes "idiv")) m (now (stack .entry)) (now (stack .exit)) r ⌝ }
 {
     match m.two_ints(stack) {
         TwoInts::Bad(e) => Did::Fail(e),
@@ -61,7 +63,7 @@ pub fn idiv(m: Machine, stack: &mut [u32]) -> Did
 
 pub fn rem(m: Machine, stack: &mut [u32]) -> Did
     requires { ⌜ 2 * m .depth ≤ length (now stack) ⌝ }
-    ensures { λ r. ⌜ OnStack (perform (bytes "mod")) m (now (stack .entry)) (now (stack .exit)) r ⌝ }
+    ensures { λ r. ⌜ DoesStack (perform (bytes "mod")) m (now (stack .entry)) (now (stack .exit)) r ⌝ }
 {
     match m.two_ints(stack) {
         TwoInts::Bad(e) => Did::Fail(e),
@@ -74,7 +76,7 @@ pub fn rem(m: Machine, stack: &mut [u32]) -> Did
 
 pub fn abs(m: Machine, stack: &mut [u32]) -> Did
     requires { ⌜ 2 * m .depth ≤ length (now stack) ⌝ }
-    ensures { λ r. ⌜ OnStack (perform (bytes "abs")) m (now (stack .entry)) (now (stack .exit)) r ⌝ }
+    ensures { λ r. ⌜ DoesStack (perform (bytes "abs")) m (now (stack .entry)) (now (stack .exit)) r ⌝ }
 {
     match m.one_int(stack) {
         OneInt::Bad(e) => Did::Fail(e),
@@ -84,7 +86,7 @@ pub fn abs(m: Machine, stack: &mut [u32]) -> Did
 
 pub fn neg(m: Machine, stack: &mut [u32]) -> Did
     requires { ⌜ 2 * m .depth ≤ length (now stack) ⌝ }
-    ensures { λ r. ⌜ OnStack (perform (bytes "neg")) m (now (stack .entry)) (now (stack .exit)) r ⌝ }
+    ensures { λ r. ⌜ DoesStack (perform (bytes "neg")) m (now (stack .entry)) (now (stack .exit)) r ⌝ }
 {
     match m.one_int(stack) {
         OneInt::Bad(e) => Did::Fail(e),
@@ -94,7 +96,7 @@ pub fn neg(m: Machine, stack: &mut [u32]) -> Did
 
 pub fn bitshift(m: Machine, stack: &mut [u32]) -> Did
     requires { ⌜ 2 * m .depth ≤ length (now stack) ⌝ }
-    ensures { λ r. ⌜ OnStack (perform (bytes "bitshift")) m (now (stack .entry)) (now (stack .exit)) r ⌝ }
+    ensures { λ r. ⌜ DoesStack (perform (bytes "bitshift")) m (now (stack .entry)) (now (stack .exit)) r ⌝ }
 {
     match m.two_ints(stack) {
         TwoInts::Bad(e) => Did::Fail(e),
@@ -102,9 +104,54 @@ pub fn bitshift(m: Machine, stack: &mut [u32]) -> Did
     }
 }
 
+// Of two words or two truth values. Ruled out: a truth value beside an integer, and truth values that give an integer.
+pub fn bit_and(m: Machine, stack: &mut [u32]) -> Did
+    requires { ⌜ 2 * m .depth ≤ length (now stack) ⌝ }
+    ensures { λ r. ⌜ DoesStack (perform (bytes "and")) m (now (stack .entry)) (now (stack .exit)) r ⌝ }
+{
+    match m.two_logical(stack) {
+        TwoLogical::Bad(e) => Did::Fail(e),
+        TwoLogical::Words(a, b) => Did::Ok(m.replace(stack, 2, TAG_INTEGER, word::bit_and(a, b))),
+        TwoLogical::Truths(a, b) => Did::Ok(m.replace(stack, 2, TAG_BOOLEAN, word::bit_and(a, b))),
+    }
+}
+
+pub fn bit_or(m: Machine, stack: &mut [u32]) -> Did
+    requires { ⌜ 2 * m .depth ≤ length (now stack) ⌝ }
+    ensures { λ r. ⌜ DoesStack (perform (bytes "or")) m (now (stack .entry)) (now (stack .exit)) r ⌝ }
+{
+    match m.two_logical(stack) {
+        TwoLogical::Bad(e) => Did::Fail(e),
+        TwoLogical::Words(a, b) => Did::Ok(m.replace(stack, 2, TAG_INTEGER, word::bit_or(a, b))),
+        TwoLogical::Truths(a, b) => Did::Ok(m.replace(stack, 2, TAG_BOOLEAN, word::bit_or(a, b))),
+    }
+}
+
+pub fn bit_xor(m: Machine, stack: &mut [u32]) -> Did
+    requires { ⌜ 2 * m .depth ≤ length (now stack) ⌝ }
+    ensures { λ r. ⌜ DoesStack (perform (bytes "xor")) m (now (stack .entry)) (now (stack .exit)) r ⌝ }
+{
+    match m.two_logical(stack) {
+        TwoLogical::Bad(e) => Did::Fail(e),
+        TwoLogical::Words(a, b) => Did::Ok(m.replace(stack, 2, TAG_INTEGER, word::bit_xor(a, b))),
+        TwoLogical::Truths(a, b) => Did::Ok(m.replace(stack, 2, TAG_BOOLEAN, word::bit_xor(a, b))),
+    }
+}
+
+pub fn bit_not(m: Machine, stack: &mut [u32]) -> Did
+    requires { ⌜ 2 * m .depth ≤ length (now stack) ⌝ }
+    ensures { λ r. ⌜ DoesStack (perform (bytes "not")) m (now (stack .entry)) (now (stack .exit)) r ⌝ }
+{
+    match m.one_logical(stack) {
+        OneLogical::Bad(e) => Did::Fail(e),
+        OneLogical::Word(a) => Did::Ok(m.replace(stack, 1, TAG_INTEGER, word::bit_not(a))),
+        OneLogical::Truth(a) => Did::Ok(m.replace(stack, 1, TAG_BOOLEAN, word::bit_xor(a, 1))),
+    }
+}
+
 pub fn lt(m: Machine, stack: &mut [u32]) -> Did
     requires { ⌜ 2 * m .depth ≤ length (now stack) ⌝ }
-    ensures { λ r. ⌜ OnStack (perform (bytes "lt")) m (now (stack .entry)) (now (stack .exit)) r ⌝ }
+    ensures { λ r. ⌜ DoesStack (perform (bytes "lt")) m (now (stack .entry)) (now (stack .exit)) r ⌝ }
 {
     match m.two_ints(stack) {
         TwoInts::Bad(e) => Did::Fail(e),
@@ -114,7 +161,7 @@ pub fn lt(m: Machine, stack: &mut [u32]) -> Did
 
 pub fn le(m: Machine, stack: &mut [u32]) -> Did
     requires { ⌜ 2 * m .depth ≤ length (now stack) ⌝ }
-    ensures { λ r. ⌜ OnStack (perform (bytes "le")) m (now (stack .entry)) (now (stack .exit)) r ⌝ }
+    ensures { λ r. ⌜ DoesStack (perform (bytes "le")) m (now (stack .entry)) (now (stack .exit)) r ⌝ }
 {
     match m.two_ints(stack) {
         TwoInts::Bad(e) => Did::Fail(e),
@@ -124,7 +171,7 @@ pub fn le(m: Machine, stack: &mut [u32]) -> Did
 
 pub fn gt(m: Machine, stack: &mut [u32]) -> Did
     requires { ⌜ 2 * m .depth ≤ length (now stack) ⌝ }
-    ensures { λ r. ⌜ OnStack (perform (bytes "gt")) m (now (stack .entry)) (now (stack .exit)) r ⌝ }
+    ensures { λ r. ⌜ DoesStack (perform (bytes "gt")) m (now (stack .entry)) (now (stack .exit)) r ⌝ }
 {
     match m.two_ints(stack) {
         TwoInts::Bad(e) => Did::Fail(e),
@@ -134,7 +181,7 @@ pub fn gt(m: Machine, stack: &mut [u32]) -> Did
 
 pub fn ge(m: Machine, stack: &mut [u32]) -> Did
     requires { ⌜ 2 * m .depth ≤ length (now stack) ⌝ }
-    ensures { λ r. ⌜ OnStack (perform (bytes "ge")) m (now (stack .entry)) (now (stack .exit)) r ⌝ }
+    ensures { λ r. ⌜ DoesStack (perform (bytes "ge")) m (now (stack .entry)) (now (stack .exit)) r ⌝ }
 {
     match m.two_ints(stack) {
         TwoInts::Bad(e) => Did::Fail(e),
