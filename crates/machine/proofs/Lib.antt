@@ -16,3 +16,4 @@ pub mod Rooms
 pub mod Results
 pub mod Logicals
 pub mod Retagging
+pub mod Outcomes
