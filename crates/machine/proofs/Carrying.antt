@@ -60,12 +60,12 @@ module _ {A B : Value → ℕ → ℕ → Type 0} {Q : ℕ → Type 0} (f : (v :
       slot (record { size = h .size; short = h .short; spelt = h .spelt; binding = binding-map q (h .binding) }) (slots-map qs i)
 
   module _ {g g′ : Ghost} {store store′ : List Object}
-      (long : (i : ℕ) → length (elementsOf (Store.objectAt store′ i)) ≡ length (elementsOf (Store.objectAt store i)))
+      (long : (i t p : ℕ) → A (array true i) t p → length (elementsOf (Store.objectAt store′ i)) ≡ length (elementsOf (Store.objectAt store i)))
       (stays : (i t p a r : ℕ) → Reached Q (array true i) → A (array true i) t p → g .own a ≡ on (p + 2) r → g′ .own a ≡ on (p + 2) r) where
     frame-map : {fr : Frame} {k t p a b c : ℕ} → Reached Q (frameValue fr) → FrameIs A g store fr k t p a b c → FrameIs B g′ store′ fr k t p a b c
     frame-map q (a-pending h) = a-pending (f _ _ _ q h)
     frame-map q (a-running {i = i} {t = t} {p = p} {a = a} h s l) =
-        a-running (f _ _ _ q h) (s ∙ sym (long i)) (λ r e. stays i t p a r q h (l r e))
+        a-running (f _ _ _ q h) (s ∙ sym (long i t p h)) (λ r e. stays i t p a r q h (l r e))
     frame-map q (a-looping h) = a-looping (f _ _ _ q h)
     frame-map q (a-repeating h) = a-repeating (f _ _ _ q h)
     frame-map q (a-counting h) = a-counting (f _ _ _ q h)

@@ -1,4 +1,4 @@
--- Copies of stack items, and items that change places.
+-- A value is pushed, or takes an item's place, by its words: copies of items, and elements.
 -- Assumes nothing.
 use mathlib.Core.Path.{_≡_, sym, ap, _∙_, subst}
 use mathlib.Core.List.{List, _∷_}
@@ -8,7 +8,7 @@ use native.Mathlib.Numerals.{add-one}
 use lib.ListN.{length, getD, set}
 use Rattle.semantics.specs.Values.{Value, null}
 use Rattle.semantics.specs.Machine as Floo
-use Rattle.semantics.specs.Machine.{push}
+use Rattle.semantics.specs.Machine.{withStack, push}
 use Rattle.heap.specs.declared.Lists.{Lists}
 use Rattle.machine.specs.Places.{fromEnd, roots}
 use Rattle.machine.specs.Rep.{Rep, IsIn, Items, item}
@@ -72,36 +72,43 @@ module _ {m : Machine} {st e d c l : List ℕ} {μ : Floo.Machine} (R : Rep m st
     unfolding copied push
     copy-rep = push-rep (word-of i k h) room
 
-  -- ---- a copy takes another item's place
+  -- ---- a value takes an item's place
 
-  module _ (i k j o : ℕ) (h : m .depth ≡ k + suc i) (g : m .depth ≡ o + suc j) where
-    old : IsIn (R .world) μ (roots μ (4 * k)) (getD st (2 * k) 0) (getD st (2 * k + 1) 0)
-    old =
+  module _ (i k : ℕ) (h : m .depth ≡ k + suc i) where
+    pub held : IsIn (R .world) μ (roots μ (4 * k)) (getD st (2 * k) 0) (getD st (2 * k + 1) 0)
+    held =
         subst (λ v. IsIn (R .world) μ v (getD st (2 * k) 0) (getD st (2 * k + 1) 0))
         (sym (stack-root μ k ∙ from-top (μ .stack) i k (depth ∙ h)))
         (word-of i k h)
 
-    low : k < 512
+    pub low : k < 512
     low = omega (arith, R .stack-room, R .stack-few)
 
+    module _ {v : Value} {t p : ℕ} (new : IsIn (R .world) μ v t p) where
+      pub value-placed : Placed (m .lists) c (getD st (2 * k) 0) (getD st (2 * k + 1) 0) t p
+      value-placed = placed R k low held new
+
+      pub value-rep : {s′ : Lists} {c′ : List ℕ}
+          → Recounts (m .lists) c (getD st (2 * k) 0) (getD st (2 * k + 1) 0) t p s′ c′
+          → Rep (withDepth (m .depth) s′ m) (set (set st (2 * k) t) (2 * k + 1) p) e d c′ l (withStack (set (μ .stack) i v) μ)
+      value-rep K =
+          let st′ = set (set st (2 * k) t) (2 * k + 1) p in
+          let room : 2 * k + 2 ≤ length st = omega (arith, R .stack-room) in
+          let words : IsIn (R .world) μ v (getD st′ (2 * k) 0) (getD st′ (2 * k + 1) 0) = rw (two-first st k t p room, two-second st k t p room) new in
+          restacked R k low held new K (set (μ .stack) i v) st′ (m .depth)
+          (set-there (μ .stack) i k v (depth ∙ h))
+          (set-here (μ .stack) i k v (depth ∙ h))
+          (two-length st k t p room)
+          (R .stack-room)
+          (items-set (R .items) i k h words (two-others st k t p room))
+
+  -- A copy of item j.
+  module _ (i k j o : ℕ) (h : m .depth ≡ k + suc i) (g : m .depth ≡ o + suc j) where
     pub over-placed : Placed (m .lists) c (getD st (2 * k) 0) (getD st (2 * k + 1) 0) (getD st (2 * o) 0) (getD st (2 * o + 1) 0)
-    over-placed = placed R k low old (word-of j o g)
+    over-placed = value-placed i k h (word-of j o g)
 
     pub over-rep : {s′ : Lists} {c′ : List ℕ}
         → Recounts (m .lists) c (getD st (2 * k) 0) (getD st (2 * k + 1) 0) (getD st (2 * o) 0) (getD st (2 * o + 1) 0) s′ c′
         → Rep (withDepth (m .depth) s′ m) (set (set st (2 * k) (getD st (2 * o) 0)) (2 * k + 1) (getD st (2 * o + 1) 0)) e d c′ l (copiedOver i j μ)
     unfolding copiedOver
-    over-rep K =
-        let t = getD st (2 * o) 0 in
-        let p = getD st (2 * o + 1) 0 in
-        let st′ = set (set st (2 * k) t) (2 * k + 1) p in
-        let v = getD (μ .stack) j null in
-        let room : 2 * k + 2 ≤ length st = omega (arith, R .stack-room) in
-        let words : IsIn (R .world) μ v (getD st′ (2 * k) 0) (getD st′ (2 * k + 1) 0) =
-        rw (two-first st k t p room, two-second st k t p room) (word-of j o g) in
-        restacked R k low old (word-of j o g) K (set (μ .stack) i v) st′ (m .depth)
-        (set-there (μ .stack) i k v (depth ∙ h))
-        (set-here (μ .stack) i k v (depth ∙ h))
-        (two-length st k t p room)
-        (R .stack-room)
-        (items-set (R .items) i k h words (two-others st k t p room))
+    over-rep = value-rep i k h (word-of j o g)

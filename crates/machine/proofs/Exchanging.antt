@@ -57,7 +57,7 @@ module _ {m : Machine} {st e d c l : List ℕ} {μ : Floo.Machine} (R : Rep m st
               (λ r i. (λ a. subst (λ z. Names z i) (sym (changed r)) a, λ a. subst (λ z. Names z i) (changed r) a));
         };
         items = items-map carry (all-reached (λ v. v) stack) items;
-        frames = frames-map carry (λ i. refl) (λ i t p a r q w s. s) (all-reached frameValue exec) frames;
+        frames = frames-map carry (λ i t p w. refl) (λ i t p a r q w s. s) (all-reached frameValue exec) frames;
         slots = slots-map carry (all-reached (λ (s : Slot). bound (s .binding)) (μ .dictionary)) (R .slots);
         names = R .names;
         logged = R .logged;

@@ -17,3 +17,4 @@ pub mod Results
 pub mod Logicals
 pub mod Retagging
 pub mod Outcomes
+pub mod Rehousing

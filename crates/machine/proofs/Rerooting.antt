@@ -78,7 +78,7 @@ module _ {m : Machine} {st e d c l : List ℕ} {μ : Floo.Machine} (R : Rep m st
             objects = rep-alike (H .objects) (λ x i. (λ a. subst (λ y. Names y i) (sym (changed x)) a, λ a. subst (λ y. Names y i) (changed x) a));
           };
           items = items-map carry items-reached items;
-          frames = frames-map carry (λ i. refl) (Worlds.stays (R .stored) r inside old new K) frames-reached frames;
+          frames = frames-map carry (λ i t p w. refl) (Worlds.stays (R .stored) r inside old new K) frames-reached frames;
           slots = slots-map carry slots-reached (R .slots);
           names = R .names;
           logged = R .logged;

@@ -1,0 +1,7 @@
+pub mod Arrays
+pub mod Taking
+pub mod Putting
+pub mod Strings
+pub mod Units
+pub mod Making
+pub mod Tags
