@@ -1,13 +1,13 @@
 // Primitives on the elements of arrays and the bytes of strings that are items of the stack. Each is lent the stack and the cells alone, and does to
 // the machine that they stand for what its contract names.
 ghost use mathlib.Core.Path.{_≡_};
-ghost use Prim.Native.Nat.{_+_, _*_, _/_, _^_, _≤_, _<_};
 ghost use mathlib.Core.List.{List};
-ghost use Prim.Native.Nat.{ℕ};
+ghost use Prim.Native.Nat.{ℕ, _+_, _*_, _/_, _^_, _≤_, _<_};
 ghost use lib.ListN.{length};
 ghost use Rattle.store.specs.Rep.{byteOf, withByte};
 ghost use Rattle.machine.specs.Rep.{Somewhere, MovesHeap};
-ghost use Rattle.elements.specs.Elements.{HasArray, HasElement, HasString, HasByte, SomewhereThat, ArraySize, StringSize, ByteOf, elementCopied, elementPut, bytePut, HasPlain, freeCells, ItemTag, arrayMade, stringMade};
+ghost use Rattle.elements.specs.Elements.{HasArray, HasElement, HasString, HasByte, HasPlain, SomewhereThat};
+ghost use Rattle.elements.specs.Elements.{freeCells, ItemTag, ArraySize, StringSize, ByteOf, elementCopied, elementPut, bytePut, arrayMade, stringMade};
 use machine::Machine;
 use machine::TAG_ARRAY;
 use machine::TAG_STRING;

@@ -108,13 +108,13 @@ pub fn pend_body(m: Machine, exec: &mut [u32], cells: &mut [u32]) -> Machine
     let tag = exec[8 * k + 1];
     let pay = exec[8 * k + 2];
     let lists = m.lists;
-    let left = machine::recount(lists, cells, TAG_NULL, 0, tag, pay);
+    let counted = machine::recount(lists, cells, TAG_NULL, 0, tag, pay);
     exec[8 * n] = PENDING;
     exec[8 * n + 1] = tag;
     exec[8 * n + 2] = pay;
     let mut r = m;
     r.frames = n + 1;
-    r.lists = left;
+    r.lists = counted;
     r
 }
 
