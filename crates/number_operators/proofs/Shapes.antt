@@ -3,17 +3,17 @@
 use mathlib.Core.Path.{_≡_, refl, sym, ap, _∙_, subst}
 use mathlib.Core.Bool.{Bool}
 use mathlib.Core.List.{List, [], _∷_}
-use Prim.Native.Nat.{ℕ, _^_, _<_, _≤_}
+use Prim.Native.Nat.{ℕ, _^_, _<_}
 use native.Mathlib.Omega.{arith}
 use lib.IntN.{ℤ}
 use Rattle.semantics.specs.Words.{signed, word, shift}
 use Rattle.semantics.specs.Values.{Value, integer, boolean, Result, ok, fault, _>>=_, int}
 use Rattle.semantics.specs.Machine as Floo
-use Rattle.semantics.specs.Machine.{withStack, push, pop1, pop2}
+use Rattle.semantics.specs.Machine.{withStack, push}
 use Rattle.semantics.specs.ListLaws.{nil, cons}
 use Rattle.semantics.specs.declared.Error.{Error}
 use Rattle.machine.specs.Places.{Nameless}
-use Rattle.machine.specs.Operands.{Scalar, oneInt, twoInts, OneIs, TwoIs, FetchesOne, FetchesTwo, oneLow, twoLow, Replaces}
+use Rattle.machine.specs.Operands.{Scalar, OneIs, TwoIs, FetchesOne, FetchesTwo, Replaces}
 use Rattle.machine.specs.Room.{lent, DoesStack}
 use Rattle.machine.specs.declared.Machine.{Machine}
 use Rattle.machine.specs.declared.Did.the-variants.{Ok, Fail}
@@ -22,7 +22,8 @@ use Rattle.machine.specs.declared.OneInt.the-variants as One
 use Rattle.machine.specs.declared.TwoInts.{TwoInts}
 use Rattle.machine.specs.declared.TwoInts.the-variants as Two
 use Rattle.word.proofs.Words.{word-signed}
-use Rattle.machine.proofs.Operands.{pop1-some, pop2-some}
+use Rattle.machine.proofs.Outcomes.{one-fault, one-value, two-fault, two-values}
+pub use Rattle.machine.proofs.Outcomes.{onOne, onTwo, one-low, two-low}
 use Rattle.machine.proofs.Rooms.{fitted-fails}
 use Rattle.machine.proofs.Results.{result-fits}
 
@@ -35,37 +36,6 @@ integer-nameless = record { none = λ t. t }
 abbrev pub Binary : Type 0
 Binary = ℤ → ℤ → Floo.Machine → Result Floo.Machine
 
-abbrev pub onTwo : Binary → Floo.Machine → Result Floo.Machine
-onTwo k μ = pop2 μ >>= λ p. int (p .0) >>= λ a. int (p .1) >>= λ b. k a b (p .2)
-
-abbrev Operands : Type 0
-Operands = ℤ × ℤ × Floo.Machine
-
-abbrev both : ℤ → Floo.Machine → ℤ → Result Operands
-both a τ b = ok (a, b, τ)
-
-abbrev use-two : Binary → Operands → Result Floo.Machine
-use-two k t = k (t .0) (t .1) (t .2)
-
-second : (k : Binary) (a : ℤ) (τ : Floo.Machine) (r : Result ℤ) → (r >>= λ b. k a b τ) ≡ ((r >>= both a τ) >>= use-two k)
-unfolding _>>=_
-second k a τ (ok b) = refl
-second k a τ (fault e) = refl
-
-first : (k : Binary) (y : Value) (τ : Floo.Machine) (r : Result ℤ) → (r >>= λ a. int y >>= λ b. k a b τ) ≡ ((r >>= λ a. int y >>= both a τ) >>= use-two k)
-unfolding _>>=_
-first k y τ (ok a) = second k a τ (int y)
-first k y τ (fault e) = refl
-
-via-two : (k : Binary) (μ : Floo.Machine) → onTwo k μ ≡ (twoInts μ >>= use-two k)
-unfolding twoInts _>>=_
-via-two k μ = from (pop2 μ)
-  where
-    from : (r : Result (Value × Value × Floo.Machine))
-        → (r >>= λ p. int (p .0) >>= λ a. int (p .1) >>= λ b. k a b (p .2)) ≡ ((r >>= λ p. int (p .0) >>= λ a. int (p .1) >>= both a (p .2)) >>= use-two k)
-    from (ok p) = first k (p .1) (p .2) (int (p .0))
-    from (fault e) = refl
-
 -- No two integers: the operator fails as its operands do.
 pub two-bad : (k : Binary) {m : Machine} {st : List ℕ} {r : TwoInts} {e : Error}
     → FetchesTwo m st r
@@ -77,7 +47,7 @@ unfolding _>>=_
 two-bad k {st} F q f is =
     record {
       does = λ x d c l μ R.
-          (fitted-fails (lent st x d c l) f μ (is μ ∙ via-two k μ ∙ ap (λ t. t >>= use-two k) (subst (TwoIs μ) q (F .says x d c l μ R))), refl);
+          (fitted-fails (lent st x d c l) f μ (is μ ∙ two-fault k μ (subst (TwoIs μ) q (F .says x d c l μ R))), refl);
     }
 
 -- Two integers, and a result that needs no heap.
@@ -96,39 +66,14 @@ two-good k {a} {b} F q P sc f is gives =
       does = λ x d c l μ R.
           let s = subst (TwoIs μ) q (F .says x d c l μ R) in
           result-fits f P sc (integer b ∷ integer a ∷ []) (s .0) refl (omega arith) (cons integer-nameless (cons integer-nameless nil)) x d c l μ (s .1)
-          (is μ ∙ ap (λ r. r >>= λ p. int (p .0) >>= λ i. int (p .1) >>= λ j. k i j (p .2)) (pop2-some μ (s .1)) ∙ gives (withStack (s .0) μ))
+          (is μ ∙ two-values k μ (s .1) ∙ gives (withStack (s .0) μ))
           R;
     }
-
-pub two-low : {r : TwoInts} {a b n : ℕ} → r ≡ Two.Got a b → twoLow r ≤ n → 2 ≤ n
-two-low {n} q h = subst (λ r. twoLow r ≤ n) q h
 
 -- ---- one integer
 
 abbrev pub Unary : Type 0
 Unary = ℤ → Floo.Machine → Result Floo.Machine
-
-abbrev pub onOne : Unary → Floo.Machine → Result Floo.Machine
-onOne k μ = pop1 μ >>= λ p. int (p .0) >>= λ a. k a (p .1)
-
-abbrev alone : Floo.Machine → ℤ → Result (ℤ × Floo.Machine)
-alone τ a = ok (a, τ)
-
-abbrev use-one : Unary → ℤ × Floo.Machine → Result Floo.Machine
-use-one k t = k (t .0) (t .1)
-
-only : (k : Unary) (τ : Floo.Machine) (r : Result ℤ) → (r >>= λ a. k a τ) ≡ ((r >>= alone τ) >>= use-one k)
-unfolding _>>=_
-only k τ (ok a) = refl
-only k τ (fault e) = refl
-
-via-one : (k : Unary) (μ : Floo.Machine) → onOne k μ ≡ (oneInt μ >>= use-one k)
-unfolding oneInt _>>=_
-via-one k μ = from (pop1 μ)
-  where
-    from : (r : Result (Value × Floo.Machine)) → (r >>= λ p. int (p .0) >>= λ a. k a (p .1)) ≡ ((r >>= λ p. int (p .0) >>= alone (p .1)) >>= use-one k)
-    from (ok p) = only k (p .1) (int (p .0))
-    from (fault e) = refl
 
 pub one-bad : (k : Unary) {m : Machine} {st : List ℕ} {r : OneInt} {e : Error}
     → FetchesOne m st r
@@ -140,7 +85,7 @@ unfolding _>>=_
 one-bad k {st} F q f is =
     record {
       does = λ x d c l μ R.
-          (fitted-fails (lent st x d c l) f μ (is μ ∙ via-one k μ ∙ ap (λ t. t >>= use-one k) (subst (OneIs μ) q (F .says x d c l μ R))), refl);
+          (fitted-fails (lent st x d c l) f μ (is μ ∙ one-fault k μ (subst (OneIs μ) q (F .says x d c l μ R))), refl);
     }
 
 pub one-good : (k : Unary) {m m′ : Machine} {st st′ : List ℕ} {r : OneInt} {a t p : ℕ} {v : Value}
@@ -158,12 +103,9 @@ one-good k {a} F q P sc f is gives =
       does = λ x d c l μ R.
           let s = subst (OneIs μ) q (F .says x d c l μ R) in
           result-fits f P sc (integer a ∷ []) (s .0) refl (omega arith) (cons integer-nameless nil) x d c l μ (s .1)
-          (is μ ∙ ap (λ r. r >>= λ p. int (p .0) >>= λ i. k i (p .1)) (pop1-some μ (s .1)) ∙ gives (withStack (s .0) μ))
+          (is μ ∙ one-value k μ (s .1) ∙ gives (withStack (s .0) μ))
           R;
     }
-
-pub one-low : {r : OneInt} {a n : ℕ} → r ≡ One.Got a → oneLow r ≤ n → 1 ≤ n
-one-low {n} q h = subst (λ r. oneLow r ≤ n) q h
 
 -- ---- what the results are
 
@@ -213,5 +155,5 @@ two-fails k {st} F q f is gives =
     record {
       does = λ x d c l μ R.
           let s = subst (TwoIs μ) q (F .says x d c l μ R) in
-          (fitted-fails (lent st x d c l) f μ (is μ ∙ ap (λ r. r >>= λ p. int (p .0) >>= λ i. int (p .1) >>= λ j. k i j (p .2)) (pop2-some μ (s .1)) ∙ gives (withStack (s .0) μ)), refl);
+          (fitted-fails (lent st x d c l) f μ (is μ ∙ two-values k μ (s .1) ∙ gives (withStack (s .0) μ)), refl);
     }
