@@ -1,5 +1,5 @@
 -- The test of room: it passes where the words stand for the machine after the step and no object was made, and fails with stackoverflow where only
--- the stack is too deep.
+-- the stack is too deep, with execstackoverflow where the execution stack is.
 -- Assumes nothing.
 use mathlib.Core.Path.{_≡_, refl, ap, _∙_}
 use mathlib.Core.List.{List}
@@ -13,7 +13,7 @@ use Rattle.semantics.specs.Machine.{withStack}
 use Rattle.semantics.specs.Held.{sumOf}
 use Rattle.semantics.specs.Steps.{Limits, roomFor, newCells, cellsFor}
 use Rattle.semantics.specs.declared.Error.{Error}
-use Rattle.semantics.specs.declared.Error.the-variants.{StackOverflow}
+use Rattle.semantics.specs.declared.Error.the-variants.{ExecStackOverflow, StackOverflow}
 use Rattle.machine.specs.Rep.{Rep, OnStack, OnHeap, Frames, frame}
 use Rattle.machine.specs.Room.{lent, fitted, DoesStack, DoesHeap}
 use Rattle.machine.specs.declared.Machine.{Machine}
@@ -59,17 +59,34 @@ module _ (limits : Limits) (before after : Floo.Machine) (dictionary : length (a
   unfolding roomFor check _>>=_
   room-stack stack = rw (le-leb _ _ dictionary, le-leb _ _ exec, lt-leb _ _ stack) refl
 
--- Where the words stand for the machine after, all fits.
+pub room-exec : (limits : Limits) (before after : Floo.Machine)
+    → length (after .dictionary) ≤ limits .dictionarySlots
+    → limits .execSlots < length (after .exec)
+    → roomFor limits before after ≡ fault ExecStackOverflow
+unfolding roomFor check _>>=_
+room-exec limits before after dictionary exec = rw (le-leb _ _ dictionary, lt-leb _ _ exec) refl
+
+-- Where the words stand for the machine after, all fits. The words that are lent have the lengths of those before.
+pub rep-fits : {m : Machine} {s e d c l : List ℕ} {after : Floo.Machine}
+    → Rep m s e d c l after
+    → (before : Floo.Machine) (s₀ e₀ c₀ : List ℕ)
+    → length s ≡ length s₀
+    → length e ≡ length e₀
+    → length (after .store) ≡ length (before .store)
+    → roomFor (lent s₀ e₀ d c₀ l) before after ≡ ok after
+unfolding lent
+rep-fits {d = d} {l = l} {after = after} R before s₀ e₀ c₀ long slots store =
+    let stack : length (after .stack) ≤ length s₀ / 2 = omega (arith, stack-fits R) in
+    let exec : length (after .exec) ≤ length e₀ / 8 = omega (arith, exec-fits R) in
+    room-passes (lent s₀ e₀ d c₀ l) before after (dictionary-fits R) exec stack store (log-fits R)
+
 pub rep-passes : {m : Machine} {s e d c l : List ℕ} {after : Floo.Machine}
     → Rep m s e d c l after
     → (before : Floo.Machine) (s₀ : List ℕ) (c₀ : List ℕ)
     → length s ≡ length s₀
     → length (after .store) ≡ length (before .store)
     → roomFor (lent s₀ e d c₀ l) before after ≡ ok after
-unfolding lent
-rep-passes {e = e} {d = d} {l = l} {after = after} R before s₀ c₀ long store =
-    let stack : length (after .stack) ≤ length s₀ / 2 = omega (arith, stack-fits R) in
-    room-passes (lent s₀ e d c₀ l) before after (dictionary-fits R) (exec-fits R) stack store (log-fits R)
+rep-passes {e = e} R before s₀ c₀ long store = rep-fits R before s₀ e c₀ long refl store
 
 -- Where the stack has not grown, and nothing else has changed, all fits.
 pub stack-passes : {m : Machine} {s e d c l : List ℕ} {μ : Floo.Machine}

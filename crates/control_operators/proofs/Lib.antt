@@ -1,0 +1,6 @@
+pub mod Popping
+pub mod Promising
+pub mod Named
+pub mod Entering
+pub mod Choosing
+pub mod Leaving
