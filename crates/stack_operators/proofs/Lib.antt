@@ -4,3 +4,4 @@ pub mod Counted
 pub mod Doubling
 pub mod Reversing
 pub mod Returns
+pub mod Scalars

@@ -1,5 +1,6 @@
-// The operators that rearrange the stack: dup, exch, pop, index, copy and roll. Each does exactly what the definition's operator of its name does and
-// then the definition's test of room, errors and their order included. Nothing is changed before the last check.
+// The operators that rearrange the stack, dup, exch, pop, index, copy and roll, and mark, cvx and cvlit, which touch its topmost place alone. Each does
+// exactly what the definition's operator of its name does and then the definition's test of room, errors and their order included. Nothing is changed
+// before the last check.
 ghost use mathlib.Core.Path.{_≡_};
 ghost use Prim.Native.Nat.{_+_, _*_, _≤_, _<_};
 ghost use lib.ListN.{length};
@@ -13,6 +14,7 @@ ghost use Rattle.stack_operators.specs.Rearranged.{doubled, reversed, ro
 use machine::Did;
 use machine::Machine;
 use machine::OneInt;
+use machine::TAG_MARK;
 use machine::TwoInts;
 use semantics::Error;
 
@@ -132,6 +134,41 @@ pub fn roll(m: Machine, stack: &mut [u32], cells: &mut [u32]) -> Did
             Did::Ok(exchange(left, stack, up, n - up))
         }
     }
+}
+
+// Ruled out: stackoverflow where one item still fits.
+pub fn mark(m: Machine, stack: &mut [u32]) -> Did
+    requires { ⌜ 2 * m .depth ≤ length (now stack) ⌝ }
+    ensures { λ r. ⌜ DoesStack (perform (bytes "mark")) m (now (stack .entry)) (now (stack .exit)) r ⌝ }
+{
+    let n = m.depth;
+    if stack.len() - 2 * n < 2 {
+        return Did::Fail(Error::StackOverflow);
+    }
+    Did::Ok(m.push_scalar(stack, TAG_MARK, 0))
+}
+
+// Ruled out: a string or an integer that changes.
+pub fn cvx(m: Machine, stack: &mut [u32]) -> Did
+    requires { ⌜ 2 * m .depth ≤ length (now stack) ⌝ }
+    ensures { λ r. ⌜ DoesStack (perform (bytes "cvx")) m (now (stack .entry)) (now (stack .exit)) r ⌝ }
+{
+    let n = m.depth;
+    if n < 1 {
+        return Did::Fail(Error::StackUnderflow);
+    }
+    Did::Ok(m.retag(stack, true))
+}
+
+pub fn cvlit(m: Machine, stack: &mut [u32]) -> Did
+    requires { ⌜ 2 * m .depth ≤ length (now stack) ⌝ }
+    ensures { λ r. ⌜ DoesStack (perform (bytes "cvlit")) m (now (stack .entry)) (now (stack .exit)) r ⌝ }
+{
+    let n = m.depth;
+    if n < 1 {
+        return Did::Fail(Error::StackUnderflow);
+    }
+    Did::Ok(m.retag(stack, false))
 }
 
 // The n topmost items are pushed once more, the lowest first: after each push the next one is again the n-th from the top.
