@@ -1,0 +1,4 @@
+pub mod Currents
+pub mod Parts
+pub mod Copying
+pub mod Filling

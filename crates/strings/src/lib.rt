@@ -1,0 +1,114 @@
+// Loops over the bytes of strings that are items of the stack.
+ghost use Prim.Native.Nat.{_+_, _≤_, _<_};
+ghost use lib.ListN.{length};
+ghost use Rattle.machine.specs.Rep.{MovesHeap};
+ghost use Rattle.elements.specs.Elements.{HasString, SomewhereThat};
+ghost use Rattle.strings.specs.Strings.{CurrentSize, Copies, Fills, bytesCopied, Filled};
+use machine::Machine;
+use token::Unescaped;
+
+// The current length of the string that is item i: its bytes before the first zero, or all of them.
+// Rules out: the maximum for the length; a byte read past the maximum.
+pub fn current_length(m: Machine, stack: &[u32], cells: &[u32], i: usize) -> u32
+    requires { ⌜ (i < m .depth) × SomewhereThat (HasString i) m (now stack) (now cells) ⌝ }
+    ensures { λ r. ⌜ CurrentSize i m (now (stack .entry)) (now (cells .entry)) r ⌝ }
+{
+    let most = elements::maximum(m, stack, cells, i);
+    let mut q = 0;
+    while q < most {
+        if elements::get_byte(m, stack, cells, i, q) == 0 {
+            return q;
+        }
+        q = q + 1;
+    }
+    q
+}
+
+// n bytes of the string that is item `from`, from byte start on, go to byte `at` and the ones after it of the string that is item `to`. Both may be one
+// string: the bytes are written in the order in which none is overwritten before it is read.
+// Rules out: bytes that overlap and are written before they are read; the bytes before or after them changed.
+pub fn copy_bytes(
+    m: Machine,
+    stack: &[u32],
+    cells: &mut [u32],
+    to: usize,
+    at: u32,
+    from: usize,
+    start: u32,
+    n: u32,
+)
+    requires { ⌜ (to < m .depth) × (from < m .depth) × SomewhereThat (Copies to at from start n) m (now stack) (now cells) ⌝ }
+    ensures { λ _. ⌜ MovesHeap (bytesCopied to at from start n) m m (now (stack .entry)) (now (stack .entry)) (now (cells .entry)) (now (cells .exit)) ⌝ }
+{
+    if at <= start {
+        copy_up(m, stack, cells, to, at, from, start, n);
+    } else {
+        copy_down(m, stack, cells, to, at, from, start, n);
+    }
+}
+
+// The string that is item i gets the bytes of the string token whose text is at `start`, after the opening quote; its bytes after them stay.
+// Rules out: an escape's bytes written unread; the closing quote written; a byte left out at the end.
+pub fn fill(m: Machine, stack: &[u32], cells: &mut [u32], i: usize, script: &[u8], start: usize)
+    requires { ⌜ (i < m .depth) × Fills i m (now stack) (now cells) (now script) start ⌝ }
+    ensures { λ _. ⌜ Filled i m (now (stack .entry)) (now (cells .entry)) (now (cells .exit)) (now (script .entry)) start ⌝ }
+{
+    let mut at = start;
+    let mut q: u32 = 0;
+    loop {
+        match token::unescape(script, at) {
+            Unescaped::Byte(b, next) => {
+                elements::put_byte(m, stack, cells, i, q, b);
+                q = q + 1;
+                at = next;
+            }
+            Unescaped::Closed => {
+                return;
+            }
+        }
+    }
+}
+
+// The bytes copied, the first one first.
+fn copy_up(
+    m: Machine,
+    stack: &[u32],
+    cells: &mut [u32],
+    to: usize,
+    at: u32,
+    from: usize,
+    start: u32,
+    n: u32,
+)
+    requires { ⌜ (at ≤ start) × (to < m .depth) × (from < m .depth) × SomewhereThat (Copies to at from start n) m (now stack) (now cells) ⌝ }
+    ensures { λ _. ⌜ MovesHeap (bytesCopied to at from start n) m m (now (stack .entry)) (now (stack .entry)) (now (cells .entry)) (now (cells .exit)) ⌝ }
+{
+    let mut j = 0;
+    while j < n {
+        let b = elements::get_byte(m, stack, cells, from, start + j);
+        elements::put_byte(m, stack, cells, to, at + j, b);
+        j = j + 1;
+    }
+}
+
+// The bytes copied, the last one first.
+fn copy_down(
+    m: Machine,
+    stack: &[u32],
+    cells: &mut [u32],
+    to: usize,
+    at: u32,
+    from: usize,
+    start: u32,
+    n: u32,
+)
+    requires { ⌜ (start ≤ at) × (to < m .depth) × (from < m .depth) × SomewhereThat (Copies to at from start n) m (now stack) (now cells) ⌝ }
+    ensures { λ _. ⌜ MovesHeap (bytesCopied to at from start n) m m (now (stack .entry)) (now (stack .entry)) (now (cells .entry)) (now (cells .exit)) ⌝ }
+{
+    let mut j = n;
+    while 0 < j {
+        j = j - 1;
+        let b = elements::get_byte(m, stack, cells, from, start + j);
+        elements::put_byte(m, stack, cells, to, at + j, b);
+    }
+}
