@@ -103,13 +103,8 @@ fn sizes_of(words: &str) -> Option<Question> {
         let (key, number) = word.split_once('=')?;
         match key {
             "fuel" => fuel = number.parse().ok()?,
-            "stack" => sizes.stack = number.parse().ok()?,
-            "exec" => sizes.exec = number.parse().ok()?,
-            "dictionary" => sizes.dictionary = number.parse().ok()?,
-            "cells" => sizes.cells = number.parse().ok()?,
-            "log" => sizes.log = number.parse().ok()?,
             "outcome" => outcome = Some(number.parse().ok()?),
-            _ => return None,
+            name => *sizes.named(name)? = number.parse().ok()?,
         }
     }
     sizes.outcome = outcome.unwrap_or(Sizes::least_outcome(sizes.stack));

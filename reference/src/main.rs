@@ -49,17 +49,11 @@ fn parse(mut arguments: impl Iterator<Item = String>) -> Option<Options> {
             continue;
         }
         let number = arguments.next()?;
-        let sizes = &mut options.sizes;
-        match option.as_str() {
-            "--fuel" => options.fuel = number.parse().ok()?,
-            "--stack" => sizes.stack = number.parse().ok()?,
-            "--exec" => sizes.exec = number.parse().ok()?,
-            "--dictionary" => sizes.dictionary = number.parse().ok()?,
-            "--cells" => sizes.cells = number.parse().ok()?,
-            "--log" => sizes.log = number.parse().ok()?,
-            "--outcome" => outcome = Some(number.parse().ok()?),
-            "--token" => options.token = Some(number.parse().ok()?),
-            _ => return None,
+        match option.strip_prefix("--")? {
+            "fuel" => options.fuel = number.parse().ok()?,
+            "outcome" => outcome = Some(number.parse().ok()?),
+            "token" => options.token = Some(number.parse().ok()?),
+            name => *options.sizes.named(name)? = number.parse().ok()?,
         }
     }
     let least = Sizes::least_outcome(options.sizes.stack);

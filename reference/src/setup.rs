@@ -30,6 +30,19 @@ impl Default for Sizes {
 }
 
 impl Sizes {
+    /// A size by its name in options and corpus. The outcome is not among them: unless it is given,
+    /// it goes by the stack.
+    pub fn named(&mut self, name: &str) -> Option<&mut usize> {
+        match name {
+            "stack" => Some(&mut self.stack),
+            "exec" => Some(&mut self.exec),
+            "dictionary" => Some(&mut self.dictionary),
+            "cells" => Some(&mut self.cells),
+            "log" => Some(&mut self.log),
+            _ => None,
+        }
+    }
+
     /// The sizes of lent buffers: "2 words for a stack slot, 8 for an execution slot, 12 for a
     /// dictionary slot, 4 for a cell", rounded down. Log and outcome are bytes already.
     pub fn from_words(
