@@ -20,16 +20,18 @@ use Rattle.store.proofs.Standing.{is-boolean}
 use Rattle.machine.specs.Places.{Nameless}
 use Rattle.machine.specs.Moves.{dropped}
 use Rattle.machine.specs.Rep.{Rep, IsIn, MovesHeap}
+use Rattle.machine.specs.Room.{lent}
 use Rattle.machine.specs.declared.Machine.{Machine}
 use Rattle.machine.specs.declared.Did.the-variants.{Ok, Fail}
 use Rattle.machine.proofs.Items.{items-length}
-use Rattle.machine.proofs.Rooms.{frames-length}
-use Rattle.machine.proofs.Operands.{Top, top, pop2-some}
+use Rattle.machine.proofs.Rooms.{frames-length, fitted-fails}
+use Rattle.machine.proofs.Operands.{Top, top, pop2-some, upper, lower, both}
 use Rattle.frames.specs.Moves as Moves
 use Rattle.frames.specs.Moves.{Enters, entered}
 use Rattle.control_operators.specs.Promises.{DoesFrames, Forgets}
-use Rattle.control_operators.proofs.Popping.{upper, lower, both, pop2-short, pop3-short, pop3-some, stands-no-boolean}
-use Rattle.control_operators.proofs.Promising.{fit-fault, fit-full, fit-ok}
+use Rattle.machine.proofs.Outcomes.{pop2-under}
+use Rattle.control_operators.proofs.Popping.{pop3-short, pop3-some, stands-no-boolean}
+use Rattle.control_operators.proofs.Promising.{fit-full, fit-ok}
 use Rattle.control_operators.proofs.Named.{if-is, ifelse-is}
 use Rattle.control_operators.proofs.Entering.{Into}
 
@@ -48,7 +50,7 @@ bit-true false e = absurd (e refl)
 
 module _ {f : Floo.Machine → Result Floo.Machine} {m : Machine} {s e c : List ℕ} where
   pub frames-fault : {x : Error} → ((d l : List ℕ) (μ : Floo.Machine) → Rep m s e d c l μ → f μ ≡ fault x) → DoesFrames f m s s e e c c (Fail x)
-  frames-fault q = record { does = λ d l μ R. (fit-fault f s e d c l μ (q d l μ R), (refl, refl, refl)) }
+  frames-fault q = record { does = λ d l μ R. (fitted-fails (lent s e d c l) f μ (q d l μ R), (refl, refl, refl)) }
 
   pub frames-full : length e < 8 * m .frames + 8
       → ((d l : List ℕ) (μ : Floo.Machine) → Rep m s e d c l μ → (g : Frame) × (stack : List Value) × (f μ ≡ ok (enter g (withStack stack μ))))
@@ -67,30 +69,30 @@ module _ {f : Floo.Machine → Result Floo.Machine} {m : Machine} {s e c : List 
 module _ {m : Machine} {s e d c l : List ℕ} {μ : Floo.Machine} (R : Rep m s e d c l μ) where
   pub if-under : m .depth < 2 → perform (bytes "if") μ ≡ fault StackUnderflow
   unfolding if′ _>>=_
-  if-under h = if-is μ ∙ rw (pop2-short μ (omega (arith, items-length (R .items)))) refl
+  if-under h = if-is μ ∙ rw (pop2-under μ (omega (arith, items-length (R .items)))) refl
 
   module _ (k : ℕ) (h : m .depth ≡ suc (suc k)) where
     pub if-type : (getD s (2 * k) 0 ≡ 2 → ⊥) → perform (bytes "if") μ ≡ fault TypeCheck
     unfolding if′ _>>=_
-    if-type n = if-is μ ∙ rw (pop2-some μ (both R k h), stands-no-boolean (lower R k h .words .stands) n) refl
+    if-type n = if-is μ ∙ rw (pop2-some μ (both R k (suc k) h refl), stands-no-boolean (lower R k (suc k) h refl .words .stands) n) refl
 
     module _ (i : getD s (2 * k) 0 ≡ 2) where
-      tested : (b : Bool) → is-boolean (lower R k h .words .stands) i .0 ≡ b → μ .stack ≡ upper R k h .value ∷ boolean b ∷ lower R k h .rest
-      tested b q = both R k h ∙ ap (λ v. upper R k h .value ∷ v ∷ lower R k h .rest) (is-boolean (lower R k h .words .stands) i .1 ∙ ap boolean q)
+      tested : (b : Bool) → is-boolean (lower R k (suc k) h refl .words .stands) i .0 ≡ b → μ .stack ≡ upper R k (suc k) h refl .value ∷ boolean b ∷ lower R k (suc k) h refl .rest
+      tested b q = both R k (suc k) h refl ∙ ap (λ v. upper R k (suc k) h refl .value ∷ v ∷ lower R k (suc k) h refl .rest) (is-boolean (lower R k (suc k) h refl .words .stands) i .1 ∙ ap boolean q)
 
       pub if-into : (getD s (2 * k + 1) 0 ≡ 0 → ⊥) → Into (perform (bytes "if")) pending (boolean true ∷ []) μ
       unfolding if′ _>>=_ bool
       if-into n =
-          let x = is-boolean (lower R k h .words .stands) i in
+          let x = is-boolean (lower R k (suc k) h refl .words .stands) i in
           let split = tested true (bit-true (x .0) (λ q. n (x .2 ∙ q))) in
-          record { value = upper R k h .value; rest = lower R k h .rest; split = split; gives = if-is μ ∙ rw (pop2-some μ split) refl }
+          record { value = upper R k (suc k) h refl .value; rest = lower R k (suc k) h refl .rest; split = split; gives = if-is μ ∙ rw (pop2-some μ split) refl }
 
       pub if-not : getD s (2 * k + 1) 0 ≡ 0 → (y : Value) × (rest : List Value) × (μ .stack ≡ y ∷ boolean false ∷ rest) × (perform (bytes "if") μ ≡ ok (withStack rest μ))
       unfolding if′ _>>=_ bool
       if-not n =
-          let x = is-boolean (lower R k h .words .stands) i in
+          let x = is-boolean (lower R k (suc k) h refl .words .stands) i in
           let split = tested false (bit-false (x .0) (sym (x .2) ∙ n)) in
-          (upper R k h .value, lower R k h .rest, split, if-is μ ∙ rw (pop2-some μ split) refl)
+          (upper R k (suc k) h refl .value, lower R k (suc k) h refl .rest, split, if-is μ ∙ rw (pop2-some μ split) refl)
 
 -- The body is let go.
 pub if-skips : {m r r′ : Machine} {s e c c′ : List ℕ} (k : ℕ)

@@ -18,15 +18,18 @@ use Rattle.store.proofs.Standing.{is-integer}
 use Rattle.word.proofs.Words.{word-signed}
 use Rattle.machine.specs.Places.{Nameless}
 use Rattle.machine.specs.Rep.{Rep, IsIn, Items}
+use Rattle.machine.specs.Room.{lent}
 use Rattle.machine.specs.declared.Machine.{Machine}
 use Rattle.machine.specs.declared.Did.the-variants.{Ok, Fail}
 use Rattle.machine.proofs.Items.{items-length, items-below}
-use Rattle.machine.proofs.Operands.{Top, top, pop1-some, pop2-some, stands-no-integer}
+use Rattle.machine.proofs.Operands.{Top, top, pop1-some, pop2-some, stands-no-integer, upper, lower, both}
 use Rattle.machine.proofs.Stacking.{atDepth, restack}
 use Rattle.frames.specs.Moves.{Shaped, Enters, entered}
 use Rattle.control_operators.specs.Promises.{DoesSlots, Forgets}
-use Rattle.control_operators.proofs.Popping.{upper, lower, both, pop1-short, pop2-short, pop4-short, pop4-some, count-low, count-high}
-use Rattle.control_operators.proofs.Promising.{fit-fault, fit-full, fit-ok}
+use Rattle.machine.proofs.Outcomes.{pop1-under, pop2-under}
+use Rattle.machine.proofs.Rooms.{fitted-fails}
+use Rattle.control_operators.proofs.Popping.{pop4-short, pop4-some, count-low, count-high}
+use Rattle.control_operators.proofs.Promising.{fit-full, fit-ok}
 use Rattle.control_operators.proofs.Named.{entering, repeat-is, for-is}
 
 pub integer-nameless : {w : ℕ} → Nameless (integer w)
@@ -61,7 +64,7 @@ pub record Into (f : Floo.Machine → Result Floo.Machine) (g : Value → Frame)
 
 module _ {f : Floo.Machine → Result Floo.Machine} {m : Machine} {s e : List ℕ} where
   pub slots-fault : {x : Error} → ((d c l : List ℕ) (μ : Floo.Machine) → Rep m s e d c l μ → f μ ≡ fault x) → DoesSlots f m s e e (Fail x)
-  slots-fault q = record { does = λ d c l μ R. (fit-fault f s e d c l μ (q d c l μ R), refl) }
+  slots-fault q = record { does = λ d c l μ R. (fitted-fails (lent s e d c l) f μ (q d c l μ R), refl) }
 
   module _ {g : Value → Frame} {old : List Value} (into : (d c l : List ℕ) (μ : Floo.Machine) → Rep m s e d c l μ → Into f g old μ) where
     pub into-full : length e < 8 * m .frames + 8 → DoesSlots f m s e e (Fail ExecStackOverflow)
@@ -92,7 +95,7 @@ module _ (g : Value → Frame) {f : Floo.Machine → Result Floo.Machine} (is : 
     {m : Machine} {s e : List ℕ} where
   pub alone-under : m .depth < 1 → DoesSlots f m s e e (Fail StackUnderflow)
   unfolding _>>=_
-  alone-under h = slots-fault (λ d c l μ R. is μ ∙ ap (λ t. t >>= λ p. ok (enter (g (p .0)) (p .1))) (pop1-short μ (omega (arith, items-length (R .items)))))
+  alone-under h = slots-fault (λ d c l μ R. is μ ∙ ap (λ t. t >>= λ p. ok (enter (g (p .0)) (p .1))) (pop1-under μ (omega (arith, items-length (R .items)))))
 
   pub alone-into : (k : ℕ) → m .depth ≡ suc k → (d c l : List ℕ) (μ : Floo.Machine) → Rep m s e d c l μ → Into f g [] μ
   unfolding _>>=_
@@ -110,16 +113,16 @@ module _ (g : Value → Frame) {f : Floo.Machine → Result Floo.Machine} (is : 
 module _ {m : Machine} {s e d c l : List ℕ} {μ : Floo.Machine} (R : Rep m s e d c l μ) where
   pub repeat-under : m .depth < 2 → perform (bytes "repeat") μ ≡ fault StackUnderflow
   unfolding repeat _>>=_
-  repeat-under h = repeat-is μ ∙ rw (pop2-short μ (omega (arith, items-length (R .items)))) refl
+  repeat-under h = repeat-is μ ∙ rw (pop2-under μ (omega (arith, items-length (R .items)))) refl
 
   module _ (k : ℕ) (h : m .depth ≡ suc (suc k)) where
     pub repeat-type : (getD s (2 * k) 0 ≡ 1 → ⊥) → perform (bytes "repeat") μ ≡ fault TypeCheck
     unfolding repeat _>>=_
-    repeat-type n = repeat-is μ ∙ rw (pop2-some μ (both R k h), stands-no-integer (lower R k h .words .stands) n) refl
+    repeat-type n = repeat-is μ ∙ rw (pop2-some μ (both R k (suc k) h refl), stands-no-integer (lower R k (suc k) h refl .words .stands) n) refl
 
     module _ (i : getD s (2 * k) 0 ≡ 1) where
-      counted : μ .stack ≡ upper R k h .value ∷ integer (getD s (2 * k + 1) 0) ∷ lower R k h .rest
-      counted = both R k h ∙ ap (λ v. upper R k h .value ∷ v ∷ lower R k h .rest) (is-integer (lower R k h .words .stands) i)
+      counted : μ .stack ≡ upper R k (suc k) h refl .value ∷ integer (getD s (2 * k + 1) 0) ∷ lower R k (suc k) h refl .rest
+      counted = both R k (suc k) h refl ∙ ap (λ v. upper R k (suc k) h refl .value ∷ v ∷ lower R k (suc k) h refl .rest) (is-integer (lower R k (suc k) h refl .words .stands) i)
 
       pub repeat-range : 2 ^ 31 ≤ getD s (2 * k + 1) 0 → getD s (2 * k + 1) 0 < 2 ^ 32 → perform (bytes "repeat") μ ≡ fault RangeCheck
       unfolding repeat _>>=_ int
@@ -130,8 +133,8 @@ module _ {m : Machine} {s e d c l : List ℕ} {μ : Floo.Machine} (R : Rep m s e
       unfolding repeat _>>=_ int
       repeat-into l =
           record {
-            value = upper R k h .value;
-            rest = lower R k h .rest;
+            value = upper R k (suc k) h refl .value;
+            rest = lower R k (suc k) h refl .rest;
             split = counted;
             gives = repeat-is μ ∙ rw (pop2-some μ counted, count-low (getD s (2 * k + 1) 0) l) refl;
           }

@@ -1,39 +1,21 @@
 -- The definition's pops, and what they give for operands of which the tags are known.
 -- Assumes nothing.
-use mathlib.Core.Path.{_≡_, refl, ap, _∙_}
+use mathlib.Core.Path.{_≡_, refl}
 use mathlib.Core.Bool.{Bool}
 use mathlib.Core.List.{List, [], _∷_}
-use Prim.Native.Nat.{ℕ, suc, _^_, _≤_, _<_}
+use Prim.Native.Nat.{ℕ, _^_, _≤_, _<_}
 use native.Mathlib.Omega.{arith}
 use lib.ListN.{length}
 use Rattle.semantics.specs.Words.{signed}
 use Rattle.semantics.specs.Values.{Value, ok, fault, bool, count}
-use Rattle.semantics.specs.Machine.{Machine, withStack, pop1, pop2, pop3, pop4}
+use Rattle.semantics.specs.Machine.{Machine, withStack, pop3, pop4}
 use Rattle.semantics.specs.declared.Error.the-variants.{StackUnderflow, TypeCheck, RangeCheck}
 use Rattle.store.specs.Rep.{Stands, a-null, an-integer, a-boolean, a-mark, an-operator, a-literal, an-executable, a-string, an-array, a-procedure}
 use Rattle.word.proofs.Words.{signed-low, signed-high}
-use Rattle.machine.specs.Rep.{Rep, IsIn}
-use Rattle.machine.specs.declared.Machine.{Machine as State}
-use Rattle.machine.proofs.Operands.{Top, top, pop1-none, pop2-none, pop2-one}
 
 -- ---- too few items
 
 module _ (μ : Machine) where
-  pub pop1-short : length (μ .stack) < 1 → pop1 μ ≡ fault StackUnderflow
-  pop1-short = by (μ .stack) refl
-    where
-      by : (s : List Value) → μ .stack ≡ s → length s < 1 → pop1 μ ≡ fault StackUnderflow
-      by [] e l = pop1-none μ e
-      by (a ∷ s) e l = absurd (omega arith)
-
-  pub pop2-short : length (μ .stack) < 2 → pop2 μ ≡ fault StackUnderflow
-  pop2-short = by (μ .stack) refl
-    where
-      by : (s : List Value) → μ .stack ≡ s → length s < 2 → pop2 μ ≡ fault StackUnderflow
-      by [] e l = pop2-none μ e
-      by (a ∷ []) e l = pop2-one μ e
-      by (a ∷ b ∷ s) e l = absurd (omega arith)
-
   pub pop3-short : length (μ .stack) < 3 → pop3 μ ≡ fault StackUnderflow
   unfolding pop3
   pop3-short = by (μ .stack) refl
@@ -92,15 +74,3 @@ count-low w l = rw (signed-low w l) refl
 pub count-high : (w : ℕ) → 2 ^ 31 ≤ w → w < 2 ^ 32 → count (signed w) ≡ fault RangeCheck
 unfolding count
 count-high w l h = rw (signed-high w l h) refl
-
--- ---- the two topmost items
-
-module _ {m : State} {s e d c l : List ℕ} {μ : Machine} (R : Rep m s e d c l μ) (k : ℕ) (h : m .depth ≡ suc (suc k)) where
-  pub upper : Top (IsIn (R .world) μ) s (suc k) (μ .stack)
-  upper = top (R .items) (suc k) h
-
-  pub lower : Top (IsIn (R .world) μ) s k (upper .rest)
-  lower = top (upper .below) k refl
-
-  pub both : μ .stack ≡ upper .value ∷ lower .value ∷ lower .rest
-  both = upper .split ∙ ap (λ r. upper .value ∷ r) (lower .split)

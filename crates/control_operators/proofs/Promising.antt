@@ -9,7 +9,6 @@ use Rattle.semantics.specs.Values.{Value, Result, ok, fault, _>>=_}
 use Rattle.semantics.specs.Machine as Floo
 use Rattle.semantics.specs.Machine.{Frame, withStack, withExec, enter}
 use Rattle.semantics.specs.Steps.{roomFor}
-use Rattle.semantics.specs.declared.Error.{Error}
 use Rattle.semantics.specs.declared.Error.the-variants.{ExecStackOverflow}
 use Rattle.machine.specs.Rep.{Rep}
 use Rattle.machine.specs.Room.{lent, fitted}
@@ -20,10 +19,6 @@ use Rattle.machine.proofs.Rooms.{rep-fits, room-exec, dictionary-fits, frames-l
 use Rattle.control_operators.specs.Promises.{DoesState, DoesSlots, DoesCells, DoesFrames}
 
 module _ (f : Floo.Machine → Result Floo.Machine) (s e d c l : List ℕ) (μ : Floo.Machine) where
-  pub fit-fault : {x : Error} → f μ ≡ fault x → fitted (lent s e d c l) f μ ≡ fault x
-  unfolding fitted _>>=_
-  fit-fault q = ap (λ t. t >>= roomFor (lent s e d c l) μ) q
-
   pub fit-full : {m : Machine}
       → Rep m s e d c l μ
       → length e < 8 * m .frames + 8
