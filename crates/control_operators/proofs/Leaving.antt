@@ -59,6 +59,8 @@ halt-rep {μ = μ} R =
       frames = R .frames;
       slots = R .slots;
       names = R .names;
+      titled = R .titled;
+      distinct = R .distinct;
       logged = R .logged;
       stopped = refl;
       stack-room = R .stack-room;

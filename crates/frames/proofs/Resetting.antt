@@ -58,6 +58,8 @@ module _ {m : Machine} {st e d c l : List ℕ} {μ : Floo.Machine} (R : Rep m st
             (frame top (frames-frame (put .below) (slot R k h .below)));
         slots = R .slots;
         names = R .names;
+        titled = R .titled;
+        distinct = R .distinct;
         logged = R .logged;
         stopped = R .stopped;
         stack-room = R .stack-room;

@@ -60,6 +60,8 @@ module _ {m : Machine} {st e d c l : List ℕ} {μ : Floo.Machine} (R : Rep m st
         frames = frames-map carry (λ i t p w. refl) (λ i t p a r q w s. s) (all-reached frameValue exec) frames;
         slots = slots-map carry (all-reached (λ (s : Slot). bound (s .binding)) (μ .dictionary)) (R .slots);
         names = R .names;
+        titled = R .titled;
+        distinct = R .distinct;
         logged = R .logged;
         stopped = R .stopped;
         stack-room = omega arith;

@@ -1,10 +1,11 @@
 -- Root places: the stack's items, the execution slots and the dictionary's bindings, and the value in each.
 -- Assumes nothing.
+use mathlib.Core.Path.{_≡_}
 use mathlib.Core.Bool.{Bool, true, false}
 use mathlib.Core.List.{List, [], _∷_, map}
 use mathlib.Core.Option.{Option, none, some}
 use Prim.Native.Nat.{ℕ, zero, suc, _/_, _%_}
-use lib.ListN.{length}
+use lib.ListN.{length, getElem?}
 use lib.Dec.{T}
 use Rattle.semantics.specs.Values.{Value, integer, boolean, null, mark, operator, name, string, array}
 use Rattle.semantics.specs.Machine.{Machine, Frame, pending, running, looping, repeating, counting, Slot}
@@ -69,3 +70,7 @@ keys σ = map (λ (s : Slot). s .key) (σ .dictionary)
 
 abbrev pub texts : Machine → List Bool
 texts σ = map isText (σ .store)
+
+-- No name has two slots.
+abbrev pub Distinct : List (List ℕ) → Type 0
+Distinct ks = (i j : ℕ) (n : List ℕ) → getElem? ks i ≡ some n → getElem? ks j ≡ some n → i ≡ j

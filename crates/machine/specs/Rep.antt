@@ -15,8 +15,8 @@ use Rattle.heap.specs.Shape.{Ghost, Full, NoOut, cells}
 use Rattle.heap.specs.Assign.{Alives}
 use Rattle.heap.specs.declared.Lists.{Lists}
 use Rattle.store.specs.Rep as Store
-use Rattle.store.specs.Rep.{Stands, byteOf}
-use Rattle.machine.specs.Places.{roots, rootCount, keys, texts}
+use Rattle.store.specs.Rep.{Stands, byteOf, titles}
+use Rattle.machine.specs.Places.{roots, rootCount, keys, texts, Distinct}
 use Rattle.machine.specs.declared.Machine.{Machine}
 use Rattle.machine.specs.declared.Did.{Did}
 use Rattle.machine.specs.declared.Did.the-variants.{Ok, Fail}
@@ -94,6 +94,8 @@ pub record Rep (m : Machine) (stack exec dict cs log : List ℕ) (μ : Floo.Mach
   pub frames : Frames (IsIn world μ) (world .ghost) (μ .store) exec (m .frames) (μ .exec)
   pub slots : Slots (IsIn world μ) dict 0 (μ .dictionary)
   pub names : m .names ≡ length (μ .dictionary)
+  pub titled : take 54 (keys μ) ≡ titles  -- the operators' names have the first slots, in the operators' order
+  pub distinct : Distinct (keys μ)
   pub logged : take (m .written) log ≡ μ .log
   pub stopped : m .stopped ≡ μ .stopped
   pub stack-room : 2 * m .depth ≤ length stack
