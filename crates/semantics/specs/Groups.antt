@@ -6,7 +6,7 @@ use Prim.Native.Nat.{ℕ, zero, suc, _+_}
 use lib.ListN.{length, drop}
 use Rattle.semantics.specs.Tokens.{Token, lex, blanks}
 use Rattle.semantics.specs.Values.{Result, ok, fault, _>>=_, Value, integer, name, string, array, elements, text}
-use Rattle.semantics.specs.Machine.{Machine, make, made, intern}
+use Rattle.semantics.specs.Machine.{Machine, make, made, change, intern}
 use Rattle.semantics.specs.declared.Error.the-variants.{SyntaxError, LimitCheck}
 
 -- A value read from the script, the machine with the objects and names that it needs, and the offset after it.
@@ -22,30 +22,38 @@ taken v m n = ok (record { value = v; machine = m; after = n })
 unfoldable pub skip : List ℕ → ℕ → ℕ
 skip script offset = offset + blanks (drop offset script)
 
--- What reads on in a brace group: given how many groups may still be opened inside, the offset, the elements read so far, the last
--- first, and the machine.
+-- What reads on in a brace group: given the group's object, how many groups may still be opened inside, the offset, the elements read so
+-- far, the last first, and the machine.
 abbrev pub Reader : Type 0
-Reader = ℕ → ℕ → List Value → Machine → Result Taken
+Reader = ℕ → ℕ → ℕ → List Value → Machine → Result Taken
+
+-- A group's object is made at its opening brace, so that objects are numbered in the order of their first bytes.
+unfoldable pub opened : Machine → Machine
+opened m = make (elements []) m
+
+-- It has its elements at the closing brace.
+unfoldable pub closed : ℕ → List Value → Machine → ℕ → Result Taken
+closed i vs m after = taken (array true i) (change i (elements (reverse vs)) m) after
 
 -- A token of a brace group, which ends at `after`: one element more, an inner group and what follows it, or the group's end.
-unfoldable pub element : Reader → ℕ → ℕ → List Value → Machine → Token → Result Taken
-element rest depth after vs m (Token.integer w) = rest depth after (integer w ∷ vs) m
-element rest depth after vs m (Token.string bs) = rest depth after (string (made m) ∷ vs) (make (text bs) m)
-element rest depth after vs m (Token.name x n) = rest depth after (name x n ∷ vs) (intern n m)
-element rest zero after vs m Token.openBrace = fault LimitCheck
-element rest (suc d) after vs m Token.openBrace = do
-  t ← rest d after [] m
-  rest (suc d) (t .after) (t .value ∷ vs) (t .machine)
-element rest depth after vs m Token.closeBrace = taken (array true (made m)) (make (elements (reverse vs)) m) after
-element rest depth after vs m Token.end = fault SyntaxError
+unfoldable pub element : Reader → ℕ → ℕ → ℕ → List Value → Machine → Token → Result Taken
+element rest i depth after vs m (Token.integer w) = rest i depth after (integer w ∷ vs) m
+element rest i depth after vs m (Token.string bs) = rest i depth after (string (made m) ∷ vs) (make (text bs) m)
+element rest i depth after vs m (Token.name x n) = rest i depth after (name x n ∷ vs) (intern n m)
+element rest i zero after vs m Token.openBrace = fault LimitCheck
+element rest i (suc d) after vs m Token.openBrace = do
+  t ← rest (made m) d after [] (opened m)
+  rest i (suc d) (t .after) (t .value ∷ vs) (t .machine)
+element rest i depth after vs m Token.closeBrace = closed i vs m after
+element rest i depth after vs m Token.end = fault SyntaxError
 
 -- The rest of a brace group. `fuel` bounds the tokens read; `GroupLaws` proves that it is never spent.
 unfoldable pub group : List ℕ → ℕ → Reader
-group script zero depth offset vs m = fault SyntaxError
-group script (suc fuel) depth offset vs m = do
+group script zero i depth offset vs m = fault SyntaxError
+group script (suc fuel) i depth offset vs m = do
   let start = skip script offset
   l ← lex (drop start script)
-  element (group script fuel) depth (start + l .size) vs m (l .token)
+  element (group script fuel) i depth (start + l .size) vs m (l .token)
 
 -- A token of the script outside braces, which ends at `after`. Braces nest at most 16 deep.
 unfoldable pub tokenValue : List ℕ → Machine → ℕ → Token → Result Taken
@@ -53,7 +61,7 @@ tokenValue script m after (Token.integer w) = taken (integer w) m after
 tokenValue script m after (Token.string bs) = taken (string (made m)) (make (text bs) m) after
 tokenValue script m after (Token.name true n) = taken (name true n) m after
 tokenValue script m after (Token.name false n) = taken (name false n) (intern n m) after
-tokenValue script m after Token.openBrace = group script (length script) 15 after [] m
+tokenValue script m after Token.openBrace = group script (length script) (made m) 15 after [] (opened m)
 tokenValue script m after Token.closeBrace = fault SyntaxError
 tokenValue script m after Token.end = fault SyntaxError
 
@@ -65,5 +73,5 @@ takeToken script start m = do
 
 -- Opens every definition of this file.
 unfoldable pub grouping : Unit {0}
-unfolding taken skip element group tokenValue takeToken
+unfolding taken skip opened closed element group tokenValue takeToken
 grouping = tt

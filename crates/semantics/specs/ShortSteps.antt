@@ -11,17 +11,17 @@ use Rattle.semantics.specs.Text.{bytes, octal}
 use Rattle.semantics.specs.Words.{signed}
 use Rattle.semantics.specs.Values.{Result, ok, fault, _>>=_, Value, integer, boolean, null, mark, operator, name, string, array}
 use Rattle.semantics.specs.Tokens.{within, Class, nameByte, bracket, openBrace, closeBrace, quote, slash, other, classOf, run, startsNumber, number, Token, Lexeme, lexeme, nameOf, runToken, slashToken, lexAs, lex}
-use Rattle.semantics.specs.Machine.{Machine, Frame, pending, running, looping, repeating, counting, push, enter}
+use Rattle.semantics.specs.Machine.{Machine, Frame, pending, running, looping, repeating, counting, push, enter, made}
 use Rattle.semantics.specs.Printing as Printing
 use Rattle.semantics.specs.Printing.{escaped, nameText}
 use Rattle.semantics.specs.Operators.{Entry, _is_, table}
-use Rattle.semantics.specs.Groups.{Taken, taken, Reader, element, group, tokenValue, takeToken}
+use Rattle.semantics.specs.Groups.{Taken, taken, Reader, opened, closed, element, group, tokenValue, takeToken}
 use Rattle.semantics.specs.Steps.{Limits, State, Move, commandOf, execute, isProcedure, treat, silent, beyond, following, resume, roomFor, Step, goes, fails, ended, moved, tokenMove, stepOn, step, Ending, finished, stopped, outOfFuel, failed, Run, isFinished, finish, goOn, slot, predefined, initial}
 use Rattle.semantics.specs.Steps as Steps
 use Rattle.semantics.specs.ResultLaws.{Gives, gives, gives-then, gives-any, gives-check, choose, choose-cond}
 use Rattle.semantics.specs.ResultLaws as ResultLaws
 use Rattle.semantics.specs.ListLaws.{All, nil, cons, _&_, all-every, Maybe, nothing, just, gives-given, all-append, all-reverse, all-getElem?, all-map}
-use Rattle.semantics.specs.ShortLaws.{Short, ShortFrame, ShortSlot, Tame, plain, array-short, text-short, with-exec, pushed, entered, maked, object-short, lookup-short, interned}
+use Rattle.semantics.specs.ShortLaws.{Short, ShortFrame, ShortSlot, Tame, plain, array-short, text-short, with-exec, pushed, entered, maked, changed, object-short, lookup-short, interned}
 use Rattle.semantics.specs.ShortOperators.{perform-keeps}
 use Rattle.semantics.specs.declared.Error.{Error}
 use Rattle.semantics.specs.declared.Error.the-variants.{SyntaxError}
@@ -83,41 +83,41 @@ abbrev Good : Taken → Type 0
 Good t = Short (t .value) × Tame (t .machine)
 
 abbrev KeepsShort : Reader → Type 0
-KeepsShort rest = (depth offset : ℕ) (vs : List Value) (m : Machine) → All Short vs → Tame m → Gives Good (rest depth offset vs m)
+KeepsShort rest = (i depth offset : ℕ) (vs : List Value) (m : Machine) → All Short vs → Tame m → Gives Good (rest i depth offset vs m)
 
 named : {x y : Bool} {n : List ℕ} → ShortToken (Token.name x n) → Short (name y n)
 named h = record { brief = h .brief }
 
 element-short : (rest : Reader)
     → KeepsShort rest
-    → (depth after : ℕ) (vs : List Value) (m : Machine) (t : Token)
+    → (i depth after : ℕ) (vs : List Value) (m : Machine) (t : Token)
     → All Short vs
     → Tame m
     → ShortToken t
-    → Gives Good (element rest depth after vs m t)
-unfolding element taken
-element-short rest f depth after vs m (Token.integer w) a h k = f depth after _ m (plain tt & a) h
-element-short rest f depth after vs m (Token.string bs) a h k = f depth after _ _ (plain tt & a) (maked h text-short)
-element-short rest f depth after vs m (Token.name x n) a h k = f depth after _ _ (named k & a) (interned h n)
-element-short rest f zero after vs m Token.openBrace a h k = ResultLaws.fails
-element-short rest f (suc d) after vs m Token.openBrace a h k =
-    gives-then (f d after [] m nil h) (λ t g. f (suc d) (t .after) _ _ (g .0 & a) (g .1))
-element-short rest f depth after vs m Token.closeBrace a h k = gives (plain tt, maked h (array-short (all-reverse a)))
-element-short rest f depth after vs m Token.end a h k = ResultLaws.fails
+    → Gives Good (element rest i depth after vs m t)
+unfolding element opened closed taken
+element-short rest f i depth after vs m (Token.integer w) a h k = f i depth after _ m (plain tt & a) h
+element-short rest f i depth after vs m (Token.string bs) a h k = f i depth after _ _ (plain tt & a) (maked h text-short)
+element-short rest f i depth after vs m (Token.name x n) a h k = f i depth after _ _ (named k & a) (interned h n)
+element-short rest f i zero after vs m Token.openBrace a h k = ResultLaws.fails
+element-short rest f i (suc d) after vs m Token.openBrace a h k =
+    gives-then (f (made m) d after [] (opened m) nil (maked h (array-short nil))) (λ t g. f i (suc d) (t .after) _ _ (g .0 & a) (g .1))
+element-short rest f i depth after vs m Token.closeBrace a h k = gives (plain tt, changed h i (array-short (all-reverse a)))
+element-short rest f i depth after vs m Token.end a h k = ResultLaws.fails
 
 group-short : (script : List ℕ) (fuel : ℕ) → KeepsShort (group script fuel)
 unfolding group
-group-short script zero depth offset vs m a h = ResultLaws.fails
-group-short script (suc fuel) depth offset vs m a h =
-    gives-then (lex-short _) (λ l k. element-short (group script fuel) (group-short script fuel) depth _ vs m (l .token) a h k)
+group-short script zero i depth offset vs m a h = ResultLaws.fails
+group-short script (suc fuel) i depth offset vs m a h =
+    gives-then (lex-short _) (λ l k. element-short (group script fuel) (group-short script fuel) i depth _ vs m (l .token) a h k)
 
 tokenValue-short : (script : List ℕ) (m : Machine) (after : ℕ) (t : Token) → Tame m → ShortToken t → Gives Good (tokenValue script m after t)
-unfolding tokenValue taken
+unfolding tokenValue opened taken
 tokenValue-short script m after (Token.integer w) h k = gives (plain tt, h)
 tokenValue-short script m after (Token.string bs) h k = gives (plain tt, maked h text-short)
 tokenValue-short script m after (Token.name true n) h k = gives (named k, h)
 tokenValue-short script m after (Token.name false n) h k = gives (named k, interned h n)
-tokenValue-short script m after Token.openBrace h k = group-short script (length script) 15 after [] m nil h
+tokenValue-short script m after Token.openBrace h k = group-short script (length script) (made m) 15 after [] (opened m) nil (maked h (array-short nil))
 tokenValue-short script m after Token.closeBrace h k = ResultLaws.fails
 tokenValue-short script m after Token.end h k = ResultLaws.fails
 
