@@ -1,0 +1,92 @@
+// The judging of a brace group before anything is made: its tokens from left to right up to the first fault, how many elements it has, and the cells that
+// its inner groups and strings want. `judge` answers as the definition's reading of the group does.
+ghost use mathlib.Core.Path.{_≡_};
+ghost use Prim.Native.Nat.{_≤_};
+ghost use lib.ListN.{length};
+ghost use Rattle.groups.specs.Parsing.{JudgedAs, WeighedAs, faultOf};
+use semantics::Error;
+use token::Lexed;
+use token::Token;
+
+// A group's fault; or how many elements it has, the cells of the objects in it, and the offset after it.
+pub enum Judged {
+    Bad(Error),
+    Good(usize, usize, usize),
+}
+
+// A token of a group: its fault; an element, with the cells that its object takes and the offset after it; or a brace with the offset after it.
+enum Weighed {
+    Bad(Error),
+    Element(usize, usize),
+    Open(usize),
+    Close(usize),
+}
+
+// The rest of a group, whose opening brace is before `from`, with `depth` levels of inner groups left.
+// Ruled out: a fault after the group's end that is noticed; the 17th brace taken where an earlier token is at fault.
+pub fn judge(script: &[u8], from: usize, depth: u32) -> Judged
+    requires { ⌜ from ≤ length (now script) ⌝ }
+    ensures { λ r. ⌜ JudgedAs (now (script .entry)) depth from r ⌝ }
+{
+    let mut at = from;
+    let mut size = 0;
+    let mut wants = 0;
+    loop {
+        match weigh(script, at) {
+            Weighed::Bad(e) => {
+                return Judged::Bad(e);
+            }
+            Weighed::Element(cells, next) => {
+                size = size + 1;
+                wants = wants + cells;
+                at = next;
+            }
+            Weighed::Open(next) => {
+                if depth == 0 {
+                    return Judged::Bad(Error::LimitCheck);
+                }
+                let judged = judge(script, next, depth - 1);
+                let Judged::Good(n, more, after) = judged else {
+                    return Judged::Bad(fault_of(judged));
+                };
+                size = size + 1;
+                wants = wants + (n + 1) + more;
+                at = after;
+            }
+            Weighed::Close(next) => {
+                return Judged::Good(size, wants, next);
+            }
+        }
+    }
+}
+
+// The token of a group from `at` on.
+fn weigh(script: &[u8], at: usize) -> Weighed
+    requires { ⌜ at ≤ length (now script) ⌝ }
+    ensures { λ r. ⌜ WeighedAs (now (script .entry)) at r ⌝ }
+{
+    let start = token::skip(script, at);
+    let lexed = token::token_at(script, start);
+    let Lexed::Token(read, next) = lexed else {
+        return Weighed::Bad(token::fault_of(lexed));
+    };
+    match read {
+        Token::Integer(_) => Weighed::Element(0, next),
+        Token::String(_, size) => Weighed::Element(1 + (size + 7) / 8, next),
+        Token::ExecutableName(_, _) => Weighed::Element(0, next),
+        Token::LiteralName(_, _) => Weighed::Element(0, next),
+        Token::OpenBrace => Weighed::Open(next),
+        Token::CloseBrace => Weighed::Close(next),
+        Token::End => Weighed::Bad(Error::SyntaxError),
+    }
+}
+
+// The fault of an answer that has one, for the branch of a `let .. else` that returns with its name.
+fn fault_of(judged: Judged) -> Error
+    ensures { λ r. ⌜ r ≡ faultOf judged ⌝ }
+{
+    match judged {
+        Judged::Bad(e) => e,
+        Judged::Good(_, _, _) => Error::SyntaxError,
+    }
+}
