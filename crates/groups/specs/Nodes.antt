@@ -1,7 +1,7 @@
 -- A brace group taken apart, and what the definition makes of it: its elements' values, the objects and the names, all in reading order.
 -- Assumes nothing.
 use mathlib.Core.Bool.{Bool, true, false}
-use mathlib.Core.List.{List, _∷_, _++_}
+use mathlib.Core.List.{List, [], _∷_, _++_}
 use Prim.Native.Nat.{ℕ, suc, _+_}
 use lib.ListN.{length}
 use Rattle.semantics.specs.Tokens.{Token}
