@@ -5,3 +5,4 @@ pub mod Slots
 pub mod Tops
 pub mod Resetting
 pub mod Running
+pub mod Undoing

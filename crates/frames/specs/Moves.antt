@@ -3,7 +3,7 @@
 use mathlib.Core.Path.{_≡_}
 use mathlib.Core.List.{List, _∷_}
 use Prim.Native.Nat.{ℕ, suc, _+_, _-_, _*_}
-use lib.ListN.{getD, drop}
+use lib.ListN.{getD, drop, set}
 use mathlib.Core.Bool.{true}
 use Rattle.semantics.specs.Values.{Value, null, array}
 use Rattle.store.specs.Rep.{element}
@@ -81,6 +81,14 @@ pub record Resets (kind a b : ℕ) (m : Machine) (e e′ : List ℕ) : Type 0 wh
       → frameValue f ≡ topValue μ
       → FrameIs (IsIn (R .world) μ) (R .world .ghost) (μ .store) f kind (getD e (8 * (m .frames - 1) + 1) 0) (getD e (8 * (m .frames - 1) + 2) 0) a b (getD e (8 * (m .frames - 1) + 5) 0)
       → Rep m s e′ d c l (resetTop f μ)
+
+-- Its words then.
+abbrev pub resetWords : ℕ → ℕ → ℕ → Machine → List ℕ → List ℕ
+resetWords kind a b m e = set (set (set e (8 * (m .frames - 1)) kind) (8 * (m .frames - 1) + 3) a) (8 * (m .frames - 1) + 4) b
+
+-- The topmost slot, which runs a procedure, has other numbers and nothing else has changed.
+abbrev pub Turned : Machine → List ℕ → List ℕ → Type 0
+Turned m e e′ = (a : ℕ) × (b : ℕ) × (e′ ≡ resetWords 1 a b m e)
 
 -- The procedure in the topmost slot starts to run.
 pub record Starts (m : Machine) (e e′ c : List ℕ) : Type 0 where

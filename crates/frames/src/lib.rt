@@ -3,7 +3,7 @@
 ghost use mathlib.Core.Path.{_≡_};
 ghost use Prim.Native.Nat.{_+_, _*_, _-_, _≤_};
 ghost use lib.ListN.{length, getD};
-ghost use Rattle.frames.specs.Moves.{Enters, Somewhere, MovesFrames, MovesItems, Resets, SomewhereAll, Starts, Advances, PushesElement, frameDropped, returned, bodyPended};
+ghost use Rattle.frames.specs.Moves.{Enters, Somewhere, MovesFrames, MovesItems, Resets, SomewhereAll, Starts, Advances, PushesElement, frameDropped, returned, bodyPended, resetWords, Turned};
 use machine::Machine;
 use machine::TAG_NULL;
 
@@ -122,6 +122,7 @@ pub fn pend_body(m: Machine, exec: &mut [u32], cells: &mut [u32]) -> Machine
 pub fn reset_top(m: Machine, exec: &mut [u32], kind: u32, a: u32, b: u32)
     requires { ⌜ (1 ≤ m .frames) × (8 * m .frames ≤ length (now exec)) ⌝ }
     ensures { λ _. ⌜ Resets kind a b m (now (exec .entry)) (now (exec .exit)) ⌝ }
+    ensures { λ _. ⌜ now (exec .exit) ≡ resetWords kind a b m (now (exec .entry)) ⌝ }
 {
     let k = m.frames - 1;
     exec[8 * k] = kind;
@@ -149,6 +150,7 @@ pub fn run_top(m: Machine, exec: &mut [u32], cells: &[u32])
 pub fn advance(m: Machine, exec: &mut [u32], cells: &[u32])
     requires { ⌜ (1 ≤ m .frames) × (getD (now exec) (8 * (m .frames - 1)) 0 ≡ 1) × (1 ≤ getD (now exec) (8 * (m .frames - 1) + 4) 0) × Somewhere m (now exec) (now cells) ⌝ }
     ensures { λ _. ⌜ Advances m (now (exec .entry)) (now (exec .exit)) (now (cells .entry)) ⌝ }
+    ensures { λ _. ⌜ Turned m (now (exec .entry)) (now (exec .exit)) ⌝ }
 {
     let k = m.frames - 1;
     let c = exec[8 * k + 3];

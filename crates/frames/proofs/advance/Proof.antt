@@ -46,7 +46,7 @@ same-length : tie.Need-same-length
 same-length c = search needs
 
 returns : tie.Need-returns
-returns c = advances _ _ (c .before .before .before .before .before .before .before .before .before .before .pre .0) (c .before .before .before .before .before .before .before .before .before .before .pre .2) (c .before .before .before .before .get .ensures) (c .before .before .reset-top .ensures)
+returns c = (advances _ _ (c .before .before .before .before .before .before .before .before .before .before .pre .0) (c .before .before .before .before .before .before .before .before .before .before .pre .2) (c .before .before .before .before .get .ensures) (c .before .before .reset-top .ensures .0), (_, _, c .before .before .reset-top .ensures .1))
 
 pub advance-spec : {M : Type 1} → statement M
 advance-spec =

@@ -2,6 +2,7 @@
 -- Assumes nothing.
 use Rattle.frames.proofs.Slots.{put-numbers}
 use Rattle.frames.proofs.Resetting.{reset-rep}
+use mathlib.Core.Path.{refl}
 use lib.ListN.{length-set}
 use native.Mathlib.Omega.{arith}
 use borrow.Author.Needs.{needs}
@@ -48,7 +49,7 @@ same-length : tie.Need-same-length
 same-length c = search needs
 
 returns : tie.Need-returns
-returns c = record { moves = λ s d cs l μ R f keeps words. reset-rep R _ (omega (arith, c .before .pre .0)) f keeps (put-numbers _ _ (omega (arith, c .before .pre .1)) _ _ _) words }
+returns c = (record { moves = λ s d cs l μ R f keeps words. reset-rep R _ (omega (arith, c .before .pre .0)) f keeps (put-numbers _ _ (omega (arith, c .before .pre .1)) _ _ _) words }, refl)
 
 pub reset-top-spec : {M : Type 1} → statement M
 reset-top-spec =

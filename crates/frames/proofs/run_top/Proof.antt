@@ -45,13 +45,13 @@ same-length : tie.Need-same-length
 same-length c = search needs
 
 returns : tie.Need-returns
-returns c = starts _ _ (c .before .before .before .before .before .before .before .before .before .before .pre .0) (c .before .before .before .before .before .before .before .before .before .before .pre .1) 0 0 (sym (c .before .before .before .before .if1 .taken) ∙ c .before .before .before .before .before .get .ensures) (λ g x S l r z s. absurd (omega (arith, z))) (c .before .before .reset-top .ensures)
+returns c = starts _ _ (c .before .before .before .before .before .before .before .before .before .before .pre .0) (c .before .before .before .before .before .before .before .before .before .before .pre .1) 0 0 (sym (c .before .before .before .before .if1 .taken) ∙ c .before .before .before .before .before .get .ensures) (λ g x S l r z s. absurd (omega (arith, z))) (c .before .before .reset-top .ensures .0)
 
 same-length-2 : tie.Need-same-length-2
 same-length-2 c = search needs
 
 returns-2 : tie.Need-returns-2
-returns-2 c = starts _ _ (c .before .before .before .before .before .before .before .before .before .before .before .pre .0) (c .before .before .before .before .before .before .before .before .before .before .before .pre .1) _ _ (c .before .before .before .before .before .before .get .ensures) (λ g x S l r z s. c .before .before .before .before .seek .ensures g x S l r s) (c .before .before .reset-top2 .ensures)
+returns-2 c = starts _ _ (c .before .before .before .before .before .before .before .before .before .before .before .pre .0) (c .before .before .before .before .before .before .before .before .before .before .before .pre .1) _ _ (c .before .before .before .before .before .before .get .ensures) (λ g x S l r z s. c .before .before .before .before .seek .ensures g x S l r s) (c .before .before .reset-top2 .ensures .0)
 
 pub run-top-spec : {M : Type 1} → statement M
 run-top-spec =
