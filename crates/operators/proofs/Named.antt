@@ -1,0 +1,43 @@
+-- The operator of a number is that of its name.
+-- Assumes nothing.
+use mathlib.Core.Path.{_≡_, refl, subst, sym, ap, _∙_}
+use mathlib.Core.List.{List, []}
+use Prim.Native.Nat.{ℕ}
+use lib.ListN.{getD}
+use Rattle.semantics.specs.Values.{Result}
+use Rattle.semantics.specs.Machine as Floo
+use Rattle.semantics.specs.Operators.{perform}
+use Rattle.store.specs.Rep.{titles}
+use Rattle.machine.specs.Room.{DoesStack, DoesHeap}
+use Rattle.machine.specs.declared.Machine.{Machine}
+use Rattle.machine.specs.declared.Did.{Did}
+use Rattle.machine.specs.declared.Did.the-variants.{Ok, Fail}
+use Rattle.control_operators.specs.Promises.{DoesState, DoesCells, DoesFrames}
+use Rattle.operators.specs.Titles.{performAt}
+
+pub named : (k j : ℕ) (n : List ℕ) → k ≡ j → getD titles j [] ≡ n → perform n ≡ performAt k
+unfolding performAt
+named k j n e t = ap perform (sym t) ∙ ap (λ i. perform (getD titles i [])) (sym e)
+
+module _ {m : Machine} {s s′ : List ℕ} {r : Did} {k : ℕ} (j : ℕ) (n : List ℕ) (e : k ≡ j) (t : getD titles j [] ≡ n) where
+  pub stack-named : DoesStack (perform n) m s s′ r → DoesStack (performAt k) m s s′ r
+  stack-named D = subst (λ f. DoesStack f m s s′ r) (named k j n e t) D
+
+  pub heap-named : {c c′ : List ℕ} → DoesHeap (perform n) m s s′ c c′ r → DoesHeap (performAt k) m s s′ c c′ r
+  heap-named {c} {c′} D = subst (λ f. DoesHeap f m s s′ c c′ r) (named k j n e t) D
+
+  pub frames-named : {e₀ e′ c c′ : List ℕ} → DoesFrames (perform n) m s s′ e₀ e′ c c′ r → DoesFrames (performAt k) m s s′ e₀ e′ c c′ r
+  frames-named {e₀} {e′} {c} {c′} D = subst (λ f. DoesFrames f m s s′ e₀ e′ c c′ r) (named k j n e t) D
+
+pub cells-named : {m : Machine} {r : Did} {k : ℕ} (j : ℕ) (n : List ℕ) → k ≡ j → getD titles j [] ≡ n
+    → {e c c′ : List ℕ} → DoesCells (perform n) m e c c′ r → DoesCells (performAt k) m e c c′ r
+cells-named {m} {r} {k} j n q t {e} {c} {c′} D = subst (λ f. DoesCells f m e c c′ r) (named k j n q t) D
+
+-- A promise that leaves words out is one for all such words.
+pub stack-does : {f : Floo.Machine → Result Floo.Machine} {m : Machine} {s s′ : List ℕ} (r : Did) → DoesStack f m s s′ r → (c : List ℕ) → DoesHeap f m s s′ c c r
+stack-does (Fail x) D c = record { does = λ e d l μ R. let a = D .does e d c l μ R in (a .0, (a .1, refl)) }
+stack-does (Ok m′) D c = record { does = λ e d l μ R. D .does e d c l μ R }
+
+pub state-cells : {f : Floo.Machine → Result Floo.Machine} {m : Machine} (r : Did) → DoesState f m r → (e c : List ℕ) → DoesCells f m e c c r
+state-cells (Fail x) D e c = record { does = λ s d l μ R. (D .does s e d c l μ R .0, refl) }
+state-cells (Ok m′) D e c = record { does = λ s d l μ R. D .does s e d c l μ R }

@@ -1,0 +1,24 @@
+-- Operators by their numbers, and the promise of one that may touch all lent words.
+-- Assumes nothing.
+use mathlib.Core.Path.{_≡_}
+use mathlib.Core.List.{List, []}
+use Prim.Native.Nat.{ℕ}
+use lib.ListN.{getD}
+use Rattle.semantics.specs.Values.{Result}
+use Rattle.semantics.specs.Machine as Floo
+use Rattle.semantics.specs.Operators.{perform}
+use Rattle.store.specs.Rep.{titles}
+use Rattle.machine.specs.Rep.{Rep, Answer}
+use Rattle.machine.specs.Room.{lent, fitted}
+use Rattle.machine.specs.declared.Machine.{Machine}
+use Rattle.machine.specs.declared.Did.{Did}
+
+-- The operator of number k.
+unfoldable pub performAt : ℕ → Floo.Machine → Result Floo.Machine
+performAt k = perform (getD titles k [])
+
+-- An operator does f where there is room, or fails as f and the test of room do; then no word has changed.
+pub record DoesAll (f : Floo.Machine → Result Floo.Machine) (m : Machine) (s s′ e e′ d d′ c c′ l l′ : List ℕ) (r : Did) : Type 0 where
+  pub does : (μ : Floo.Machine)
+      → Rep m s e d c l μ
+      → Answer (λ m′. Rep m′ s′ e′ d′ c′ l′) ((s′ ≡ s) × (e′ ≡ e) × (d′ ≡ d) × (c′ ≡ c) × (l′ ≡ l)) r (fitted (lent s e d c l) f μ)

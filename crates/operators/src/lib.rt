@@ -1,0 +1,106 @@
+// The 54 operators by their numbers, which are their places in the definition's table. Each family is lent only what its operators touch.
+ghost use Prim.Native.Nat.{_*_, _≤_, _<_};
+ghost use lib.ListN.{length};
+ghost use Rattle.machine.specs.Rep.{Somewhere as StackSomewhere};
+ghost use Rattle.machine.specs.Room.{DoesStack, DoesHeap};
+ghost use Rattle.frames.specs.Moves.{Somewhere, SomewhereAll};
+ghost use Rattle.control_operators.specs.Promises.{DoesFrames, DoesCells};
+ghost use Rattle.operators.specs.Titles.{performAt};
+use machine::Did;
+use machine::Machine;
+
+// add, sub, mul, idiv, mod and abs.
+fn arithmetic(k: u32, m: Machine, stack: &mut [u32]) -> Did
+    requires { ⌜ (6 ≤ k) × (k < 12) × (2 * m .depth ≤ length (now stack)) ⌝ }
+    ensures { λ r. ⌜ DoesStack (performAt k) m (now (stack .entry)) (now (stack .exit)) r ⌝ }
+{
+    match k {
+        6 => number_operators::add(m, stack),
+        7 => number_operators::sub(m, stack),
+        8 => number_operators::mul(m, stack),
+        9 => number_operators::idiv(m, stack),
+        10 => number_operators::rem(m, stack),
+        _ => number_operators::abs(m, stack),
+    }
+}
+
+// neg, bitshift, not, and, or and xor.
+fn bits(k: u32, m: Machine, stack: &mut [u32]) -> Did
+    requires { ⌜ (12 ≤ k) × (k < 18) × (2 * m .depth ≤ length (now stack)) ⌝ }
+    ensures { λ r. ⌜ DoesStack (performAt k) m (now (stack .entry)) (now (stack .exit)) r ⌝ }
+{
+    match k {
+        12 => number_operators::neg(m, stack),
+        13 => number_operators::bitshift(m, stack),
+        14 => number_operators::bit_not(m, stack),
+        15 => number_operators::bit_and(m, stack),
+        16 => number_operators::bit_or(m, stack),
+        _ => number_operators::bit_xor(m, stack),
+    }
+}
+
+// lt, le, gt and ge.
+fn comparisons(k: u32, m: Machine, stack: &mut [u32]) -> Did
+    requires { ⌜ (20 ≤ k) × (k < 24) × (2 * m .depth ≤ length (now stack)) ⌝ }
+    ensures { λ r. ⌜ DoesStack (performAt k) m (now (stack .entry)) (now (stack .exit)) r ⌝ }
+{
+    match k {
+        20 => number_operators::lt(m, stack),
+        21 => number_operators::le(m, stack),
+        22 => number_operators::gt(m, stack),
+        _ => number_operators::ge(m, stack),
+    }
+}
+
+// dup, exch, pop, index, copy and roll.
+fn rearrangements(k: u32, m: Machine, stack: &mut [u32], cells: &mut [u32]) -> Did
+    requires { ⌜ (k < 6) × StackSomewhere m (now stack) (now cells) ⌝ }
+    ensures { λ r. ⌜ DoesHeap (performAt k) m (now (stack .entry)) (now (stack .exit)) (now (cells .entry)) (now (cells .exit)) r ⌝ }
+{
+    match k {
+        0 => stack_operators::dup(m, stack, cells),
+        1 => stack_operators::exch(m, stack),
+        2 => stack_operators::pop(m, stack, cells),
+        3 => stack_operators::index(m, stack, cells),
+        4 => stack_operators::copy(m, stack, cells),
+        _ => stack_operators::roll(m, stack, cells),
+    }
+}
+
+// exec, if, ifelse, loop, repeat and for.
+fn bodies(k: u32, m: Machine, stack: &[u32], exec: &mut [u32], cells: &mut [u32]) -> Did
+    requires { ⌜ (27 ≤ k) × (k < 33) × SomewhereAll m (now stack) (now exec) (now cells) ⌝ }
+    ensures { λ r. ⌜ DoesFrames (performAt k) m (now (stack .entry)) (now (stack .entry)) (now (exec .entry)) (now (exec .exit)) (now (cells .entry)) (now (cells .exit)) r ⌝ }
+{
+    match k {
+        27 => control_operators::exec_(m, stack, exec),
+        28 => control_operators::if_(m, stack, exec, cells),
+        29 => control_operators::ifelse(m, stack, exec, cells),
+        30 => control_operators::loop_(m, stack, exec),
+        31 => control_operators::repeat_(m, stack, exec),
+        _ => control_operators::for_(m, stack, exec),
+    }
+}
+
+// exit, continue and stop.
+fn endings(k: u32, m: Machine, exec: &[u32], cells: &mut [u32]) -> Did
+    requires { ⌜ (33 ≤ k) × (k < 36) × Somewhere m (now exec) (now cells) ⌝ }
+    ensures { λ r. ⌜ DoesCells (performAt k) m (now (exec .entry)) (now (cells .entry)) (now (cells .exit)) r ⌝ }
+{
+    match k {
+        33 => control_operators::exit(m, exec, cells),
+        34 => control_operators::continue_(m, exec, cells),
+        _ => control_operators::stop(m),
+    }
+}
+
+// cvx and cvlit.
+fn conversions(k: u32, m: Machine, stack: &mut [u32]) -> Did
+    requires { ⌜ (48 ≤ k) × (k < 50) × (2 * m .depth ≤ length (now stack)) ⌝ }
+    ensures { λ r. ⌜ DoesStack (performAt k) m (now (stack .entry)) (now (stack .exit)) r ⌝ }
+{
+    match k {
+        48 => stack_operators::cvx(m, stack),
+        _ => stack_operators::cvlit(m, stack),
+    }
+}
