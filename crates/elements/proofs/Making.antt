@@ -55,6 +55,28 @@ plain-tag : {m : Machine} {st e d c l : List ℕ} {μ : Floo.Machine} → Rep m 
 plain-tag {st = st} R i k h p =
     ⊎-elim (λ l. l) (λ l. absurd (nameless p (names-stands (word-of R i k h .stands) l))) (lt-or-le (getD st (2 * k) 0) 8)
 
+-- Object o is made with header x.
+module _ {m : Machine} {st e d c l : List ℕ} {μ : Floo.Machine} (R : Rep m st e d c l μ) {s : Lists} {c′ : List ℕ} (x : ℕ) (o : Object)
+    (A : Adds (keys μ) rootCount (R .world .ρ) (R .world .ghost) (cells c + rootCount) s c c′ (μ .store) (roots μ) x o)
+    (fresh : R .world .ghost .own x ≡ live → ⊥) where
+  abbrev pub added : World
+  added = record { ρ = upd (R .world .ρ) x (length (μ .store)); ghost = A .ghost }
+
+  -- Values stand as they did,
+  pub carry-added : (v : Value) (t p : ℕ) → IsIn (R .world) μ v t p → Is added (keys μ) (map isText (μ .store ++ (o ∷ []))) v t p
+  carry-added v t p h =
+      record {
+        stands = stands-made (R .world .ghost) (μ .store) o x fresh (h .alive) (h .stands);
+        alive = λ l. A .grows .lives p (λ q. fresh (subst (λ y. R .world .ghost .own y ≡ live) q (h .alive l))) (h .alive l) .0;
+      }
+
+  -- and procedures have their lengths.
+  pub long-added : (j t p : ℕ)
+      → IsIn (R .world) μ (array true j) t p
+      → length (elementsOf (objectAt (μ .store ++ (o ∷ [])) j)) ≡ length (elementsOf (objectAt (μ .store) j))
+  long-added j t p h =
+      ap (λ y. length (elementsOf y)) (List·getD-append (μ .store) (o ∷ []) (elements []) j (kind-at (μ .store) j false (array-tags (h .stands) .0) .0))
+
 -- Object o is made with header x, and the value v, of tag t, names it.
 module _ {m : Machine} {st e d c l : List ℕ} {μ : Floo.Machine} (R : Rep m st e d c l μ) (i k : ℕ) (h : m .depth ≡ k + suc i) (plain : getD st (2 * k) 0 < 8)
     {s : Lists} {c′ : List ℕ} (x : ℕ) (o : Object)
@@ -108,15 +130,7 @@ module _ {m : Machine} {st e d c l : List ℕ} {μ : Floo.Machine} (R : Rep m st
       }
 
   carry : (v : Value) (t p : ℕ) → IsIn (R .world) μ v t p → Is world (keys μ) (map isText store) v t p
-  carry v t p h =
-      record {
-        stands = stands-made (R .world .ghost) (μ .store) o x fresh (h .alive) (h .stands);
-        alive = λ l. A .grows .lives p (λ q. fresh (subst (λ y. R .world .ghost .own y ≡ live) q (h .alive l))) (h .alive l) .0;
-      }
-
-  long : (j t p : ℕ) → IsIn (R .world) μ (array true j) t p → length (elementsOf (objectAt store j)) ≡ length (elementsOf (objectAt (μ .store) j))
-  long j t p h =
-      ap (λ y. length (elementsOf y)) (List·getD-append (μ .store) (o ∷ []) (elements []) j (kind-at (μ .store) j false (array-tags (h .stands) .0) .0))
+  carry v t p h = let y = carry-added R x o A fresh v t p h in record { stands = y .stands; alive = y .alive }
 
   pub made-rep : Rep (withDepth (m .depth) s m) (set (set st (2 * k) t) (2 * k + 1) x) e d c′ l (withStack stack (withStore store μ))
   made-rep =
@@ -124,7 +138,7 @@ module _ {m : Machine} {st e d c l : List ℕ} {μ : Floo.Machine} (R : Rep m st
       let room : 2 * k + 2 ≤ length st = omega (arith, R .stack-room) in
       let here : Is world (keys μ) (map isText store) v t x = record { stands = new; alive = λ _. A .lives } in
       let words : Is world (keys μ) (map isText store) v (getD st′ (2 * k) 0) (getD st′ (2 * k + 1) 0) = rw (two-first st k t x room, two-second st k t x room) here in
-      rehoused R world stack store stored (λ v t p _ h. carry v t p h) long (λ i t p a r _ _ own. A .grows .keeps a p r own .0) st′ (m .depth)
+      rehoused R world stack store stored (λ v t p _ h. carry v t p h) (long-added R x o A fresh) (λ i t p a r _ _ own. A .grows .keeps a p r own .0) st′ (m .depth)
       (two-length st k t x room)
       (R .stack-room)
       (items-set (items-lift carry (R .items)) i k h words (two-others st k t x room))

@@ -5,12 +5,14 @@ use mathlib.Core.Bool.{Bool, true, false}
 use mathlib.Core.List.{List}
 use Prim.Native.Nat.{ℕ, _+_, _-_, _<_}
 use lib.ListN.{length, getD, set, replicate}
-use Rattle.semantics.specs.Values.{Value, integer, boolean, null, mark, operator, name, string, array, elements, text}
+use Rattle.semantics.specs.Values.{Value, integer, boolean, null, mark, operator, name, string, array, Object, elements, text}
 use Rattle.semantics.specs.Machine as Floo
 use Rattle.semantics.specs.Machine.{withStack, object, elementsOf, bytesOf, make, made, change}
-use Rattle.heap.specs.Shape.{cells}
+use Rattle.heap.specs.Chain.{live}
+use Rattle.heap.specs.Shape.{Ghost, Shape, cells}
+use Rattle.store.specs.Rep.{isText, objectAt}
 use Rattle.machine.specs.Places.{Nameless}
-use Rattle.machine.specs.Rep.{Rep}
+use Rattle.machine.specs.Rep.{Rep, World}
 use Rattle.machine.specs.declared.Machine.{Machine}
 
 -- ---- what items are
@@ -128,3 +130,26 @@ arrayMade i n μ = withStack (set (μ .stack) i (array false (made μ))) (make (
 -- Item i gives way to a new string, of n zeros.
 unfoldable pub stringMade : ℕ → ℕ → Floo.Machine → Floo.Machine
 stringMade i n μ = withStack (set (μ .stack) i (string (made μ))) (make (text (replicate n 0)) μ)
+
+-- ---- by header
+
+-- Header h stands for the string id.
+pub record IsString (w : World) (store : List Object) (h id : ℕ) : Type 0 where
+  pub lives : w .ghost .own h ≡ live
+  pub stands : w .ρ h ≡ id
+  pub kind : isText (objectAt store id) ≡ true
+
+-- Header h lives, and has a body cell q.
+abbrev pub HasCell : List ℕ → ℕ → ℕ → Type 0
+HasCell c h q = (g : Ghost) × (n : ℕ) × Shape g n c × (g .own h ≡ live) × (q < g .size (h + 2))
+
+-- Byte q of the string id becomes b.
+unfoldable pub byteSet : ℕ → ℕ → ℕ → Floo.Machine → Floo.Machine
+byteSet id q b μ = change id (text (set (bytesOf (object μ id)) q b)) μ
+
+-- Byte q of the string with header h becomes b, and each header stands for what it stood for.
+pub record PutsByte (h q b : ℕ) (c c′ : List ℕ) : Type 0 where
+  pub puts : {m : Machine} {s e d l : List ℕ} {μ : Floo.Machine} (R : Rep m s e d c l μ) (id : ℕ)
+      → IsString (R .world) (μ .store) h id
+      → q < length (bytesOf (object μ id))
+      → (R′ : Rep m s e d c′ l (byteSet id q b μ)) × (R′ .world ≡ R .world)

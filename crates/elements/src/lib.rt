@@ -6,8 +6,8 @@ ghost use Prim.Native.Nat.{ℕ, _+_, _*_, _/_, _^_, _≤_, _<_};
 ghost use lib.ListN.{length};
 ghost use Rattle.store.specs.Rep.{byteOf, withByte};
 ghost use Rattle.machine.specs.Rep.{Somewhere, MovesHeap};
-ghost use Rattle.elements.specs.Elements.{HasArray, HasElement, HasString, HasByte, HasPlain, SomewhereThat};
-ghost use Rattle.elements.specs.Elements.{freeCells, ItemTag, ArraySize, StringSize, ByteOf, elementCopied, elementPut, bytePut, arrayMade, stringMade};
+ghost use Rattle.elements.specs.Elements.{HasArray, HasElement, HasString, HasByte, HasPlain, HasCell, SomewhereThat};
+ghost use Rattle.elements.specs.Elements.{freeCells, ItemTag, ArraySize, StringSize, ByteOf, elementCopied, elementPut, bytePut, PutsByte, arrayMade, stringMade};
 use machine::Machine;
 use machine::TAG_ARRAY;
 use machine::TAG_STRING;
@@ -133,6 +133,15 @@ pub fn put_byte(m: Machine, stack: &[u32], cells: &mut [u32], i: usize, q: u32, 
 {
     let k = m.depth - 1 - i;
     let h = stack[2 * k + 1];
+    put_byte_at(cells, h, q, b);
+}
+
+// Byte q of the string with header h becomes b.
+// Rules out: the other bytes of the word lost; another string's byte.
+pub fn put_byte_at(cells: &mut [u32], h: u32, q: u32, b: u8)
+    requires { ⌜ HasCell (now cells) h (q / 8) ⌝ }
+    ensures { λ _. ⌜ PutsByte h q b (now (cells .entry)) (now (cells .exit)) ⌝ }
+{
     let c = heap::seek(cells, h, q / 8);
     let u = (q % 8 / 4) as usize;
     let w = heap::get(cells, c, u);

@@ -2,6 +2,7 @@ pub mod Frames
 pub mod Regions
 pub mod Entering
 pub mod Slots
+pub mod Pending
 pub mod Tops
 pub mod Resetting
 pub mod Running

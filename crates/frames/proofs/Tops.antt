@@ -25,8 +25,8 @@ use Rattle.machine.proofs.Rooms.{frames-length}
 use Rattle.machine.proofs.Roots.{stack-root, exec-root, roots-at, at-front, at-other, at-end}
 use Rattle.frames.specs.Moves.{topValue, frameDropped, returned, bodyPended}
 use Rattle.frames.proofs.Entering.{Put}
-use Rattle.frames.proofs.Frames.{frames-frame}
-use Rattle.frames.proofs.Regions.{front-at, rest-at, exec-at}
+use Rattle.frames.proofs.Pending.{pend-placed, pend-rep}
+use Rattle.frames.proofs.Regions.{rest-at, exec-at}
 
 -- The topmost of k + 1 slots, its words and what lies below it.
 pub record TopFrame (A : Value → ℕ → ℕ → Type 0) (g : Ghost) (store : List Object) (e : List ℕ) (k : ℕ) (fs : List Frame) : Type 0 where
@@ -136,32 +136,13 @@ module _ {m : Machine} {st e d c l : List ℕ} {μ : Floo.Machine} (R : Rep m st
   -- ---- a copy becomes pending
 
   module _ (room : 8 * m .frames + 8 ≤ length e) where
-    used : length (μ .exec) ≡ m .frames
-    used = frames-length (R .frames)
-
-    free : IsIn (R .world) μ (roots μ (4 * m .frames + 1)) 0 0
-    free =
-        subst (λ v. IsIn (R .world) μ v 0 0)
-        (sym (exec-root μ (m .frames) ∙ at-end frameValue (μ .exec) (m .frames) (omega (arith, used))))
-        nothing
-
-    above : 4 * m .frames + 1 < 2048
-    above = omega (arith, R .exec-few)
-
     pub body-placed : Placed (m .lists) c 0 0 (getD e (8 * k + 1) 0) (getD e (8 * k + 2) 0)
-    body-placed = placed R (4 * m .frames + 1) above free words
+    body-placed = pend-placed R words room
 
     pub body-rep : {s′ : Lists} {c′ e′ : List ℕ} {x y z : ℕ}
         → Recounts (m .lists) c 0 0 (getD e (8 * k + 1) 0) (getD e (8 * k + 2) 0) s′ c′
         → Put e e′ (m .frames) 0 (getD e (8 * k + 1) 0) (getD e (8 * k + 2) 0) x y z
         → Rep (withDepths (m .depth) (m .frames + 1) s′ m) st e′ d c′ l (bodyPended μ)
-    unfolding bodyPended enter withExec withStack
+    unfolding bodyPended
     body-rep {s′} {c′} {e′} K put =
-        let n = m .frames in
-        let at-top : FrameIs (IsIn (R .world) μ) (R .world .ghost) (μ .store) (pending value) (getD e′ (8 * n) 0) (getD e′ (8 * n + 1) 0) (getD e′ (8 * n + 2) 0) (getD e′ (8 * n + 3) 0) (getD e′ (8 * n + 4) 0) (getD e′ (8 * n + 5) 0) =
-        rw (put .kind-is, put .tag-is, put .pay-is, put .a-is, put .b-is, put .c-is) (a-pending words) in
-        let frames = subst (λ x. Frames (IsIn (R .world) μ) (R .world .ghost) (μ .store) e′ x (pending value ∷ μ .exec)) (sym (add-one n)) (frame at-top (frames-frame (put .below) (R .frames))) in
-        subst (λ v. Rep (withDepths (m .depth) (n + 1) s′ m) st e′ d c′ l (withExec (pending v ∷ μ .exec) μ)) (sym top-value)
-        (rerooted R (4 * n + 1) above free words K (μ .stack) (pending value ∷ μ .exec)
-        (exec-at μ (withExec (pending value ∷ μ .exec) μ) refl n value refl (front-at frameValue (pending value) (μ .exec) n value used refl))
-        refl (put .long) (R .stack-room) (omega arith) (R .items) frames)
+        subst (λ v. Rep (withDepths (m .depth) (m .frames + 1) s′ m) st e′ d c′ l (enter (pending v) μ)) (sym top-value) (pend-rep R words room K put)

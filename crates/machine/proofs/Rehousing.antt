@@ -61,32 +61,42 @@ module _ {m : Machine} {st e d c l : List ℕ} {μ : Floo.Machine} (R : Rep m st
   unfolding withStack withStore
   slots-reached = all-bindings (μ .dictionary) (λ j i a. reached (4 * j + 2) i (subst (λ x. Names x i) (sym (binding-root after j)) a))
 
+  -- The new machine, in the world w.
+  pub rehoused-in : (st′ : List ℕ) (n : ℕ)
+      → length st′ ≡ length st
+      → 2 * n ≤ length st
+      → Items (Is w (keys μ) (map isText store)) st′ n stack
+      → (R′ : Rep (withDepth n s m) st′ e d c′ l (withStack stack (withStore store μ))) × (R′ .world ≡ w)
+  unfolding withStack withStore
+  rehoused-in st′ n same fits items = (
+    record {
+      world = w;
+      stored = H;
+      items = items;
+      frames = frames-map carry long stays frames-reached (R .frames);
+      slots = slots-map carry slots-reached (R .slots);
+      names = R .names;
+      titled = R .titled;
+      distinct = R .distinct;
+      logged = R .logged;
+      stopped = R .stopped;
+      stack-room = omega arith;
+      exec-room = R .exec-room;
+      dict-room = R .dict-room;
+      log-room = R .log-room;
+      stack-few = omega (arith, R .stack-few);
+      exec-few = R .exec-few;
+      dict-few = R .dict-few;
+    },
+    refl,
+  )
+
   pub rehoused : (st′ : List ℕ) (n : ℕ)
       → length st′ ≡ length st
       → 2 * n ≤ length st
       → Items (Is w (keys μ) (map isText store)) st′ n stack
       → Rep (withDepth n s m) st′ e d c′ l (withStack stack (withStore store μ))
-  unfolding withStack withStore
-  rehoused st′ n same fits items =
-      record {
-        world = w;
-        stored = H;
-        items = items;
-        frames = frames-map carry long stays frames-reached (R .frames);
-        slots = slots-map carry slots-reached (R .slots);
-        names = R .names;
-        titled = R .titled;
-        distinct = R .distinct;
-        logged = R .logged;
-        stopped = R .stopped;
-        stack-room = omega arith;
-        exec-room = R .exec-room;
-        dict-room = R .dict-room;
-        log-room = R .log-room;
-        stack-few = omega (arith, R .stack-few);
-        exec-few = R .exec-few;
-        dict-few = R .dict-few;
-      }
+  rehoused st′ n same fits items = rehoused-in st′ n same fits items .0
 
 -- The stack stays.
 module _ {m : Machine} {st e d c l : List ℕ} {μ : Floo.Machine} (R : Rep m st e d c l μ) (w : World) (store : List Object)
@@ -98,8 +108,11 @@ module _ {m : Machine} {st e d c l : List ℕ} {μ : Floo.Machine} (R : Rep m st
     → IsIn (R .world) μ (array true i) t p
     → R .world .ghost .own a ≡ on (p + 2) r
     → w .ghost .own a ≡ on (p + 2) r) where
-  pub restored : Rep (withDepth (m .depth) s m) st e d c′ l (withStore store μ)
+  pub restored-in : (R′ : Rep (withDepth (m .depth) s m) st e d c′ l (withStore store μ)) × (R′ .world ≡ w)
   unfolding withStack withStore
-  restored =
-      rehoused R w (μ .stack) store H carry long stays st (m .depth) refl (R .stack-room)
+  restored-in =
+      rehoused-in R w (μ .stack) store H carry long stays st (m .depth) refl (R .stack-room)
       (items-map carry (items-reached R w (μ .stack) store H carry long stays) (R .items))
+
+  pub restored : Rep (withDepth (m .depth) s m) st e d c′ l (withStore store μ)
+  restored = restored-in .0

@@ -29,7 +29,7 @@ use Rattle.store.proofs.Elements.{no-head, one-place, other-place}
 -- ---- arithmetic
 
 -- What holds of the four places holds of each.
-four : (P : ℕ → Type 0) → P 0 → P 1 → P 2 → P 3 → (j : ℕ) → j < 4 → P j
+pub four : (P : ℕ → Type 0) → P 0 → P 1 → P 2 → P 3 → (j : ℕ) → j < 4 → P j
 four P a b c d zero l = a
 four P a b c d (suc zero) l = b
 four P a b c d (suc (suc zero)) l = c

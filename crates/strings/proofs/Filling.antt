@@ -1,8 +1,9 @@
--- The loop of `fill`: the bytes that were read so far stand in front, and the rest of the token goes on at the offset.
+-- The loop of `fill_at`: the bytes that were read so far stand in front, and the rest of the token goes on at the offset. An item is filled by its header.
 -- Assumes nothing.
 use mathlib.Core.Path.{_≡_, refl, sym, ap, _∙_, subst}
+use mathlib.Core.Bool.{true}
 use mathlib.Core.List.{List, [], _∷_, _++_, append-nil}
-use Prim.Native.Nat.{ℕ, suc, _+_, _-_, _≤_, _<_}
+use Prim.Native.Nat.{ℕ, suc, _+_, _-_, _*_, _/_, _≤_, _<_}
 use native.Mathlib.Omega.{arith}
 use lib.ListN.{length, getD, set, drop, length-append, length-drop}
 use lib.Seq.{drop-cons, append-snoc, set-append-seam, set-getD}
@@ -13,11 +14,16 @@ use Rattle.token.specs.Strings.{StringAt, Gives, Unescapes}
 use Rattle.token.specs.declared.strings.Unescaped.{Unescaped}
 use Rattle.token.specs.declared.strings.Unescaped.the-variants as unescaped
 use Rattle.token.proofs.Escapes.{same-string}
-use Rattle.machine.specs.Rep.{Rep, MovesHeap}
+use Rattle.heap.specs.Chain.{live}
+use Rattle.heap.proofs.Shapes.{list-le}
+use Rattle.store.specs.Rep.{isText, objectAt}
+use Rattle.store.proofs.Standing.{text-is}
+use Rattle.machine.specs.Rep.{Rep, World}
 use Rattle.machine.specs.declared.Machine.{Machine}
-use Rattle.elements.specs.Elements.{HasByte, SomewhereThat, itemId, bytePut}
-use Rattle.strings.specs.Strings.{HasBytes, Fills, Filled, bytesFilled}
-use Rattle.strings.proofs.Parts.{Part, part-too, put-changed, changed-bytes, changed-item}
+use Rattle.elements.specs.Elements.{HasCell, IsString, PutsByte, itemId, byteSet}
+use Rattle.elements.proofs.Strings.{string-here, string-is, byte-here}
+use Rattle.strings.specs.Strings.{HasRoom, Fills, FillsAt, FillsString, Filled, FilledAt, stringFilled, bytesFilled}
+use Rattle.strings.proofs.Parts.{part-too, set-changed, changed-text, changed-bytes}
 
 -- ---- on lists
 
@@ -37,71 +43,112 @@ front-long done old h = length-append done (drop (length done) old) ∙ ap (λ k
 
 -- ---- on machines
 
-module _ (i : ℕ) (μ : Floo.Machine) where
-  filled-none : object μ (itemId i μ) ≡ text (bytesOf (object μ (itemId i μ))) → bytesFilled i [] μ ≡ μ
-  unfolding bytesFilled change withStore object
+module _ (id : ℕ) (μ : Floo.Machine) where
+  filled-none : object μ id ≡ text (bytesOf (object μ id)) → stringFilled id [] μ ≡ μ
+  unfolding stringFilled change withStore object
   filled-none whole =
-      ap (λ (o : Object). withStore (set (μ .store) (itemId i μ) o) μ) (sym whole)
-      ∙ ap (λ (s : List Object). withStore s μ) (set-getD (μ .store) (itemId i μ) (elements []))
+      ap (λ (o : Object). withStore (set (μ .store) id o) μ) (sym whole)
+      ∙ ap (λ (s : List Object). withStore s μ) (set-getD (μ .store) id (elements []))
 
-  module _ (made : itemId i μ < length (μ .store)) (done : List ℕ) where
-    filled-more : (b : ℕ) → length done < length (bytesOf (object μ (itemId i μ))) → bytePut i (length done) b (bytesFilled i done μ) ≡ bytesFilled i (done ++ (b ∷ [])) μ
-    unfolding bytesFilled
+  module _ (made : id < length (μ .store)) (done : List ℕ) where
+    filled-more : (b : ℕ) → length done < length (bytesOf (object μ id)) → byteSet id (length done) b (stringFilled id done μ) ≡ stringFilled id (done ++ (b ∷ [])) μ
+    unfolding stringFilled
     filled-more b h =
-        let old = bytesOf (object μ (itemId i μ)) in
-        put-changed i μ (done ++ drop (length done) old) made (length done) b
-        ∙ ap (λ (t : List ℕ). change (itemId i μ) (text t) μ) (front-more done old b h)
+        let old = bytesOf (object μ id) in
+        set-changed id μ (done ++ drop (length done) old) made (length done) b
+        ∙ ap (λ (t : List ℕ). change id (text t) μ) (front-more done old b h)
 
-    filled-byte : Part i 0 (length done) μ → (q : ℕ) → q < length (bytesOf (object μ (itemId i μ))) → HasByte i q (bytesFilled i done μ)
-    unfolding bytesFilled
-    filled-byte P q h =
-        let old = bytesOf (object μ (itemId i μ)) in
-        let p = done ++ drop (length done) old in
-        let long = ap (λ (t : List ℕ). length t) (changed-bytes i μ p made) ∙ front-long done old (omega (arith, P .inside)) in
-        record { string = record { id = itemId i μ; item = changed-item i μ p i (P .item) }; inside = omega (arith, h, long) }
+    filled-long : length done ≤ length (bytesOf (object μ id)) → length (bytesOf (object (stringFilled id done μ) id)) ≡ length (bytesOf (object μ id))
+    unfolding stringFilled
+    filled-long h =
+        let old = bytesOf (object μ id) in
+        ap (λ (t : List ℕ). length t) (changed-bytes id μ (done ++ drop (length done) old) made) ∙ front-long done old h
+
+    filled-kind : isText (objectAt (stringFilled id done μ .store) id) ≡ true
+    unfolding stringFilled object
+    filled-kind = ap isText (changed-text id μ (done ++ drop (length done) (bytesOf (object μ id))) made)
+
+-- ---- on words
+
+module _ {m : Machine} {s e d c l : List ℕ} {μ : Floo.Machine} (R : Rep m s e d c l μ) {h id : ℕ} (I : IsString (R .world) (μ .store) h id) where
+  made : id < length (μ .store)
+  made = subst (λ j. j < length (μ .store)) (I .stands) (R .stored .objects .id h (I .lives))
+
+  whole : object μ id ≡ text (bytesOf (object μ id))
+  unfolding object
+  whole = text-is (objectAt (μ .store) id) (I .kind)
+
+  few : length (bytesOf (object μ id)) ≤ 262144
+  unfolding object
+  few =
+      let A = string-here R I in
+      let shape = R .stored .full .heap .shape in
+      subst (λ j. length (bytesOf (objectAt (μ .store) j)) ≤ 262144) (I .stands) (omega (arith, A .size, list-le shape (h + 2), shape .few))
+
+  -- After bytes have gone to its front, it is the same string.
+  module _ (done : List ℕ) {c′ : List ℕ} (R′ : Rep m s e d c′ l (stringFilled id done μ)) (same : R′ .world ≡ R .world) where
+    string-still : IsString (R′ .world) (stringFilled id done μ .store) h id
+    string-still =
+        record {
+          lives = subst (λ (w : World). w .ghost .own h ≡ live) (sym same) (I .lives);
+          stands = subst (λ (w : World). w .ρ h ≡ id) (sym same) (I .stands);
+          kind = filled-kind id μ made done;
+        }
+
+-- One byte more goes to the front.
+front-puts : {h q b : ℕ} {done c₀ c c′ : List ℕ}
+    → length done ≡ q
+    → FillsString h done c₀ c
+    → PutsByte h q b c c′
+    → FillsString h (done ++ (b ∷ [])) c₀ c′
+front-puts {h} {q} {b} {done} {c′ = c′} count F B =
+    record {
+      fills = λ {m = m} {s = s} {e = e} {d = d} {l = l} {μ = μ} R id I room.
+          let more : length (done ++ (b ∷ [])) ≡ length done + 1 = length-append done (b ∷ []) in
+          let X = F .fills R id I (omega (arith, room, more)) in
+          let long = filled-long id μ (made R I) done (omega (arith, room, more)) in
+          let Y = B .puts (X .0) id (string-still R I done (X .0) (X .1)) (omega (arith, room, more, long, count)) in
+          let same = ap (λ k. byteSet id k b (stringFilled id done μ)) (sym count) ∙ filled-more id μ (made R I) done b (omega (arith, room, more)) in
+          subst (λ (τ : Floo.Machine). (R′ : Rep m s e d c′ l τ) × (R′ .world ≡ R .world)) same (Y .0, Y .1 ∙ X .1);
+    }
 
 -- ---- the loop
 
-pub record Filling (i : ℕ) (m : Machine) (s c₀ c script : List ℕ) (start at q : ℕ) : Type 0 where
+pub record Filling (h : ℕ) (c₀ c script : List ℕ) (start at q : ℕ) : Type 0 where
   pub bytes : List ℕ
   pub last : ℕ
   pub whole : StringAt script start bytes last
-  pub room : SomewhereThat (HasBytes i 0 (length bytes)) m s c₀
+  pub room : HasRoom h (length bytes) c₀
   pub done : List ℕ
   pub rest : List ℕ
   pub parts : bytes ≡ done ++ rest
   pub count : length done ≡ q
   pub left : StringAt script at rest last
   pub long : length c ≡ length c₀
-  pub moves : MovesHeap (bytesFilled i done) m m s s c₀ c
+  pub fills : FillsString h done c₀ c
 
-pub begin : {i : ℕ} {m : Machine} {s c script : List ℕ} {start : ℕ} → i < m .depth → Fills i m s c script start → Filling i m s c c script start start 0
-begin {i} {m} {s} {c} deep F =
-    let W = F .room in
+pub begin : {h : ℕ} {c script : List ℕ} {start : ℕ} → FillsAt h c script start → Filling h c c script start start 0
+begin {c = c} F =
     record {
       bytes = F .contents;
       last = F .next;
       whole = F .reads;
-      room = W;
+      room = F .room;
       done = [];
       rest = F .contents;
       parts = refl;
       count = refl;
       left = F .reads;
       long = refl;
-      moves = record {
-        moves = λ e d l μ R.
-            let P = part-too (W .4) i 0 (length (F .contents)) deep (W .5) R in
-            subst (Rep m s e d c l) (sym (filled-none i μ (P .whole))) R;
+      fills = record {
+        fills = λ {m = m} {s = s} {e = e} {d = d} {l = l} {μ = μ} R id I _.
+            subst (λ (τ : Floo.Machine). (R′ : Rep m s e d c l τ) × (R′ .world ≡ R .world)) (sym (filled-none id μ (whole R I))) (R, refl);
       };
     }
 
-module _ {i : ℕ} {m : Machine} {s c₀ c script : List ℕ} {start at q : ℕ} (deep : i < m .depth) (F : Filling i m s c₀ c script start at q) where
-  part : {e d l : List ℕ} {μ : Floo.Machine} → Rep m s e d c₀ l μ → Part i 0 (length (F .bytes)) μ
-  part R = let W = F .room in part-too (W .4) i 0 (length (F .bytes)) deep (W .5) R
-
+module _ {h : ℕ} {c₀ c script : List ℕ} {start at q : ℕ} (F : Filling h c₀ c script start at q) where
   pub few-bytes : length (F .bytes) ≤ 262144
-  few-bytes = let P = part (F .room .4) in omega (arith, P .inside, P .few)
+  few-bytes = let W = F .room in omega (arith, W .inside, few (W .rep) (W .string))
 
   module _ {r : Unescaped} (U : Unescapes script at r) where
     module _ {b next : ℕ} (e : r ≡ unescaped.Byte b next) where
@@ -117,21 +164,16 @@ module _ {i : ℕ} {m : Machine} {s c₀ c script : List ℕ} {start at q : ℕ}
       pub nearer : length script - next < length script - at
       nearer = omega (arith, gives .3, gives .2 .past, gives .2 .inside)
 
-      pub byte-room : SomewhereThat (HasByte i q) m s c
+      pub byte-room : HasCell c h (q / 8)
       byte-room =
           let W = F .room in
-          let P = part (W .4) in
-          let few : 0 + length (F .done) ≤ length (bytesOf (object (W .3) (itemId i (W .3)))) = omega (arith, P .inside, one-left, F .count) in
-          let Q : Part i 0 (length (F .done)) (W .3) = record { item = P .item; made = P .made; whole = P .whole; few = P .few; inside = few } in (
-            W .0,
-            W .1,
-            W .2,
-            bytesFilled i (F .done) (W .3),
-            F .moves .moves (W .0) (W .1) (W .2) (W .3) (W .4),
-            filled-byte i (W .3) (P .made) (F .done) Q q (omega (arith, P .inside, one-left)),
-          )
+          let low : length (F .done) ≤ length (bytesOf (object (W .state) (W .id))) = omega (arith, W .inside, one-left, F .count) in
+          let X = F .fills .fills (W .rep) (W .id) (W .string) low in
+          let long = filled-long (W .id) (W .state) (made (W .rep) (W .string)) (F .done) low in
+          let I = string-still (W .rep) (W .string) (F .done) (X .0) (X .1) in
+          byte-here (X .0) h (W .id) q (string-here (X .0) I) (omega (arith, long, W .inside, one-left))
 
-      pub again : {c′ : List ℕ} → MovesHeap (bytePut i q b) m m s s c c′ → length c′ ≡ length c → Filling i m s c₀ c′ script start next (q + 1)
+      pub again : {c′ : List ℕ} → PutsByte h q b c c′ → length c′ ≡ length c → Filling h c₀ c′ script start next (q + 1)
       again {c′} B long =
           record {
             bytes = F .bytes;
@@ -144,17 +186,50 @@ module _ {i : ℕ} {m : Machine} {s c₀ c script : List ℕ} {start at q : ℕ}
             count = length-append (F .done) (b ∷ []) ∙ ap (λ k. k + 1) (F .count);
             left = gives .2;
             long = long ∙ F .long;
-            moves = record {
-              moves = λ e d l μ R.
-                  let P = part R in
-                  let put = B .moves e d l (bytesFilled i (F .done) μ) (F .moves .moves e d l μ R) in
-                  let named = subst (λ k. Rep m s e d c′ l (bytePut i k b (bytesFilled i (F .done) μ))) (sym (F .count)) put in
-                  subst (Rep m s e d c′ l) (filled-more i μ (P .made) (F .done) b (omega (arith, P .inside, one-left, F .count))) named;
-            };
+            fills = front-puts (F .count) (F .fills) B;
           }
 
-    pub finish : r ≡ unescaped.Closed → Filled i m s c₀ c script start
+    pub finish : r ≡ unescaped.Closed → FilledAt h c₀ c script start
     finish e =
         let none : F .rest ≡ [] = subst (Gives script at (F .rest) (F .last)) e (U (F .rest) (F .last) (F .left)) in
         let all : F .bytes ≡ F .done = F .parts ∙ ap (λ (t : List ℕ). F .done ++ t) none ∙ append-nil (F .done) in
-        record { fills = λ bs next S. subst (λ (t : List ℕ). MovesHeap (bytesFilled i t) m m s s c₀ c) (sym all ∙ same-string (F .whole) S) (F .moves) }
+        record { fills = λ bs next S. subst (λ (t : List ℕ). FillsString h t c₀ c) (sym all ∙ same-string (F .whole) S) (F .fills) }
+
+-- ---- an item
+
+module _ {i : ℕ} {m : Machine} {s c script : List ℕ} {at : ℕ} (k : ℕ) (h : m .depth ≡ k + suc i) (F : Fills i m s c script at) where
+  pub item-room : FillsAt (getD s (2 * k + 1) 0) c script at
+  item-room =
+      let W = F .room in
+      let b = W .5 in
+      record {
+        contents = F .contents;
+        next = F .next;
+        reads = F .reads;
+        room = record {
+          machine = m;
+          stack = s;
+          exec = W .0;
+          dict = W .1;
+          log = W .2;
+          state = W .3;
+          rep = W .4;
+          id = b .string .id;
+          string = string-is (W .4) i k h (b .string .item);
+          inside = omega (arith, b .inside);
+        };
+      }
+
+  pub item-filled : {c′ : List ℕ} → FilledAt (getD s (2 * k + 1) 0) c c′ script at → Filled i m s c c′ script at
+  unfolding bytesFilled stringFilled
+  item-filled G =
+      record {
+        fills = λ bs next S.
+            record {
+              moves = λ e d l μ R.
+                  let W = F .room in
+                  let P = part-too (W .4) i 0 (length (F .contents)) (omega (arith, h)) (W .5) R in
+                  let same : length bs ≡ length (F .contents) = ap (λ (t : List ℕ). length t) (same-string S (F .reads)) in
+                  G .fills bs next S .fills R (itemId i μ) (string-is R i k h (P .item)) (omega (arith, P .inside, same)) .0;
+            };
+      }

@@ -13,7 +13,7 @@ use Rattle.heap.proofs.Shapes.{list-le}
 use Rattle.store.specs.Rep.{objectAt}
 use Rattle.machine.specs.Rep.{Rep}
 use Rattle.machine.specs.declared.Machine.{Machine}
-use Rattle.elements.specs.Elements.{itemId, bytePut}
+use Rattle.elements.specs.Elements.{itemId, bytePut, byteSet}
 use Rattle.elements.proofs.Strings.{StringAt, string-item, string-too, string-id, maximum-read}
 use Rattle.strings.specs.Strings.{HasBytes, pasted}
 
@@ -63,22 +63,29 @@ part-too {m} R i q n deep b R′ =
 
 -- ---- a string that has changed
 
+module _ (id : ℕ) (μ : Floo.Machine) (p : List ℕ) (made : id < length (μ .store)) where
+  pub changed-text : object (change id (text p) μ) id ≡ text p
+  unfolding change withStore object
+  changed-text = getD-set-same (μ .store) id (text p) (elements []) made
+
+  pub changed-bytes : bytesOf (object (change id (text p) μ) id) ≡ p
+  unfolding bytesOf
+  changed-bytes = ap bytesOf changed-text
+
+  pub set-changed : (q v : ℕ) → byteSet id q v (change id (text p) μ) ≡ change id (text (set p q v)) μ
+  unfolding byteSet change withStore object bytesOf
+  set-changed q v =
+      ap (λ (o : Object). withStore (set (set (μ .store) id (text p)) id (text (set (bytesOf o) q v))) μ) (getD-set-same (μ .store) id (text p) (elements []) made)
+      ∙ ap (λ (s : List Object). withStore s μ) (set-set (μ .store) id (text p) (text (set p q v)))
+
 module _ (i : ℕ) (μ : Floo.Machine) (p : List ℕ) where
   pub changed-item : (j : ℕ) {v : Value} → getD (μ .stack) j null ≡ v → getD (change (itemId i μ) (text p) μ .stack) j null ≡ v
   unfolding change withStore
   changed-item j h = h
 
-  module _ (made : itemId i μ < length (μ .store)) where
-    pub changed-bytes : bytesOf (object (change (itemId i μ) (text p) μ) (itemId i μ)) ≡ p
-    unfolding change withStore object bytesOf
-    changed-bytes = ap bytesOf (getD-set-same (μ .store) (itemId i μ) (text p) (elements []) made)
-
-    pub put-changed : (q v : ℕ) → bytePut i q v (change (itemId i μ) (text p) μ) ≡ change (itemId i μ) (text (set p q v)) μ
-    unfolding bytePut change withStore object itemId bytesOf
-    put-changed q v =
-        let id = itemId i μ in
-        ap (λ (o : Object). withStore (set (set (μ .store) id (text p)) id (text (set (bytesOf o) q v))) μ) (getD-set-same (μ .store) id (text p) (elements []) made)
-        ∙ ap (λ (s : List Object). withStore s μ) (set-set (μ .store) id (text p) (text (set p q v)))
+  pub put-changed : itemId i μ < length (μ .store) → (q v : ℕ) → bytePut i q v (change (itemId i μ) (text p) μ) ≡ change (itemId i μ) (text (set p q v)) μ
+  unfolding bytePut byteSet change withStore itemId
+  put-changed made q v = set-changed (itemId i μ) μ p made q v
 
 -- ---- bytes pasted into a string
 

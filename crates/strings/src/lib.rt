@@ -3,7 +3,7 @@ ghost use Prim.Native.Nat.{_+_, _≤_, _<_};
 ghost use lib.ListN.{length};
 ghost use Rattle.machine.specs.Rep.{MovesHeap};
 ghost use Rattle.elements.specs.Elements.{HasString, SomewhereThat};
-ghost use Rattle.strings.specs.Strings.{CurrentSize, Copies, Fills, bytesCopied, Filled};
+ghost use Rattle.strings.specs.Strings.{CurrentSize, Copies, Fills, FillsAt, bytesCopied, Filled, FilledAt};
 use machine::Machine;
 use token::Unescaped;
 
@@ -53,12 +53,23 @@ pub fn fill(m: Machine, stack: &[u32], cells: &mut [u32], i: usize, script: &[u8
     requires { ⌜ (i < m .depth) × Fills i m (now stack) (now cells) (now script) start ⌝ }
     ensures { λ _. ⌜ Filled i m (now (stack .entry)) (now (cells .entry)) (now (cells .exit)) (now (script .entry)) start ⌝ }
 {
+    let k = m.depth - 1 - i;
+    let h = stack[2 * k + 1];
+    fill_at(cells, h, script, start);
+}
+
+// The string with header h gets the bytes of the string token whose text is at `start`; its bytes after them stay.
+// Rules out: an escape's bytes written unread; another string filled.
+pub fn fill_at(cells: &mut [u32], h: u32, script: &[u8], start: usize)
+    requires { ⌜ FillsAt h (now cells) (now script) start ⌝ }
+    ensures { λ _. ⌜ FilledAt h (now (cells .entry)) (now (cells .exit)) (now (script .entry)) start ⌝ }
+{
     let mut at = start;
     let mut q: u32 = 0;
     loop {
         match token::unescape(script, at) {
             Unescaped::Byte(b, next) => {
-                elements::put_byte(m, stack, cells, i, q, b);
+                elements::put_byte_at(cells, h, q, b);
                 q = q + 1;
                 at = next;
             }

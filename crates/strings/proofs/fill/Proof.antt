@@ -1,61 +1,48 @@
--- `fill` meets its contract: the loop keeps `Filling`, that the bytes read so far stand in front. The measure is what is left of the script.
+-- `fill` meets its contract: the item's words name its header, and the string is filled by it (`item-filled`).
 -- Assumes nothing.
-use Rattle.strings.proofs.Filling.{Filling, begin, few-bytes, one-left, nearer, byte-room, again, finish}
-use lib.ListN.{length}
-use Prim.Native.Nat.{_-_}
 use native.Mathlib.Omega.{arith}
+use Rattle.strings.proofs.Filling.{item-room, item-filled}
+use borrow.Author.Needs.{needs}
 use Rattle.strings.proofs.fill.Statement.{statement}
 use Rattle.strings.proofs.fill.Tie as tie
 
-abbrev Inv-loop : tie.InvT-loop
-Inv-loop m stack cells₀ i script start at₀ q₀ cells at q = Filling i m stack cells₀ cells script start at q
+sub-k : tie.Need-sub-k
+sub-k c = search needs
 
-abbrev μ-loop : tie.MeasureT-loop
-μ-loop m stack cells₀ i script start at₀ q₀ cells at q = length script - at
+sub-k-2 : tie.Need-sub-k-2
+sub-k-2 c = search needs
 
-loop-holds : tie.Need-loop-holds Inv-loop μ-loop
-loop-holds c = begin (c .before .before .before .pre .0) (c .before .before .before .pre .1)
+mul-h : tie.Need-mul-h
+mul-h c = search needs
 
-unescape-requires : tie.Need-unescape-requires Inv-loop μ-loop
-unescape-requires c κs = let F = c .loop .inv in (F .rest, F .last, F .left)
+add-h : tie.Need-add-h
+add-h c = search needs
 
-enum-known-b : tie.Need-enum-known-b Inv-loop μ-loop
-enum-known-b c = c .match .keys1
+mul-h-2 : tie.Need-mul-h-2
+mul-h-2 c = search needs
 
-put-byte-requires : tie.Need-put-byte-requires Inv-loop μ-loop
-put-byte-requires c κs = (c .before .before .before .before .before .before .before .before .before .pre .0, byte-room (c .before .before .before .before .before .before .before .before .before .pre .0) (c .before .before .before .before .before .loop .inv) (c .before .before .before .before .unescape .ensures) (c .before .before .b .given .1))
+shared-slice-read-h : tie.Need-shared-slice-read-h
+shared-slice-read-h c = search needs
 
-add-q : tie.Need-add-q Inv-loop μ-loop
-add-q c = omega (arith, few-bytes (c .before .before .before .before .before .before .before .before .before .before .before .before .pre .0) (c .before .before .before .before .before .before .before .before .loop .inv), one-left (c .before .before .before .before .before .before .before .before .before .before .before .before .pre .0) (c .before .before .before .before .before .before .before .before .loop .inv) (c .before .before .before .before .before .before .before .unescape .ensures) (c .before .before .before .before .before .b .given .1))
+fill-at-requires : tie.Need-fill-at-requires
+fill-at-requires c κs = item-room _ (omega (arith, c .before .before .before .before .before .before .pre .0)) (c .before .before .before .before .before .before .pre .1)
 
-loop-less : tie.Need-loop-less Inv-loop μ-loop
-loop-less c = nearer (c .before .before .before .before .before .before .before .before .before .before .before .before .pre .0) (c .before .before .before .before .before .before .before .before .loop .inv) (c .before .before .before .before .before .before .before .unescape .ensures) (c .before .before .before .before .before .b .given .1)
+same-length : tie.Need-same-length
+same-length c = search needs
 
-loop-again : tie.Need-loop-again Inv-loop μ-loop
-loop-again c = again (c .before .before .before .before .before .before .before .before .before .before .before .before .pre .0) (c .before .before .before .before .before .before .before .before .loop .inv) (c .before .before .before .before .before .before .before .unescape .ensures) (c .before .before .before .before .before .b .given .1) (c .before .before .put-byte .ensures) (c .before .before .put-byte .kept .1 .1 .0)
-
-enum-told : tie.Need-enum-told Inv-loop μ-loop
-enum-told c = c .match .keys2
-
-same-length : tie.Need-same-length Inv-loop μ-loop
-same-length c = c .before .before .before .loop .inv .long
-
-returns : tie.Need-returns Inv-loop μ-loop
-returns c = finish (c .before .before .before .before .before .before .before .pre .0) (c .before .before .before .loop .inv) (c .before .before .unescape .ensures) (c .enum-told .given .1)
+returns : tie.Need-returns
+returns c = item-filled _ (omega (arith, c .before .before .before .before .before .before .before .before .before .pre .0)) (c .before .before .before .before .before .before .before .before .before .pre .1) (c .before .before .fill-at .ensures)
 
 pub fill-spec : {M : Type 1} → statement M
 fill-spec =
     tie.close
     (tie.spec
-    Inv-loop
-    μ-loop
-    loop-holds
-    unescape-requires
-    enum-known-b
-    put-byte-requires
-    add-q
-    loop-less
-    loop-again
-    enum-told
+    sub-k
+    sub-k-2
+    mul-h
+    add-h
+    mul-h-2
+    shared-slice-read-h
+    fill-at-requires
     same-length
     returns)

@@ -1,0 +1,49 @@
+-- `set_string` meets its contract: the string that is made goes from the hand to the cell (`string-sets`). There are few cells, so the numbers fit.
+-- Assumes nothing.
+use mathlib.Core.Path.{refl}
+use Rattle.construction.proofs.Placing.{string-sets, cells-left}
+use native.Mathlib.Omega.{arith}
+use Rattle.elements.proofs.Making.{few-cells}
+use borrow.Author.Needs.{needs}
+use Rattle.construction.proofs.set_string.Statement.{statement}
+use Rattle.construction.proofs.set_string.Tie as tie
+
+add-allocate : tie.Need-add-allocate
+add-allocate c = omega (arith, c .before .before .before .pre .0, few-cells (c .before .before .before .pre .2 .1 .4))
+
+add-allocate-2 : tie.Need-add-allocate-2
+add-allocate-2 c = omega (arith, c .before .before .before .pre .0, few-cells (c .before .before .before .pre .2 .1 .4))
+
+allocate-requires : tie.Need-allocate-requires
+allocate-requires c κs = search needs
+
+put-requires : tie.Need-put-requires
+put-requires c κs = search needs
+
+put-requires-2 : tie.Need-put-requires-2
+put-requires-2 c κs = search needs
+
+same-length : tie.Need-same-length
+same-length c = search needs
+
+returns : tie.Need-returns
+returns c =
+    let made = c .before .before .before .before .before .before .before .before .before .before .before .allocate .ensures in (
+      string-sets (made .2) (c .before .before .before .put2 .ensures) (made .1) (c .before .before .before .before .before .before .before .put .ensures),
+      (
+        record { depth = refl; frames = refl; names = refl; written = refl },
+        cells-left (c .before .before .before .before .before .before .before .before .before .before .before .before .before .before .before .pre .2 .1 .4) (made .1) (made .0) (c .before .before .before .before .before .before .before .put .ensures) (c .before .before .before .put2 .ensures),
+      ),
+    )
+
+pub set-string-spec : {M : Type 1} → statement M
+set-string-spec =
+    tie.close
+    (tie.spec
+    add-allocate
+    add-allocate-2
+    allocate-requires
+    put-requires
+    put-requires-2
+    same-length
+    returns)

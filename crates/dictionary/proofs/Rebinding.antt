@@ -1,0 +1,207 @@
+-- The binding of a name, by its slot: its words stand for what the definition looks up, and it may be copied to an item or to an execution slot, or become a
+-- copy of an item. What names nothing is one to `recount`, an unbound name as null.
+-- Assumes nothing.
+use mathlib.Core.Path.{_≡_, refl, sym, ap, _∙_, subst}
+use mathlib.Core.List.{List, [], _∷_}
+use mathlib.Core.Logic.{⊎-elim}
+use mathlib.Core.Option.{Option, some}
+use Prim.Native.Nat.{ℕ, zero, suc, _+_, _*_, _/_, _%_, _≤_, _<_}
+use native.Mathlib.Omega.{arith}
+use lib.ListN.{length, getD, set, getElem?, length-set}
+use lib.Seq.{getD-set-same, getD-set-other}
+use Rattle.semantics.specs.Values.{Value, null}
+use Rattle.semantics.specs.Machine as Floo
+use Rattle.semantics.specs.Machine.{Slot, withStack, withExec, withDictionary, lookup, assign}
+use Rattle.store.specs.Rep.{byteOf}
+use Rattle.heap.specs.Shape.{target}
+use Rattle.heap.specs.Upd.{upd}
+use Rattle.heap.specs.declared.Lists.{Lists}
+use Rattle.heap.proofs.Parts as parts
+use Rattle.heap.proofs.Upds.{same?, upd-at, upd-other}
+use Rattle.machine.specs.Places as Places
+use Rattle.machine.specs.Places.{bindingAt, rootIn, roots, rootCount, keys}
+use Rattle.machine.specs.Rep.{Rep, IsIn, Bound, unbound, bound, SlotIs, Slots}
+use Rattle.machine.specs.Recount.{Placed, Recounts}
+use Rattle.machine.specs.declared.Machine.{Machine}
+use Rattle.machine.proofs.Dropping.{nothing}
+use Rattle.machine.proofs.Rerooting.{withDepths, placed, rerooted-all}
+use Rattle.machine.proofs.Roots.{binding-root}
+use Rattle.dictionary.specs.Names.{slotOf}
+use Rattle.dictionary.proofs.Slots.{slot-at, slots-set}
+use Rattle.dictionary.proofs.Dictionaries.{Sits, sits, slot-sits, lookup-sits, assign-sits, element-sits, keys-set}
+
+-- ---- one binding changes
+
+binding-set : (d : List Slot) (k : ℕ) (s : Slot) → k < length d → (j : ℕ) → bindingAt (set d k s) j ≡ upd (bindingAt d) k (Places.bound (s .binding)) j
+unfolding bindingAt
+binding-set [] k s l j = absurd (omega arith)
+binding-set (t ∷ d) zero s l zero = sym (upd-at (bindingAt (t ∷ d)) 0 (Places.bound (s .binding)) 0 refl)
+binding-set (t ∷ d) zero s l (suc j) = sym (upd-other (bindingAt (t ∷ d)) 0 (Places.bound (s .binding)) (suc j) (λ e. omega arith))
+binding-set (t ∷ d) (suc k) s l zero = sym (upd-other (bindingAt (t ∷ d)) (suc k) (Places.bound (s .binding)) 0 (λ e. omega arith))
+binding-set (t ∷ d) (suc k) s l (suc j) =
+    binding-set d k s (omega arith) j
+    ∙ ⊎-elim
+    (λ (e : j ≡ k).
+    upd-at (bindingAt d) k (Places.bound (s .binding)) j e ∙ sym (upd-at (bindingAt (t ∷ d)) (suc k) (Places.bound (s .binding)) (suc j) (ap suc e)))
+    (λ (e : j ≡ k → ⊥).
+    upd-other (bindingAt d) k (Places.bound (s .binding)) j e
+    ∙ sym (upd-other (bindingAt (t ∷ d)) (suc k) (Places.bound (s .binding)) (suc j) (λ z. e (omega arith))))
+    (same? j k)
+
+binding-changed : (μ : Floo.Machine) (d : List Slot) (k : ℕ) (v : Value)
+    → ((j : ℕ) → bindingAt d j ≡ upd (bindingAt (μ .dictionary)) k v j)
+    → (r : ℕ)
+    → roots (withDictionary d μ) r ≡ upd (roots μ) (4 * k + 2) v r
+unfolding roots rootIn withDictionary
+binding-changed μ d k v h r = by (r % 4) refl
+  where
+    by : (x : ℕ) → r % 4 ≡ x → rootIn (withDictionary d μ) x (r / 4) ≡ upd (roots μ) (4 * k + 2) v r
+    by zero q = sym (upd-other (roots μ) (4 * k + 2) v r (λ e. omega arith) ∙ ap (λ x. rootIn μ x (r / 4)) q)
+    by (suc zero) q = sym (upd-other (roots μ) (4 * k + 2) v r (λ e. omega arith) ∙ ap (λ x. rootIn μ x (r / 4)) q)
+    by (suc (suc zero)) q =
+        h (r / 4)
+        ∙ ⊎-elim
+        (λ (e : r / 4 ≡ k). upd-at (bindingAt (μ .dictionary)) k v (r / 4) e ∙ sym (upd-at (roots μ) (4 * k + 2) v r (omega arith)))
+        (λ (e : r / 4 ≡ k → ⊥).
+        upd-other (bindingAt (μ .dictionary)) k v (r / 4) e
+        ∙ sym (upd-other (roots μ) (4 * k + 2) v r (λ z. e (omega arith)) ∙ ap (λ x. rootIn μ x (r / 4)) q))
+        (same? (r / 4) k)
+    by (suc (suc (suc x))) q = sym (upd-other (roots μ) (4 * k + 2) v r (λ e. omega arith) ∙ ap (λ x. rootIn μ x (r / 4)) q)
+
+binding-here : (d : List Slot) (k : ℕ) {s : Slot} → getElem? d k ≡ some s → bindingAt d k ≡ Places.bound (s .binding)
+unfolding bindingAt
+binding-here [] k e =
+    let z : _≡_ {A = ℕ} 0 1 = cc in
+    absurd (omega arith)
+binding-here (t ∷ d) zero e = cc
+binding-here (t ∷ d) (suc k) e = binding-here d k e
+
+-- ---- to `recount`, words that name the same are the same
+
+module _ {s : Lists} {c : List ℕ} {t p t′ p′ tag pay : ℕ} (alike : target 0 t p ≡ target 0 t′ p′) where
+  placed-alike : Placed s c t p tag pay → Placed s c t′ p′ tag pay
+  placed-alike (P, g, x, L) =
+      (P, g, x, record { full = L .full; none-dead = L .none-dead; alive = L .alive; root = L .root; inside = L .inside; holds = L .holds ∙ alike })
+
+  recounts-alike : {r : Lists} {c′ : List ℕ} → Recounts s c t′ p′ tag pay r c′ → Recounts s c t p tag pay r c′
+  recounts-alike K =
+      record {
+        none-dead = K .none-dead;
+        changes = λ P g x L.
+            K .changes P g x
+            (record { full = L .full; none-dead = L .none-dead; alive = L .alive; root = L .root; inside = L .inside; holds = L .holds ∙ alike });
+      }
+
+-- Words of the binding's value that name what the binding's words name.
+record Valued (A : Value → ℕ → ℕ → Type 0) (v : Value) (t p : ℕ) : Type 0 where
+  pub tag : ℕ
+  pub pay : ℕ
+  pub is : A v tag pay
+  pub alike : target 0 tag pay ≡ target 0 t p
+
+valued : {A : Value → ℕ → ℕ → Type 0} {o : Option Value} {t p : ℕ} → A null 0 0 → Bound A o t p → Valued A (Places.bound o) t p
+valued none unbound = record { tag = 0; pay = 0; is = none; alike = parts.no-object 0 0 0 refl (omega arith) ∙ sym (parts.no-object 0 7 _ refl (omega arith)) }
+valued {t = t} {p = p} none (bound h) = record { tag = t; pay = p; is = h; alike = refl }
+
+-- ---- the slot of a name
+
+module _ {m : Machine} {st e d c l : List ℕ} {μ : Floo.Machine} (R : Rep m st e d c l μ) (k : ℕ) (n : List ℕ) (key : getElem? (keys μ) k ≡ some n) where
+  at : (s : Slot) × Sits n (μ .dictionary) k s
+  at = sits n (μ .dictionary) k (R .distinct) key
+
+  pub slot-room : 12 * k + 12 ≤ length d
+  slot-room = omega (arith, element-sits n (at .1) .2, R .names, R .dict-room)
+
+  pub slot-few : 12 * k + 12 ≤ 6155
+  slot-few = omega (arith, slot-room, R .dict-few)
+
+  words : SlotIs (IsIn (R .world) μ) d k (at .0)
+  words =
+      let place : 0 + k ≡ k = omega arith in
+      subst (λ x. SlotIs (IsIn (R .world) μ) d x (at .0)) place (slot-at k (element-sits n (at .1) .0) (R .slots))
+
+  -- The words of the binding stand for what is looked up, and the slot is the name's.
+  pub binding-at : Bound (IsIn (R .world) μ) (lookup n (μ .dictionary)) (getD d (12 * k + 9) 0) (getD d (12 * k + 10) 0) × (slotOf n (μ .dictionary) ≡ k)
+  binding-at =
+      (subst (λ o. Bound (IsIn (R .world) μ) o (getD d (12 * k + 9) 0) (getD d (12 * k + 10) 0)) (sym (lookup-sits n (at .1))) (words .binding), slot-sits n (at .1))
+
+  -- ---- the binding becomes another value
+
+  abbrev old : Valued (IsIn (R .world) μ) (Places.bound (at .0 .binding)) (getD d (12 * k + 9) 0) (getD d (12 * k + 10) 0)
+  old = valued nothing (words .binding)
+
+  held : IsIn (R .world) μ (roots μ (4 * k + 2)) (old .tag) (old .pay)
+  held =
+      subst (λ v. IsIn (R .world) μ v (old .tag) (old .pay))
+      (sym (binding-root μ k ∙ binding-here (μ .dictionary) k (element-sits n (at .1) .0)))
+      (old .is)
+
+  low : 4 * k + 2 < rootCount
+  low = omega (arith, slot-few)
+
+  module _ {v : Value} {t p : ℕ} (new : IsIn (R .world) μ v t p) where
+    pub bind-placed : Placed (m .lists) c (getD d (12 * k + 9) 0) (getD d (12 * k + 10) 0) t p
+    bind-placed = placed-alike (old .alike) (placed R (4 * k + 2) low held new)
+
+    abbrev words-after : List ℕ
+    words-after = set (set d (12 * k + 9) t) (12 * k + 10) p
+
+    after-long : length words-after ≡ length d
+    after-long = length-set (set d (12 * k + 9) t) (12 * k + 10) p ∙ length-set d (12 * k + 9) t
+
+    elsewhere : (j : ℕ) → (j ≡ 12 * k + 9 → ⊥) → (j ≡ 12 * k + 10 → ⊥) → getD words-after j 0 ≡ getD d j 0
+    elsewhere j a b = getD-set-other (set d (12 * k + 9) t) (12 * k + 10) j p 0 b ∙ getD-set-other d (12 * k + 9) j t 0 a
+
+    tag-after : getD words-after (12 * k + 9) 0 ≡ t
+    tag-after =
+        getD-set-other (set d (12 * k + 9) t) (12 * k + 10) (12 * k + 9) p 0 (λ q. omega arith)
+        ∙ getD-set-same d (12 * k + 9) t 0 (omega (arith, slot-room))
+
+    pay-after : getD words-after (12 * k + 10) 0 ≡ p
+    pay-after = getD-set-same (set d (12 * k + 9) t) (12 * k + 10) p 0 (omega (arith, slot-room, length-set d (12 * k + 9) t))
+
+    abbrev slot-after : Slot
+    slot-after = record { key = n; binding = some v }
+
+    slot-is : SlotIs (IsIn (R .world) μ) words-after (0 + k) slot-after
+    slot-is =
+        let place : k ≡ 0 + k = omega arith in
+        let same-key = element-sits n (at .1) .1 in
+        let both : Bound (IsIn (R .world) μ) (some v) (getD words-after (12 * k + 9) 0) (getD words-after (12 * k + 10) 0) = rw (tag-after, pay-after) (bound new) in
+        subst (λ x. SlotIs (IsIn (R .world) μ) words-after x slot-after) place
+        (record {
+          size = elsewhere (12 * k) (λ q. omega arith) (λ q. omega arith) ∙ words .size ∙ ap length same-key;
+          short = subst (λ x. length x ≤ 31) same-key (words .short);
+          spelt = λ j x.
+              ap (λ w. byteOf w (j % 4)) (elsewhere (12 * k + 1 + j / 4) (λ q. omega arith) (λ q. omega arith))
+              ∙ words .spelt j x
+              ∙ ap (λ w. getD w j 0) same-key;
+          binding = both;
+        })
+
+    all-slots : Slots (IsIn (R .world) μ) words-after 0 (set (μ .dictionary) k slot-after)
+    all-slots = slots-set k (element-sits n (at .1) .2) (λ j x. elsewhere j (λ q. omega (arith, x (omega arith))) (λ q. omega (arith, x (omega arith)))) (R .slots) slot-is
+
+    pub bind-rep : {s′ : Lists} {c′ : List ℕ}
+        → Recounts (m .lists) c (getD d (12 * k + 9) 0) (getD d (12 * k + 10) 0) t p s′ c′
+        → Rep (withDepths (m .depth) (m .frames) s′ m) st e words-after c′ l (withDictionary (assign n v (μ .dictionary)) μ)
+    unfolding withExec withStack withDictionary
+    bind-rep {s′} {c′} K =
+        subst (λ x. Rep (withDepths (m .depth) (m .frames) s′ m) st e words-after c′ l (withDictionary x μ)) (sym (assign-sits n v (at .1)))
+        (rerooted-all R (4 * k + 2) low held new (recounts-alike (old .alike) K) (μ .stack) (μ .exec) (set (μ .dictionary) k slot-after)
+        (keys-set n (some v) (at .1))
+        (binding-changed μ (set (μ .dictionary) k slot-after) k v (binding-set (μ .dictionary) k slot-after (element-sits n (at .1) .2)))
+        refl refl after-long (R .stack-room) (R .exec-room) (R .items) (R .frames) all-slots)
+
+-- The value that a bound name's words stand for.
+bound-is : {A : Value → ℕ → ℕ → Type 0} {o : Option Value} {v : Value} {t p : ℕ} → Bound A o t p → o ≡ some v → A v t p
+bound-is {A} {v = v} {t = t} {p = p} (bound {v = u} h) e =
+    let same : u ≡ v = cc in
+    subst (λ x. A x t p) same h
+bound-is unbound e =
+    let z : _≡_ {A = ℕ} 0 1 = cc in
+    absurd (omega arith)
+
+module _ {m : Machine} {st e d c l : List ℕ} {μ : Floo.Machine} (R : Rep m st e d c l μ) (k : ℕ) (n : List ℕ) (key : getElem? (keys μ) k ≡ some n) where
+  pub bound-value : {v : Value} → lookup n (μ .dictionary) ≡ some v → IsIn (R .world) μ v (getD d (12 * k + 9) 0) (getD d (12 * k + 10) 0)
+  bound-value q = bound-is (binding-at R k n key .0) q

@@ -1,0 +1,3 @@
+pub mod Names
+pub mod Packing
+pub mod Bindings

@@ -1,0 +1,204 @@
+// The dictionary: a name's slot is found or added, and bindings go to items, to execution slots and come from items. Each function keeps `Rep`, and
+// does to the machine of the definition what its contract names.
+ghost use mathlib.Core.Path.{_≡_};
+ghost use Prim.Native.Nat.{_+_, _*_, _≤_, _<_};
+ghost use lib.ListN.{length, getD};
+ghost use Rattle.dictionary.specs.Names.{Finds, Adds};
+ghost use Rattle.dictionary.specs.Packing.{Packs, Agrees, Tells, First, Bytes};
+ghost use Rattle.dictionary.specs.Bindings.{BoundItems, BoundFrames, NamedItems, LoadsBinding, PendsBinding, BindsItem};
+use frames::PENDING;
+use machine::Machine;
+use machine::TAG_NULL;
+use machine::TAG_UNBOUND;
+
+// The words of a slot: the name's length, eight words of its bytes, and the binding's two.
+const SLOT: usize = 12;
+
+const SPELLING: usize = 1;
+
+const BINDING: usize = 9;
+
+const PAYLOAD: usize = 10;
+
+// The slot of a name; the number of slots where it has none. The name is packed once, so that a slot takes a comparison of words and none of bytes.
+// Rules out: a name taken for a longer one that starts like it; a slot past the last one.
+pub fn find(m: Machine, dict: &[u32], name: &[u8]) -> usize
+    requires { ⌜ (length (now name) ≤ 31) × (12 * m .names ≤ length (now dict)) × (length (now dict) ≤ 6155) ⌝ }
+    ensures { λ r. ⌜ Finds m (now (dict .entry)) (now (name .entry)) r ⌝ }
+    ensures { λ r. ⌜ r ≤ m .names ⌝ }
+{
+    let mut words = [0u32; 8];
+    pack(name, &mut words, 0);
+    let n = m.names;
+    first(dict, n, name.len() as u32, &words)
+}
+
+// A name that has no slot takes the next one, unbound.
+// Rules out: a slot over that of another name; bytes of an earlier name left after the new one.
+pub fn add(m: Machine, dict: &mut [u32], name: &[u8]) -> Machine
+    requires { ⌜ (length (now name) ≤ 31) × (12 * m .names + 12 ≤ length (now dict)) × (length (now dict) ≤ 6155) ⌝ }
+    ensures { λ r. ⌜ Adds m r (now (dict .entry)) (now (dict .exit)) (now (name .entry)) ⌝ }
+    ensures { λ r. ⌜ (r .names ≡ m .names + 1) × (r .depth ≡ m .depth) ⌝ }
+{
+    let n = m.names;
+    dict[SLOT * n] = name.len() as u32;
+    dict[SLOT * n + BINDING] = TAG_UNBOUND;
+    pack(name, dict, SLOT * n + SPELLING);
+    let mut r = m;
+    r.names = n + 1;
+    r
+}
+
+// Item i gives way to a copy of the slot's binding.
+// Rules out: a copy whose object is not counted; the item let go before the binding is counted.
+pub fn load_binding(
+    m: Machine,
+    stack: &mut [u32],
+    dict: &[u32],
+    cells: &mut [u32],
+    slot: usize,
+    i: usize,
+) -> Machine
+    requires { ⌜ (i < m .depth) × BoundItems slot m (now stack) (now dict) (now cells) ⌝ }
+    ensures { λ r. ⌜ LoadsBinding slot i m r (now (stack .entry)) (now (stack .exit)) (now (dict .entry)) (now (cells .entry)) (now (cells .exit)) ⌝ }
+    ensures { λ r. ⌜ r .depth ≡ m .depth ⌝ }
+{
+    let k = m.depth - 1 - i;
+    let at = SLOT * slot;
+    let tag = dict[at + BINDING];
+    let pay = dict[at + PAYLOAD];
+    let old = stack[2 * k];
+    let was = stack[2 * k + 1];
+    let lists = m.lists;
+    let left = machine::recount(lists, cells, old, was, tag, pay);
+    stack[2 * k] = tag;
+    stack[2 * k + 1] = pay;
+    let mut r = m;
+    r.lists = left;
+    r
+}
+
+// A copy of the slot's binding becomes pending.
+// Rules out: a procedure that is freed while a slot still runs it; the slot below written over.
+pub fn pend_binding(
+    m: Machine,
+    exec: &mut [u32],
+    dict: &[u32],
+    cells: &mut [u32],
+    slot: usize,
+) -> Machine
+    requires { ⌜ (8 * m .frames + 8 ≤ length (now exec)) × BoundFrames slot m (now exec) (now dict) (now cells) ⌝ }
+    ensures { λ r. ⌜ PendsBinding slot m r (now (exec .entry)) (now (exec .exit)) (now (dict .entry)) (now (cells .entry)) (now (cells .exit)) ⌝ }
+    ensures { λ r. ⌜ (r .depth ≡ m .depth) × (r .frames ≡ m .frames + 1) ⌝ }
+{
+    let n = m.frames;
+    let at = SLOT * slot;
+    let tag = dict[at + BINDING];
+    let pay = dict[at + PAYLOAD];
+    let lists = m.lists;
+    let counted = machine::recount(lists, cells, TAG_NULL, 0, tag, pay);
+    exec[8 * n] = PENDING;
+    exec[8 * n + 1] = tag;
+    exec[8 * n + 2] = pay;
+    let mut r = m;
+    r.frames = n + 1;
+    r.lists = counted;
+    r
+}
+
+// The slot's binding becomes a copy of item i.
+// Rules out: the old binding let go before the new one is counted; another slot's binding changed.
+pub fn bind_item(
+    m: Machine,
+    stack: &[u32],
+    dict: &mut [u32],
+    cells: &mut [u32],
+    slot: usize,
+    i: usize,
+) -> Machine
+    requires { ⌜ (i < m .depth) × NamedItems slot m (now stack) (now dict) (now cells) ⌝ }
+    ensures { λ r. ⌜ BindsItem slot i m r (now (stack .entry)) (now (dict .entry)) (now (dict .exit)) (now (cells .entry)) (now (cells .exit)) ⌝ }
+    ensures { λ r. ⌜ r .depth ≡ m .depth ⌝ }
+{
+    let k = m.depth - 1 - i;
+    let tag = stack[2 * k];
+    let pay = stack[2 * k + 1];
+    let at = SLOT * slot;
+    let old = dict[at + BINDING];
+    let was = dict[at + PAYLOAD];
+    let lists = m.lists;
+    let left = machine::recount(lists, cells, old, was, tag, pay);
+    dict[at + BINDING] = tag;
+    dict[at + PAYLOAD] = pay;
+    let mut r = m;
+    r.lists = left;
+    r
+}
+
+// The first of n slots that has this size and these words; n where none has.
+fn first(dict: &[u32], n: usize, size: u32, words: &[u32]) -> usize
+    requires { ⌜ (12 * n ≤ length (now dict)) × (length (now dict) ≤ 6155) × (length (now words) ≡ 8) ⌝ }
+    ensures { λ r. ⌜ First (now (dict .entry)) n size (now (words .entry)) r ⌝ }
+    ensures { λ r. ⌜ r ≤ n ⌝ }
+{
+    let mut k = 0;
+    while k < n {
+        if agrees(dict, SLOT * k, size, words) {
+            return k;
+        }
+        k = k + 1;
+    }
+    k
+}
+
+// Whether the slot at this place has this size and these words. The sizes mostly differ.
+fn agrees(dict: &[u32], at: usize, size: u32, words: &[u32]) -> bool
+    requires { ⌜ (at + 12 ≤ length (now dict)) × (length (now dict) ≤ 6155) × (length (now words) ≡ 8) ⌝ }
+    ensures { λ r. ⌜ Tells (Agrees (now (dict .entry)) at size (now (words .entry))) r ⌝ }
+{
+    if dict[at] != size {
+        return false;
+    }
+    let mut i = 0;
+    while i < 8 {
+        if dict[at + SPELLING + i] != words[i] {
+            return false;
+        }
+        i = i + 1;
+    }
+    true
+}
+
+// The name's bytes go into eight words from `at` on, with zeros after them.
+fn pack(name: &[u8], words: &mut [u32], at: usize)
+    requires { ⌜ (at + 8 ≤ length (now words)) × (length (now words) ≤ 6155) ⌝ }
+    ensures { λ _. ⌜ Packs 8 (now (name .entry)) at (now (words .entry)) (now (words .exit)) ⌝ }
+{
+    let mut i = 0;
+    while i < 8 {
+        words[at + i] = packed(name, 4 * i);
+        i = i + 1;
+    }
+}
+
+// Four bytes in a word, the lowest first.
+fn packed(name: &[u8], start: usize) -> u32
+    requires { ⌜ start ≤ 28 ⌝ }
+    ensures { λ r. ⌜ Bytes (now (name .entry)) start r ⌝ }
+{
+    let a = byte_at(name, start) as u32;
+    let b = byte_at(name, start + 1) as u32;
+    let c = byte_at(name, start + 2) as u32;
+    let d = byte_at(name, start + 3) as u32;
+    a + 256 * b + 65536 * c + 16777216 * d
+}
+
+// Byte k of a name; zero past its end.
+fn byte_at(name: &[u8], k: usize) -> u8
+    ensures { λ r. ⌜ r ≡ getD (now (name .entry)) k 0 ⌝ }
+{
+    if name.len() <= k {
+        return 0;
+    }
+    name[k]
+}
