@@ -1,5 +1,5 @@
 // Primitives on the elements of arrays and the bytes of strings that are items of the stack. Each is lent the stack and the cells alone, and does to
-// the machine that they stand for what its contract names.
+// the machine that they stand for what its contract names. `put_byte_at` takes a string by its header, and shows the world.
 ghost use mathlib.Core.Path.{_≡_};
 ghost use mathlib.Core.List.{List};
 ghost use Prim.Native.Nat.{ℕ, _+_, _*_, _/_, _^_, _≤_, _<_};

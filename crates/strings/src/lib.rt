@@ -1,4 +1,4 @@
-// Loops over the bytes of strings that are items of the stack.
+// Loops over the bytes of strings that are items of the stack. `fill_at` takes a string by its header, and shows the world.
 ghost use Prim.Native.Nat.{_+_, _≤_, _<_};
 ghost use lib.ListN.{length};
 ghost use Rattle.machine.specs.Rep.{MovesHeap};

@@ -15,7 +15,11 @@ same-length : tie.Need-same-length
 same-length c = search needs
 
 returns : tie.Need-returns
-returns c = plain-sets (c .before .before .before .before .before .before .before .before .before .pre .0) (c .before .before .before .before .before .before .put .ensures) (c .before .before .put2 .ensures)
+returns c =
+    let after-put2 = c .before .before in
+    let after-put = after-put2 .before .before .before .before in
+    let start = after-put .before .before .before in
+    plain-sets (start .pre .0) (after-put .put .ensures) (after-put2 .put2 .ensures)
 
 pub set-plain-spec : {M : Type 1} → statement M
 set-plain-spec = tie.close (tie.spec put-requires put-requires-2 same-length returns)

@@ -9,10 +9,14 @@ use Rattle.construction.proofs.set_string.Statement.{statement}
 use Rattle.construction.proofs.set_string.Tie as tie
 
 add-allocate : tie.Need-add-allocate
-add-allocate c = omega (arith, c .before .before .before .pre .0, few-cells (c .before .before .before .pre .2 .1 .4))
+add-allocate c =
+    let start = c .before .before .before in
+    omega (arith, start .pre .0, few-cells (start .pre .2 .1 .4))
 
 add-allocate-2 : tie.Need-add-allocate-2
-add-allocate-2 c = omega (arith, c .before .before .before .pre .0, few-cells (c .before .before .before .pre .2 .1 .4))
+add-allocate-2 c =
+    let start = c .before .before .before in
+    omega (arith, start .pre .0, few-cells (start .pre .2 .1 .4))
 
 allocate-requires : tie.Need-allocate-requires
 allocate-requires c κs = search needs
@@ -28,11 +32,15 @@ same-length c = search needs
 
 returns : tie.Need-returns
 returns c =
-    let made = c .before .before .before .before .before .before .before .before .before .before .before .allocate .ensures in (
-      string-sets (made .2) (c .before .before .before .put2 .ensures) (made .1) (c .before .before .before .before .before .before .before .put .ensures),
+    let after-put2 = c .before .before .before in
+    let after-put = after-put2 .before .before .before .before in
+    let after-allocate = after-put .before .before .before .before in
+    let start = after-allocate .before .before .before .before in
+    let made = after-allocate .allocate .ensures in (
+      string-sets (made .2) (after-put2 .put2 .ensures) (made .1) (after-put .put .ensures),
       (
         record { depth = refl; frames = refl; names = refl; written = refl },
-        cells-left (c .before .before .before .before .before .before .before .before .before .before .before .before .before .before .before .pre .2 .1 .4) (made .1) (made .0) (c .before .before .before .before .before .before .before .put .ensures) (c .before .before .before .put2 .ensures),
+        cells-left (start .pre .2 .1 .4) (made .1) (made .0) (after-put .put .ensures) (after-put2 .put2 .ensures),
       ),
     )
 

@@ -25,13 +25,18 @@ shared-slice-read-h : tie.Need-shared-slice-read-h
 shared-slice-read-h c = search needs
 
 put-byte-at-requires : tie.Need-put-byte-at-requires
-put-byte-at-requires c κs = byte-sought (c .before .before .before .before .before .pre .1 .4) (c .before .before .before .before .before .args .i) _ (c .before .before .before .before .before .args .q) (omega (arith, c .before .before .before .before .before .pre .0)) (c .before .before .before .before .before .pre .1 .5)
+put-byte-at-requires c κs =
+    let start = c .before .before .before .before .before in
+    byte-sought (start .pre .1 .4) (start .args .i) _ (start .args .q) (omega (arith, start .pre .0)) (start .pre .1 .5)
 
 same-length : tie.Need-same-length
 same-length c = search needs
 
 returns : tie.Need-returns
-returns c = byte-moves (c .before .before .before .before .before .before .before .before .pre .1 .4) (c .before .before .before .before .before .before .before .before .args .i) _ (c .before .before .before .before .before .before .before .before .args .q) (omega (arith, c .before .before .before .before .before .before .before .before .pre .0)) (c .before .before .before .before .before .before .before .before .pre .1 .5) (c .before .before .before .before .before .before .before .before .args .b) (c .before .before .put-byte-at .ensures)
+returns c =
+    let after-put-byte-at = c .before .before in
+    let start = after-put-byte-at .before .before .before .before .before .before in
+    byte-moves (start .pre .1 .4) (start .args .i) _ (start .args .q) (omega (arith, start .pre .0)) (start .pre .1 .5) (start .args .b) (after-put-byte-at .put-byte-at .ensures)
 
 pub put-byte-spec : {M : Type 1} → statement M
 put-byte-spec =

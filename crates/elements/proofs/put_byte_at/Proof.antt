@@ -19,13 +19,22 @@ with-byte-requires : tie.Need-with-byte-requires
 with-byte-requires c κs = search needs
 
 put-requires : tie.Need-put-requires
-put-requires c κs = (omega arith, cell-room _ _ _ (c .before .before .before .before .before .before .before .pre) (c .before .before .before .before .seek .ensures))
+put-requires c κs =
+    let after-seek = c .before .before .before .before in
+    let start = after-seek .before .before .before in
+    (omega arith, cell-room _ _ _ (start .pre) (after-seek .seek .ensures))
 
 same-length : tie.Need-same-length
 same-length c = search needs
 
 returns : tie.Need-returns
-returns c = byte-puts (c .before .before .before .before .before .before .before .before .before .before .args .h) (c .before .before .before .before .before .before .before .before .before .before .args .q) _ (c .before .before .before .before .before .before .before .seek .ensures) (c .before .before .before .before .before .before .before .before .before .before .args .b) (search needs) _ _ (c .before .before .before .before .before .get .ensures) (c .before .before .before .with-byte .ensures) (c .before .before .put .ensures)
+returns c =
+    let after-put = c .before .before in
+    let after-with-byte = after-put .before in
+    let after-get = after-with-byte .before .before in
+    let after-seek = after-get .before .before in
+    let start = after-seek .before .before .before in
+    byte-puts (start .args .h) (start .args .q) _ (after-seek .seek .ensures) (start .args .b) (search needs) _ _ (after-get .get .ensures) (after-with-byte .with-byte .ensures) (after-put .put .ensures)
 
 pub put-byte-at-spec : {M : Type 1} → statement M
 put-byte-at-spec =

@@ -25,13 +25,18 @@ shared-slice-read-h : tie.Need-shared-slice-read-h
 shared-slice-read-h c = search needs
 
 fill-at-requires : tie.Need-fill-at-requires
-fill-at-requires c κs = item-room _ (omega (arith, c .before .before .before .before .before .before .pre .0)) (c .before .before .before .before .before .before .pre .1)
+fill-at-requires c κs =
+    let start = c .before .before .before .before .before .before in
+    item-room _ (omega (arith, start .pre .0)) (start .pre .1)
 
 same-length : tie.Need-same-length
 same-length c = search needs
 
 returns : tie.Need-returns
-returns c = item-filled _ (omega (arith, c .before .before .before .before .before .before .before .before .before .pre .0)) (c .before .before .before .before .before .before .before .before .before .pre .1) (c .before .before .fill-at .ensures)
+returns c =
+    let after-fill-at = c .before .before in
+    let start = after-fill-at .before .before .before .before .before .before .before in
+    item-filled _ (omega (arith, start .pre .0)) (start .pre .1) (after-fill-at .fill-at .ensures)
 
 pub fill-spec : {M : Type 1} → statement M
 fill-spec =

@@ -23,16 +23,33 @@ enum-known-b : tie.Need-enum-known-b Inv-loop μ-loop
 enum-known-b c = c .match .keys1
 
 put-byte-at-requires : tie.Need-put-byte-at-requires Inv-loop μ-loop
-put-byte-at-requires c κs = byte-room (c .before .before .before .before .before .loop .inv) (c .before .before .before .before .unescape .ensures) (c .before .before .b .given .1)
+put-byte-at-requires c κs =
+    let after-b = c .before .before in
+    let after-unescape = after-b .before .before in
+    let turn = after-unescape .before in
+    byte-room (turn .loop .inv) (after-unescape .unescape .ensures) (after-b .b .given .1)
 
 add-q : tie.Need-add-q Inv-loop μ-loop
-add-q c = omega (arith, few-bytes (c .before .before .before .before .before .before .before .before .loop .inv), one-left (c .before .before .before .before .before .before .before .before .loop .inv) (c .before .before .before .before .before .before .before .unescape .ensures) (c .before .before .before .before .before .b .given .1))
+add-q c =
+    let after-b = c .before .before .before .before .before in
+    let after-unescape = after-b .before .before in
+    let turn = after-unescape .before in
+    omega (arith, few-bytes (turn .loop .inv), one-left (turn .loop .inv) (after-unescape .unescape .ensures) (after-b .b .given .1))
 
 loop-less : tie.Need-loop-less Inv-loop μ-loop
-loop-less c = nearer (c .before .before .before .before .before .before .before .before .loop .inv) (c .before .before .before .before .before .before .before .unescape .ensures) (c .before .before .before .before .before .b .given .1)
+loop-less c =
+    let after-b = c .before .before .before .before .before in
+    let after-unescape = after-b .before .before in
+    let turn = after-unescape .before in
+    nearer (turn .loop .inv) (after-unescape .unescape .ensures) (after-b .b .given .1)
 
 loop-again : tie.Need-loop-again Inv-loop μ-loop
-loop-again c = again (c .before .before .before .before .before .before .before .before .loop .inv) (c .before .before .before .before .before .before .before .unescape .ensures) (c .before .before .before .before .before .b .given .1) (c .before .before .put-byte-at .ensures) (c .before .before .put-byte-at .kept .0)
+loop-again c =
+    let after-put-byte-at = c .before .before in
+    let after-b = after-put-byte-at .before .before .before in
+    let after-unescape = after-b .before .before in
+    let turn = after-unescape .before in
+    again (turn .loop .inv) (after-unescape .unescape .ensures) (after-b .b .given .1) (after-put-byte-at .put-byte-at .ensures) (after-put-byte-at .put-byte-at .kept .0)
 
 enum-told : tie.Need-enum-told Inv-loop μ-loop
 enum-told c = c .match .keys2
