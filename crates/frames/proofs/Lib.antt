@@ -7,3 +7,4 @@ pub mod Tops
 pub mod Resetting
 pub mod Running
 pub mod Undoing
+pub mod Forgetting

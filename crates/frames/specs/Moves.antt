@@ -2,7 +2,7 @@
 -- Assumes nothing.
 use mathlib.Core.Path.{_≡_}
 use mathlib.Core.List.{List, _∷_}
-use Prim.Native.Nat.{ℕ, suc, _+_, _-_, _*_}
+use Prim.Native.Nat.{ℕ, suc, _+_, _-_, _*_, _<_}
 use lib.ListN.{getD, drop, set}
 use mathlib.Core.Bool.{true}
 use Rattle.semantics.specs.Values.{Value, null, array}
@@ -109,3 +109,10 @@ pub record PushesElement (m r : Machine) (s s′ e c c′ : List ℕ) : Type 0 w
       → (i k : ℕ)
       → topFrame μ ≡ running i k
       → Rep r s′ e d c′ l (elementPushed i k μ)
+
+-- The topmost slot goes, where its words name no object.
+pub record ForgetsFrame (m r : Machine) : Type 0 where
+  pub moves : (s e d c l : List ℕ) (μ : Floo.Machine)
+      → Rep m s e d c l μ
+      → getD e (8 * (m .frames - 1) + 1) 0 < 8
+      → Rep r s e d c l (frameDropped μ)

@@ -3,7 +3,7 @@
 ghost use mathlib.Core.Path.{_≡_};
 ghost use Prim.Native.Nat.{_+_, _*_, _-_, _≤_};
 ghost use lib.ListN.{length, getD};
-ghost use Rattle.frames.specs.Moves.{Enters, Somewhere, MovesFrames, MovesItems, Resets, SomewhereAll, Starts, Advances, PushesElement, frameDropped, returned, bodyPended, resetWords, Turned};
+ghost use Rattle.frames.specs.Moves.{Enters, Somewhere, MovesFrames, MovesItems, Resets, SomewhereAll, Starts, Advances, PushesElement, frameDropped, returned, bodyPended, resetWords, Turned, ForgetsFrame};
 use machine::Machine;
 use machine::TAG_NULL;
 
@@ -79,6 +79,16 @@ pub fn drop_frame(m: Machine, exec: &[u32], cells: &mut [u32]) -> Machine
     r.frames = k;
     r.lists = left;
     r
+}
+
+// The topmost slot, which names no object, goes.
+pub fn forget_frame(mut m: Machine) -> Machine
+    requires { ⌜ 1 ≤ m .frames ⌝ }
+    ensures { λ r. ⌜ ForgetsFrame m r ⌝ }
+    ensures { λ r. ⌜ (r .depth ≡ m .depth) × (r .frames ≡ m .frames - 1) ⌝ }
+{
+    m.frames = m.frames - 1;
+    m
 }
 
 // The topmost slot goes, and its value is pushed.

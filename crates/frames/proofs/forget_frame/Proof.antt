@@ -1,0 +1,16 @@
+-- `frames::forget_frame` meets its contract: a count falls, and no word changes.
+-- Assumes nothing.
+use mathlib.Core.Path.{refl}
+use Rattle.frames.proofs.Forgetting.{forgets}
+use borrow.Author.Needs.{needs}
+use Rattle.frames.proofs.forget_frame.Statement.{statement}
+use Rattle.frames.proofs.forget_frame.Tie as tie
+
+sub-m : tie.Need-sub-m
+sub-m c = search needs
+
+returns : tie.Need-returns
+returns c = (forgets (c .before .pre), (refl, refl))
+
+pub forget-frame-spec : {M : Type 1} → statement M
+forget-frame-spec = tie.close (tie.spec sub-m returns)
