@@ -5,3 +5,4 @@ pub mod Strings
 pub mod Units
 pub mod Making
 pub mod Tags
+pub mod Vacancy

@@ -18,3 +18,4 @@ pub mod Logicals
 pub mod Retagging
 pub mod Outcomes
 pub mod Rehousing
+pub mod Rooted

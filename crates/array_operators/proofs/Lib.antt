@@ -1,0 +1,10 @@
+pub mod Named
+pub mod Objects
+pub mod Lengths
+pub mod Getting
+pub mod Putting
+pub mod Dropping
+pub mod Spreading
+pub mod Storing
+pub mod Marks
+pub mod Wholes
