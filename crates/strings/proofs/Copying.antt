@@ -47,19 +47,19 @@ module _ (to a from b : ℕ) (μ : Floo.Machine) where
       unfolding bytesCopied change withStore object bytesOf
       copied-long id =
           at-set (λ x y. length (bytesOf x) ≡ length (bytesOf y)) (μ .store) (itemId to μ) (text (pasted old a src b k)) made
-          (length-pasted old a src b k ha hb) id refl
+          (length-pasted 0 old a src b k ha hb) id refl
 
       read-after : (q : ℕ) → a + k ≤ q → (id : ℕ) → getD (bytesOf (object (bytesCopied to a from b k μ) id)) q 0 ≡ getD (bytesOf (object μ id)) q 0
       unfolding bytesCopied change withStore object bytesOf
       read-after q h id =
           at-set (λ x y. getD (bytesOf x) q 0 ≡ getD (bytesOf y) q 0) (μ .store) (itemId to μ) (text (pasted old a src b k)) made
-          (pasted-after old a src b k ha hb q h) id refl
+          (pasted-after 0 old a src b k ha hb q h) id refl
 
       read-before : (q : ℕ) → q < a → (id : ℕ) → getD (bytesOf (object (bytesCopied to a from b k μ) id)) q 0 ≡ getD (bytesOf (object μ id)) q 0
       unfolding bytesCopied change withStore object bytesOf
       read-before q h id =
           at-set (λ x y. getD (bytesOf x) q 0 ≡ getD (bytesOf y) q 0) (μ .store) (itemId to μ) (text (pasted old a src b k)) made
-          (pasted-before old a src b k ha hb q h) id refl
+          (pasted-before 0 old a src b k ha hb q h) id refl
 
   copied-up : (k : ℕ)
       → itemId to μ < length (μ .store)
@@ -71,7 +71,7 @@ module _ (to a from b : ℕ) (μ : Floo.Machine) where
   unfolding bytesCopied
   copied-up k made ha hb v e =
       put-copied k made (a + k) v
-      ∙ ap (λ (t : List ℕ). change (itemId to μ) (text t) μ) (ap (λ x. set (pasted old a src b k) (a + k) x) e ∙ pasted-up old a src b k ha hb)
+      ∙ ap (λ (t : List ℕ). change (itemId to μ) (text t) μ) (ap (λ x. set (pasted old a src b k) (a + k) x) e ∙ pasted-up 0 old a src b k ha hb)
 
 copied-down : (to a from b : ℕ) (μ : Floo.Machine) (k : ℕ)
     → itemId to μ < length (μ .store)
@@ -85,7 +85,7 @@ copied-down to a from b μ k made ha hb v e =
     let old = bytesOf (object μ (itemId to μ)) in
     let src = bytesOf (object μ (itemId from μ)) in
     put-copied to (a + 1) from (b + 1) μ k made a v
-    ∙ ap (λ (t : List ℕ). change (itemId to μ) (text t) μ) (ap (λ x. set (pasted old (a + 1) src (b + 1) k) a x) e ∙ pasted-down old a src b k ha hb)
+    ∙ ap (λ (t : List ℕ). change (itemId to μ) (text t) μ) (ap (λ x. set (pasted old (a + 1) src (b + 1) k) a x) e ∙ pasted-down 0 old a src b k ha hb)
 
 -- ---- the loops
 

@@ -87,13 +87,13 @@ module _ (i : ℕ) (μ : Floo.Machine) (p : List ℕ) where
   unfolding bytePut byteSet change withStore itemId
   put-changed made q v = set-changed (itemId i μ) μ p made q v
 
--- ---- bytes pasted into a string
+-- ---- elements pasted into a list, which are d where there are none
 
-pub pasted-none : (old : List ℕ) (a : ℕ) (src : List ℕ) (b : ℕ) → pasted old a src b 0 ≡ old
+pub pasted-none : {A : Type 0} (old : List A) (a : ℕ) (src : List A) (b : ℕ) → pasted old a src b 0 ≡ old
 unfolding pasted
 pasted-none old a src b = sym (paste-zero old a (drop b src))
 
-module _ (old : List ℕ) (a : ℕ) (src : List ℕ) (b k : ℕ) where
+module _ {A : Type 0} (d : A) (old : List A) (a : ℕ) (src : List A) (b k : ℕ) where
   left : b + k ≤ length src → k ≤ length (drop b src)
   left h = rw (length-drop b src) (omega (arith, h))
 
@@ -105,57 +105,57 @@ module _ (old : List ℕ) (a : ℕ) (src : List ℕ) (b k : ℕ) where
     front : length (take a old ++ take k (drop b src)) ≡ a + k
     front = length-paste-head old a (drop b src) k (omega (arith, ha)) (left hb)
 
-    pub pasted-before : (q : ℕ) → q < a → getD (pasted old a src b k) q 0 ≡ getD old q 0
+    pub pasted-before : (q : ℕ) → q < a → getD (pasted old a src b k) q d ≡ getD old q d
     unfolding pasted
     pasted-before q h =
         let len = length-take-le a old (omega (arith, ha)) in
-        List·getD-append (take a old ++ take k (drop b src)) (drop (a + k) old) 0 q (omega (arith, front, h))
-        ∙ List·getD-append (take a old) (take k (drop b src)) 0 q (omega (arith, len, h))
-        ∙ getD-take a old q 0 h
+        List·getD-append (take a old ++ take k (drop b src)) (drop (a + k) old) d q (omega (arith, front, h))
+        ∙ List·getD-append (take a old) (take k (drop b src)) d q (omega (arith, len, h))
+        ∙ getD-take a old q d h
 
-    pub pasted-after : (q : ℕ) → a + k ≤ q → getD (pasted old a src b k) q 0 ≡ getD old q 0
+    pub pasted-after : (q : ℕ) → a + k ≤ q → getD (pasted old a src b k) q d ≡ getD old q d
     unfolding pasted
     pasted-after q h =
         let p = take a old ++ take k (drop b src) in
         let place : q ≡ length p + (q - (a + k)) = omega (arith, front, h) in
         let back : a + k + (q - (a + k)) ≡ q = omega (arith, h) in
-        ap (λ j. getD (p ++ drop (a + k) old) j 0) place
-        ∙ getD-append-add p (drop (a + k) old) (q - (a + k)) 0
-        ∙ getD-drop (a + k) old (q - (a + k)) 0
-        ∙ ap (λ j. getD old j 0) back
+        ap (λ j. getD (p ++ drop (a + k) old) j d) place
+        ∙ getD-append-add p (drop (a + k) old) (q - (a + k)) d
+        ∙ getD-drop (a + k) old (q - (a + k)) d
+        ∙ ap (λ j. getD old j d) back
 
   -- One byte more at the end.
-  pub pasted-up : a + k < length old → b + k < length src → set (pasted old a src b k) (a + k) (getD src (b + k) 0) ≡ pasted old a src b (k + 1)
+  pub pasted-up : a + k < length old → b + k < length src → set (pasted old a src b k) (a + k) (getD src (b + k) d) ≡ pasted old a src b (k + 1)
   unfolding pasted
   pasted-up ha hb =
       let next : suc k ≡ k + 1 = omega arith in
       let long : k < length (drop b src) = rw (length-drop b src) (omega (arith, hb)) in
-      ap (λ v. set (pasted old a src b k) (a + k) v) (sym (getD-drop b src k 0))
-      ∙ paste-suc old a (drop b src) k 0 ha long
+      ap (λ v. set (pasted old a src b k) (a + k) v) (sym (getD-drop b src k d))
+      ∙ paste-suc old a (drop b src) k d ha long
       ∙ ap (λ j. pasted old a src b j) next
 
   -- One byte more before the others.
-  pub pasted-down : a < length old → b < length src → set (pasted old (a + 1) src (b + 1) k) a (getD src b 0) ≡ pasted old a src b (k + 1)
+  pub pasted-down : a < length old → b < length src → set (pasted old (a + 1) src (b + 1) k) a (getD src b d) ≡ pasted old a src b (k + 1)
   unfolding pasted
   pasted-down ha hb =
-      let v = getD src b 0 in
+      let v = getD src b d in
       let mid = take k (drop (suc b) src) in
       let end = drop (a + (k + 1)) old in
       let after-a : a + 1 ≡ suc a = omega arith in
       let after-b : b + 1 ≡ suc b = omega arith in
       let far : a + 1 + k ≡ a + (k + 1) = omega arith in
       let more : k + 1 ≡ suc k = omega arith in
-      let opened : pasted old (a + 1) src (b + 1) k ≡ take a old ++ (getD old a 0 ∷ (mid ++ end)) =
+      let opened : pasted old (a + 1) src (b + 1) k ≡ take a old ++ (getD old a d ∷ (mid ++ end)) =
       ap (λ (j : ℕ). take j old ++ take k (drop (b + 1) src) ++ drop (a + 1 + k) old) after-a
       ∙ ap (λ (j : ℕ). take (suc a) old ++ take k (drop j src) ++ drop (a + 1 + k) old) after-b
       ∙ ap (λ (j : ℕ). take (suc a) old ++ mid ++ drop j old) far
-      ∙ ap (λ (t : List ℕ). t ++ mid ++ end) (take-suc old a 0 ha)
-      ∙ append-assoc (take a old ++ (getD old a 0 ∷ [])) mid end
-      ∙ append-assoc (take a old) (getD old a 0 ∷ []) (mid ++ end) in
+      ∙ ap (λ (t : List A). t ++ mid ++ end) (take-suc old a d ha)
+      ∙ append-assoc (take a old ++ (getD old a d ∷ [])) mid end
+      ∙ append-assoc (take a old) (getD old a d ∷ []) (mid ++ end) in
       let closed : take a old ++ take (k + 1) (drop b src) ++ end ≡ take a old ++ (v ∷ (mid ++ end)) =
-      ap (λ (t : List ℕ). take a old ++ take (k + 1) t ++ end) (drop-cons src b 0 hb)
+      ap (λ (t : List A). take a old ++ take (k + 1) t ++ end) (drop-cons src b d hb)
       ∙ ap (λ (j : ℕ). take a old ++ take j (v ∷ drop (suc b) src) ++ end) more
       ∙ append-assoc (take a old) (v ∷ mid) end in
-      ap (λ (t : List ℕ). set t a v) opened
-      ∙ set-at (take a old) (getD old a 0) (mid ++ end) v a (length-take-le a old (omega (arith, ha)))
+      ap (λ (t : List A). set t a v) opened
+      ∙ set-at (take a old) (getD old a d) (mid ++ end) v a (length-take-le a old (omega (arith, ha)))
       ∙ sym closed

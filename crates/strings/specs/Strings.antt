@@ -62,8 +62,8 @@ pub record CurrentSize (i : ℕ) (m : Machine) (s c : List ℕ) (r : ℕ) : Type
 
 -- ---- what is done
 
--- A string's bytes, n of them from byte `at` on replaced by as many of another's, from byte start on.
-unfoldable pub pasted : List ℕ → ℕ → List ℕ → ℕ → ℕ → List ℕ
+-- A list, n of its elements from place `at` on replaced by as many of another's, from place start on.
+unfoldable pub pasted : {A : Type 0} → List A → ℕ → List A → ℕ → ℕ → List A
 pasted old at source start n = take at old ++ take n (drop start source) ++ drop (at + n) old
 
 -- Bytes of item `from` are copied to item `to`, all read before any is written.
