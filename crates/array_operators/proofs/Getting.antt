@@ -17,26 +17,23 @@ use Rattle.semantics.specs.Operators.{perform}
 use Rattle.semantics.specs.ObjectOperators.{lengthOf, got}
 use Rattle.semantics.specs.declared.Error.{Error}
 use Rattle.semantics.specs.declared.Error.the-variants.{StackUnderflow, TypeCheck, RangeCheck}
+use Rattle.word.proofs.Counts.{count-low, count-high}
 use Rattle.machine.specs.Rep.{Rep, MovesHeap}
 use Rattle.machine.specs.Room.{DoesHeap}
 use Rattle.machine.specs.Moves.{dropped}
-use Rattle.machine.specs.Operands.{Scalar, an-integer, Pushes}
+use Rattle.machine.specs.Operands.{an-integer, Pushes}
 use Rattle.machine.specs.declared.Machine.{Machine}
 use Rattle.machine.specs.declared.Did.the-variants.{Ok, Fail}
 use Rattle.machine.specs.declared.OneInt.{OneInt}
 use Rattle.machine.specs.declared.OneInt.the-variants as One
 use Rattle.machine.proofs.Outcomes.{stack-depth, fails-heap, moves-heap, then-heap}
+use Rattle.machine.proofs.Pops.{pushes-heap}
 use Rattle.elements.specs.Elements.{HasArray, HasString, ItemTag, ArraySize, StringSize, ByteOf, elementCopied}
 use Rattle.elements.proofs.Arrays.{item-id}
 use Rattle.elements.proofs.Tags.{tag-no-object}
 use Rattle.array_operators.specs.Items.{IntIs, ItemInt, IntegerItem, ArrayItem, StringItem, ItemLength, popped}
 use Rattle.array_operators.proofs.Named.{getting, length-under, length-on, get-under, get-on}
 use Rattle.array_operators.proofs.Objects.{tag-object, array-of, string-of, whole-array, whole-string}
-use Rattle.array_operators.proofs.Lengths.{count-low, count-high}
-
--- What is pushed needs no heap.
-pub pushes-heap : {v : Value} {t p : ℕ} {m r : Machine} {s s′ c : List ℕ} → Scalar v t p → Pushes t p m r s s′ → MovesHeap (push v) m r s s′ c c
-pushes-heap {c = c} S P = record { moves = λ e d l μ R. P .does S e d c l μ R }
 
 -- ---- length
 

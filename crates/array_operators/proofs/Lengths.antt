@@ -8,7 +8,6 @@ use borrow.Author.Tests.{le-leb, lt-leb}
 use lib.ListN.{length, set, replicate, length-replicate}
 use lib.Dec.{leb}
 use lib.IntN.{ℤ}
-use Rattle.semantics.specs.Words.{signed}
 use Rattle.semantics.specs.Values.{Value, integer, null, Object, elements, text, Result, ok, fault, _>>=_, check, int, count, cells}
 use Rattle.semantics.specs.Machine as Floo
 use Rattle.semantics.specs.Machine.{withStack, withStore, push, pop1, make, made}
@@ -16,7 +15,7 @@ use Rattle.semantics.specs.Held.{sumOf}
 use Rattle.semantics.specs.ObjectOperators.{newLength, pushNew}
 use Rattle.semantics.specs.declared.Error.{Error}
 use Rattle.semantics.specs.declared.Error.the-variants.{RangeCheck, LimitCheck, VmError}
-use Rattle.word.proofs.Words.{signed-low, signed-high}
+use Rattle.word.proofs.Counts.{count-low, count-high}
 use Rattle.machine.specs.Rep.{Rep, Somewhere, MovesHeap}
 use Rattle.machine.specs.Room.{DoesHeap}
 use Rattle.machine.specs.Operands.{OneIs, FetchesOne, oneInt}
@@ -31,14 +30,6 @@ use Rattle.elements.proofs.Vacancy.{makes-heap, full-heap, push-makes}
 use Rattle.array_operators.specs.Items.{onLength, LengthIs, FetchesLength, longest}
 
 -- ---- the length
-
-pub count-low : (w : ℕ) → w < 2 ^ 31 → count (signed w) ≡ ok w
-unfolding count
-count-low w l = rw (signed-low w l) refl
-
-pub count-high : (w : ℕ) → 2 ^ 31 ≤ w → w < 2 ^ 32 → count (signed w) ≡ fault RangeCheck
-unfolding count
-count-high w l h = rw (signed-high w l h) refl
 
 abbrev counted : ℤ → Result ℕ
 counted z = count z >>= λ n. check (leb n 32767) LimitCheck >>= λ u. ok n

@@ -16,6 +16,7 @@ use Rattle.semantics.specs.ObjectOperators.{pushNew, lengthOf, got, putInto, si
 use Rattle.semantics.specs.declared.Error.the-variants.{StackUnderflow}
 use Rattle.machine.proofs.Operands.{pop1-some, pop2-some}
 use Rattle.machine.proofs.Outcomes.{pop1-under, pop2-under}
+use Rattle.machine.proofs.Pops.{pop3-under, pop3-some}
 use Rattle.array_operators.specs.Items.{onLength, popped}
 
 -- ---- the first items
@@ -56,23 +57,9 @@ module _ (μ : Machine) where
   unfolding popped
   popped2 h = pop2-some μ (front2 (μ .stack) h)
 
-  pop3-some : {x y z : Value} {s : List Value} → μ .stack ≡ z ∷ y ∷ x ∷ s → pop3 μ ≡ ok (x, y, z, withStack s μ)
-  unfolding pop3 withStack
-  pop3-some e = rw (e, pop3)
-
   popped3 : 3 ≤ length (μ .stack) → pop3 μ ≡ ok (getD (μ .stack) 2 null, getD (μ .stack) 1 null, getD (μ .stack) 0 null, popped 3 μ)
   unfolding popped
-  popped3 h = pop3-some (front3 (μ .stack) h)
-
-  pop3-under : length (μ .stack) < 3 → pop3 μ ≡ fault StackUnderflow
-  unfolding pop3
-  pop3-under = by (μ .stack) refl
-    where
-      by : (s : List Value) → μ .stack ≡ s → length s < 3 → pop3 μ ≡ fault StackUnderflow
-      by [] e l = rw (e, pop3)
-      by (a ∷ []) e l = rw (e, pop3)
-      by (a ∷ b ∷ []) e l = rw (e, pop3)
-      by (a ∷ b ∷ c ∷ s) e l = absurd (omega arith)
+  popped3 h = pop3-some μ (front3 (μ .stack) h)
 
 -- ---- array and string
 

@@ -20,6 +20,7 @@ use Rattle.semantics.specs.ObjectOperators.{putInto}
 use Rattle.semantics.specs.declared.Error.{Error}
 use Rattle.semantics.specs.declared.Error.the-variants.{StackUnderflow, TypeCheck, RangeCheck}
 use Rattle.heap.proofs.Since.{lt-or-le}
+use Rattle.word.proofs.Counts.{count-low, count-high}
 use Rattle.machine.specs.Rep.{Rep, MovesHeap}
 use Rattle.machine.specs.Room.{DoesHeap}
 use Rattle.machine.specs.declared.Machine.{Machine}
@@ -34,7 +35,6 @@ use Rattle.elements.proofs.Tags.{tag-no-object}
 use Rattle.array_operators.specs.Items.{IntIs, ItemInt, IntegerItem, ArrayItem, StringItem, popped}
 use Rattle.array_operators.proofs.Named.{putting, put-under, put-on}
 use Rattle.array_operators.proofs.Objects.{tag-object, array-of, string-of, whole-array, whole-string}
-use Rattle.array_operators.proofs.Lengths.{count-low, count-high}
 
 -- ---- what the definition does
 
@@ -266,19 +266,28 @@ byte-reach n most b z =
 
 -- ---- past the end nothing changes
 
-pub put-outside : {i q : ℕ} {m : Machine} {s c : List ℕ} {k : ℕ} (b : ℕ) → i < m .depth → SomewhereThat (HasString i) m s c → StringSize i m s c k → k ≤ q → MovesHeap (bytePut i q b) m m s s c c
+put-same : (i q b : ℕ) (μ : Floo.Machine) (a : HasString i μ)
+    → object μ (a .id) ≡ text (bytesOf (object μ (a .id)))
+    → length (bytesOf (object μ (a .id))) ≤ q
+    → bytePut i q b μ ≡ μ
 unfolding bytePut change withStore object
+put-same i q b μ a whole h =
+    ap (λ j. change j (text (set (bytesOf (object μ j)) q b)) μ) (string-id a)
+    ∙ ap (λ (z : List ℕ). withStore (set (μ .store) (a .id) (text z)) μ) (set-out (bytesOf (object μ (a .id))) q b h)
+    ∙ ap (λ (o : Object). withStore (set (μ .store) (a .id) o) μ) (sym whole)
+    ∙ ap (λ (z : List Object). withStore z μ) (set-getD (μ .store) (a .id) (elements []))
+
+pub put-outside : {i q : ℕ} {m : Machine} {s c : List ℕ} {k : ℕ} (b : ℕ)
+    → i < m .depth
+    → SomewhereThat (HasString i) m s c
+    → StringSize i m s c k
+    → k ≤ q
+    → MovesHeap (bytePut i q b) m m s s c c
 put-outside {i} {q} {m} {s} {c} b deep W Z h =
     record {
       moves = λ e d l μ R.
-          let k = m .depth - suc i in
-          let place : m .depth ≡ k + suc i = omega (arith, deep) in
-          let a = string-too (W .4) i k place R (W .5) in
-          let bs = bytesOf (object μ (a .id)) in
-          let same : bytePut i q b μ ≡ μ =
-          ap (λ j. change j (text (set (bytesOf (object μ j)) q b)) μ) (string-id a)
-          ∙ ap (λ (z : List ℕ). withStore (set (μ .store) (a .id) (text z)) μ) (set-out bs q b (omega (arith, h, Z .says e d l μ R (a .id) (a .item))))
-          ∙ ap (λ (o : Object). withStore (set (μ .store) (a .id) o) μ) (sym (whole-string R deep a))
-          ∙ ap (λ (z : List Object). withStore z μ) (set-getD (μ .store) (a .id) (elements [])) in
-          subst (Rep m s e d c l) (sym same) R;
+          let place : m .depth ≡ m .depth - suc i + suc i = omega (arith, deep) in
+          let a = string-too (W .4) i (m .depth - suc i) place R (W .5) in
+          let past : length (bytesOf (object μ (a .id))) ≤ q = omega (arith, h, Z .says e d l μ R (a .id) (a .item)) in
+          subst (Rep m s e d c l) (sym (put-same i q b μ a (whole-string R deep a) past)) R;
     }

@@ -14,11 +14,11 @@ use Rattle.machine.specs.Moves.{swapped}
 use Rattle.machine.specs.Operands.{a-null, Pushes}
 use Rattle.machine.specs.declared.Machine.{Machine}
 use Rattle.machine.proofs.Outcomes.{stack-depth, then-heap, stack-heap}
+use Rattle.machine.proofs.Pops.{pushes-heap}
 use Rattle.elements.specs.Elements.{itemId, HasArray, HasElement, SomewhereThat, elementCopied}
 use Rattle.elements.proofs.Arrays.{item-id, array-too, size-read}
 use Rattle.array_operators.specs.Items.{HasFirst, spreadOut}
 use Rattle.array_operators.proofs.Named.{front1}
-use Rattle.array_operators.proofs.Getting.{pushes-heap}
 
 -- ---- the same array in each machine
 

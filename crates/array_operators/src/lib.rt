@@ -104,7 +104,7 @@ pub fn get(m: Machine, stack: &mut [u32], cells: &mut [u32]) -> Did
     }
 }
 
-// Ruled out: a byte over 255 that is cut, and typecheck for what is put where the index is no integer and it is put into an array.
+// Ruled out: a byte over 255 that is cut, and rangecheck for the index of a string where what is put is no integer.
 pub fn put(m: Machine, stack: &mut [u32], cells: &mut [u32]) -> Did
     requires { ⌜ Somewhere m (now stack) (now cells) ⌝ }
     ensures { λ r. ⌜ DoesHeap (perform (bytes "put")) m (now (stack .entry)) (now (stack .exit)) (now (cells .entry)) (now (cells .exit)) r ⌝ }

@@ -19,3 +19,4 @@ pub mod Retagging
 pub mod Outcomes
 pub mod Rehousing
 pub mod Rooted
+pub mod Pops

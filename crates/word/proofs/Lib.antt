@@ -2,3 +2,4 @@
 pub mod Words
 pub mod Signed
 pub mod Division
+pub mod Counts
