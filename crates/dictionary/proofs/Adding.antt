@@ -28,7 +28,7 @@ use Rattle.machine.proofs.Carrying.{Reached, items-map, slots-map, frames-map}
 use Rattle.dictionary.specs.Names.{slotOf, Kept, Adds}
 use Rattle.dictionary.specs.Packing.{Packs}
 use Rattle.dictionary.proofs.Slots.{slots-frame, slots-more}
-use Rattle.dictionary.proofs.Dictionaries.{keysOf, Absent, absent, slotted-absent, no-key, some-one}
+use Rattle.dictionary.proofs.Dictionaries.{keysOf, Absent, absent, slotted-absent, no-key, some-one, none-some}
 
 -- ---- words past the names
 
@@ -88,9 +88,7 @@ take-more (suc k) (x ∷ a) b l = ap (λ t. x ∷ t) (take-more k a b (omega ari
 -- An element of a list with one more is one of the list, or the last.
 last-or : {A : Type 0} (l : List A) (x : A) (i : ℕ) (a : A) → getElem? (l ++ (x ∷ [])) i ≡ some a → (getElem? l i ≡ some a) ⊎ ((i ≡ length l) × (a ≡ x))
 last-or [] x zero a e = inr (refl, sym (some-one e))
-last-or [] x (suc i) a e =
-    let z : _≡_ {A = ℕ} 0 1 = cc in
-    absurd (omega arith)
+last-or [] x (suc i) a e = absurd (none-some e)
 last-or (y ∷ l) x zero a e = inl e
 last-or (y ∷ l) x (suc i) a e =
     ⊎-elim

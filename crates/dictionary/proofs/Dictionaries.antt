@@ -73,7 +73,7 @@ pub data Absent (n : List ℕ) : List Slot → Type 0 where
 pub some-one : {A : Type 0} {a b : A} → some a ≡ some b → a ≡ b
 some-one e = cc
 
-none-some : {A : Type 0} {a : A} → none ≡ some a → ⊥
+pub none-some : {A : Type 0} {a : A} → none ≡ some a → ⊥
 none-some e =
     let z : _≡_ {A = ℕ} 0 1 = cc in
     absurd (omega arith)

@@ -1,6 +1,6 @@
 pub mod Spelling
-pub mod Slots
 pub mod Dictionaries
+pub mod Slots
 pub mod Finding
 pub mod Adding
 pub mod Rebinding

@@ -2,6 +2,7 @@
 -- copy of an item. What names nothing is one to `recount`, an unbound name as null.
 -- Assumes nothing.
 use mathlib.Core.Path.{_≡_, refl, sym, ap, _∙_, subst}
+use mathlib.Core.Bool.{false}
 use mathlib.Core.List.{List, [], _∷_}
 use mathlib.Core.Logic.{⊎-elim}
 use mathlib.Core.Option.{Option, some}
@@ -9,10 +10,10 @@ use Prim.Native.Nat.{ℕ, zero, suc, _+_, _*_, _/_, _%_, _≤_, _<_}
 use native.Mathlib.Omega.{arith}
 use lib.ListN.{length, getD, set, getElem?, length-set}
 use lib.Seq.{getD-set-same, getD-set-other}
-use Rattle.semantics.specs.Values.{Value, null}
+use Rattle.semantics.specs.Values.{Value, null, name}
 use Rattle.semantics.specs.Machine as Floo
 use Rattle.semantics.specs.Machine.{Slot, withStack, withExec, withDictionary, lookup, assign}
-use Rattle.store.specs.Rep.{byteOf}
+use Rattle.store.specs.Rep.{byteOf, a-literal}
 use Rattle.heap.specs.Shape.{target}
 use Rattle.heap.specs.Upd.{upd}
 use Rattle.heap.specs.declared.Lists.{Lists}
@@ -20,7 +21,7 @@ use Rattle.heap.proofs.Parts as parts
 use Rattle.heap.proofs.Upds.{same?, upd-at, upd-other}
 use Rattle.machine.specs.Places as Places
 use Rattle.machine.specs.Places.{bindingAt, rootIn, roots, rootCount, keys}
-use Rattle.machine.specs.Rep.{Rep, IsIn, Bound, unbound, bound, SlotIs, Slots}
+use Rattle.machine.specs.Rep.{Rep, World, IsIn, Bound, unbound, bound, SlotIs, Slots}
 use Rattle.machine.specs.Recount.{Placed, Recounts}
 use Rattle.machine.specs.declared.Machine.{Machine}
 use Rattle.machine.proofs.Dropping.{nothing}
@@ -28,7 +29,7 @@ use Rattle.machine.proofs.Rerooting.{withDepths, placed, rerooted-all}
 use Rattle.machine.proofs.Roots.{binding-root}
 use Rattle.dictionary.specs.Names.{slotOf}
 use Rattle.dictionary.proofs.Slots.{slot-at, slots-set}
-use Rattle.dictionary.proofs.Dictionaries.{Sits, sits, slot-sits, lookup-sits, assign-sits, element-sits, keys-set}
+use Rattle.dictionary.proofs.Dictionaries.{none-some, Sits, sits, slot-sits, lookup-sits, assign-sits, element-sits, keys-set}
 
 -- ---- one binding changes
 
@@ -70,9 +71,7 @@ binding-changed μ d k v h r = by (r % 4) refl
 
 binding-here : (d : List Slot) (k : ℕ) {s : Slot} → getElem? d k ≡ some s → bindingAt d k ≡ Places.bound (s .binding)
 unfolding bindingAt
-binding-here [] k e =
-    let z : _≡_ {A = ℕ} 0 1 = cc in
-    absurd (omega arith)
+binding-here [] k e = absurd (none-some e)
 binding-here (t ∷ d) zero e = cc
 binding-here (t ∷ d) (suc k) e = binding-here d k e
 
@@ -198,10 +197,12 @@ bound-is : {A : Value → ℕ → ℕ → Type 0} {o : Option Value} {v : Value}
 bound-is {A} {v = v} {t = t} {p = p} (bound {v = u} h) e =
     let same : u ≡ v = cc in
     subst (λ x. A x t p) same h
-bound-is unbound e =
-    let z : _≡_ {A = ℕ} 0 1 = cc in
-    absurd (omega arith)
+bound-is unbound e = absurd (none-some e)
 
 module _ {m : Machine} {st e d c l : List ℕ} {μ : Floo.Machine} (R : Rep m st e d c l μ) (k : ℕ) (n : List ℕ) (key : getElem? (keys μ) k ≡ some n) where
   pub bound-value : {v : Value} → lookup n (μ .dictionary) ≡ some v → IsIn (R .world) μ v (getD d (12 * k + 9) 0) (getD d (12 * k + 10) 0)
   bound-value q = bound-is (binding-at R k n key .0) q
+
+-- The words of a literal name.
+pub name-words : (w : World) (μ : Floo.Machine) (k : ℕ) {n : List ℕ} → getElem? (keys μ) k ≡ some n → IsIn w μ (name false n) 5 k
+name-words w μ k key = record { stands = a-literal key; alive = λ l. absurd (omega arith) }

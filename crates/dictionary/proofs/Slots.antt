@@ -1,7 +1,7 @@
 -- The words of dictionary slots: what stores past them leave, the words of one of them, one slot more, and a binding that changes.
 -- Assumes nothing.
-use mathlib.Core.Path.{_≡_, refl, ap, _∙_, subst}
-use mathlib.Core.List.{List, [], _∷_, _++_, map}
+use mathlib.Core.Path.{_≡_, ap, _∙_, subst}
+use mathlib.Core.List.{List, [], _∷_, _++_}
 use mathlib.Core.Option.{some}
 use Prim.Native.Nat.{ℕ, zero, suc, _+_, _*_, _/_, _%_, _≤_, _<_}
 use native.Mathlib.Omega.{arith}
@@ -10,25 +10,7 @@ use Rattle.semantics.specs.Values.{Value}
 use Rattle.semantics.specs.Machine.{Slot}
 use Rattle.store.specs.Rep.{byteOf}
 use Rattle.machine.specs.Rep.{Bound, SlotIs, Slots, end, slot}
-
--- Slot i, and that it is there.
-pub record At (d : List Slot) (i : ℕ) (n : List ℕ) : Type 0 where
-  pub slot : Slot
-  pub there : getElem? d i ≡ some slot
-  pub key : slot .key ≡ n
-  pub inside : i < length d
-
-some-one : {A : Type 0} {a b : A} → some a ≡ some b → a ≡ b
-some-one e = cc
-
-pub at-key : (d : List Slot) (i : ℕ) (n : List ℕ) → getElem? (map (λ (s : Slot). s .key) d) i ≡ some n → At d i n
-at-key [] i n e =
-    let z : _≡_ {A = ℕ} 0 1 = cc in
-    absurd (omega arith)
-at-key (s ∷ d) zero n e = record { slot = s; there = refl; key = some-one e; inside = omega arith }
-at-key (s ∷ d) (suc i) n e =
-    let r = at-key d i n e in
-    record { slot = r .slot; there = r .there; key = r .key; inside = omega (arith, r .inside) }
+use Rattle.dictionary.proofs.Dictionaries.{some-one, none-some}
 
 module _ {Is : Value → ℕ → ℕ → Type 0} where
   -- The words of a slot where they are the same.
@@ -56,9 +38,7 @@ module _ {Is : Value → ℕ → ℕ → Type 0} where
   slots-frame f (slot S r) = slot (slot-same (λ j a b. f j (omega arith)) S) (slots-frame (λ j l. f j (omega arith)) r)
 
   pub slot-at : {words : List ℕ} {k : ℕ} {d : List Slot} (i : ℕ) {s : Slot} → getElem? d i ≡ some s → Slots Is words k d → SlotIs Is words (k + i) s
-  slot-at i e end =
-      let z : _≡_ {A = ℕ} 0 1 = cc in
-      absurd (omega arith)
+  slot-at i e end = absurd (none-some e)
   slot-at {words} {k} zero {s} e (slot {s = t} S r) =
       let place : k ≡ k + 0 = omega arith in
       subst (λ x. SlotIs Is words x s) place (subst (SlotIs Is words k) (some-one e) S)

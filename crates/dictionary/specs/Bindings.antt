@@ -1,11 +1,12 @@
 -- What the primitives on bindings do to a machine of the definition. Items are counted from the top, from 0.
 -- Assumes nothing.
 use mathlib.Core.Path.{_≡_}
+use mathlib.Core.Bool.{false}
 use mathlib.Core.List.{List}
 use mathlib.Core.Option.{some}
 use Prim.Native.Nat.{ℕ}
 use lib.ListN.{getD, set, getElem?}
-use Rattle.semantics.specs.Values.{Value, null}
+use Rattle.semantics.specs.Values.{Value, null, name}
 use Rattle.semantics.specs.Machine as Floo
 use Rattle.semantics.specs.Machine.{pending, withStack, withDictionary, enter, lookup, assign}
 use Rattle.machine.specs.Places.{keys}
@@ -56,3 +57,16 @@ pub record BindsItem (k i : ℕ) (m r : Machine) (s d d′ c c′ : List ℕ) : 
       → (n : List ℕ)
       → getElem? (keys μ) k ≡ some n
       → Rep r s e d′ c′ l (withDictionary (assign n (getD (μ .stack) i null) (μ .dictionary)) μ)
+
+-- The words of stack and cells stand for some machine in which a name has the slot k.
+abbrev pub NamedStack : ℕ → Machine → List ℕ → List ℕ → Type 0
+NamedStack k m s c =
+    (e : List ℕ) × (d : List ℕ) × (l : List ℕ) × (μ : Floo.Machine) × (n : List ℕ) × (getElem? (keys μ) k ≡ some n) × Rep m s e d c l μ
+
+-- Item i gives way to the literal name that has the slot k.
+pub record PutsName (k i : ℕ) (m r : Machine) (s s′ c c′ : List ℕ) : Type 0 where
+  pub moves : (e d l : List ℕ) (μ : Floo.Machine)
+      → Rep m s e d c l μ
+      → (n : List ℕ)
+      → getElem? (keys μ) k ≡ some n
+      → Rep r s′ e d c′ l (withStack (set (μ .stack) i (name false n)) μ)

@@ -5,9 +5,10 @@ ghost use Prim.Native.Nat.{_+_, _*_, _≤_, _<_};
 ghost use lib.ListN.{length, getD};
 ghost use Rattle.dictionary.specs.Names.{Finds, Adds};
 ghost use Rattle.dictionary.specs.Packing.{Packs, Agrees, Tells, First, Bytes};
-ghost use Rattle.dictionary.specs.Bindings.{BoundItems, BoundFrames, NamedItems, LoadsBinding, PendsBinding, BindsItem};
+ghost use Rattle.dictionary.specs.Bindings.{BoundItems, BoundFrames, NamedItems, LoadsBinding, PendsBinding, BindsItem, NamedStack, PutsName};
 use frames::PENDING;
 use machine::Machine;
+use machine::TAG_LITERAL;
 use machine::TAG_NULL;
 use machine::TAG_UNBOUND;
 
@@ -133,6 +134,41 @@ pub fn bind_item(
     let mut r = m;
     r.lists = left;
     r
+}
+
+// Item i gives way to the literal name that has this slot.
+// Rules out: the item's object left counted; an executable name.
+pub fn put_name(m: Machine, stack: &mut [u32], cells: &mut [u32], slot: u32, i: usize) -> Machine
+    requires { ⌜ (i < m .depth) × NamedStack slot m (now stack) (now cells) ⌝ }
+    ensures { λ r. ⌜ PutsName slot i m r (now (stack .entry)) (now (stack .exit)) (now (cells .entry)) (now (cells .exit)) ⌝ }
+    ensures { λ r. ⌜ r .depth ≡ m .depth ⌝ }
+{
+    let k = m.depth - 1 - i;
+    let old = stack[2 * k];
+    let was = stack[2 * k + 1];
+    let lists = m.lists;
+    let left = machine::recount(lists, cells, old, was, TAG_LITERAL, slot);
+    stack[2 * k] = TAG_LITERAL;
+    stack[2 * k + 1] = slot;
+    let mut r = m;
+    r.lists = left;
+    r
+}
+
+// The tag of the slot's binding.
+pub fn binding_tag(dict: &[u32], slot: usize) -> u32
+    requires { ⌜ (12 * slot + 12 ≤ length (now dict)) × (length (now dict) ≤ 6155) ⌝ }
+    ensures { λ r. ⌜ r ≡ getD (now (dict .entry)) (12 * slot + 9) 0 ⌝ }
+{
+    dict[SLOT * slot + BINDING]
+}
+
+// The payload of the slot's binding.
+pub fn binding_payload(dict: &[u32], slot: usize) -> u32
+    requires { ⌜ (12 * slot + 12 ≤ length (now dict)) × (length (now dict) ≤ 6155) ⌝ }
+    ensures { λ r. ⌜ r ≡ getD (now (dict .entry)) (12 * slot + 10) 0 ⌝ }
+{
+    dict[SLOT * slot + PAYLOAD]
 }
 
 // The first of n slots that has this size and these words; n where none has.

@@ -1,4 +1,4 @@
--- An element becomes a copy of an item: the heap after `assign` stands for the objects with that element set, and what the root places still reach is carried
+-- An element becomes another value, such as a copy of an item: the heap after `assign` stands for the objects with that element set, and what the root places still reach is carried
 -- over.
 -- Assumes nothing.
 use mathlib.Core.Path.{_≡_, refl, sym, ap, _∙_, subst}
@@ -7,14 +7,13 @@ use mathlib.Core.List.{List, [], map}
 use Prim.Native.Nat.{ℕ, suc, _+_, _*_, _/_}
 use lib.ListN.{length, getD, set, length-set}
 use lib.Seq.{map-set-same}
-use Rattle.semantics.specs.Values.{Value, null, array, Object, elements}
+use Rattle.semantics.specs.Values.{Value, array, Object, elements}
 use Rattle.semantics.specs.Machine as Floo
 use Rattle.semantics.specs.Machine.{withStore, object, elementsOf, change}
 use Rattle.heap.specs.Chain.{live, on}
 use Rattle.heap.specs.Shape.{Ghost, Full, NoOut, cells, target}
 use Rattle.heap.specs.Gone.{Since}
 use Rattle.heap.specs.Assign.{aimed, Assigned, Target}
-use Rattle.heap.specs.Assign as Assign
 use Rattle.heap.specs.declared.Lists.{Lists}
 use Rattle.heap.proofs.Since.{begins}
 use Rattle.store.specs.Rep as Store
@@ -30,19 +29,19 @@ use Rattle.machine.specs.declared.Machine.{Machine}
 use Rattle.machine.proofs.Carrying.{Reached}
 use Rattle.machine.proofs.Copying.{word-of}
 use Rattle.machine.proofs.Restacking.{withDepth}
-use Rattle.elements.specs.Elements.{HasElement, elementPut}
+use Rattle.elements.specs.Elements.{HasElement, itemId, elementPut}
 use Rattle.elements.proofs.Arrays.{Found, here, rank, split, at-cell, element-too}
 use Rattle.machine.proofs.Rehousing.{roots-store, restored}
 
 module _ {m : Machine} {st e d c l : List ℕ} {μ : Floo.Machine} (R : Rep m st e d c l μ) (i k q : ℕ) (h : m .depth ≡ k + suc i) (b : HasElement i q μ) (cell : ℕ)
     (found : Found c (getD st (2 * k + 1) 0) q cell)
-    (j o : ℕ) (g : m .depth ≡ o + suc j) where
+    {v : Value} {tag pay : ℕ} (new : IsIn (R .world) μ v tag pay) where
   abbrev head : ℕ
   head = getD st (2 * k + 1) 0
 
   -- What `assign` asks.
-  pub target-of : Target cell (getD st (2 * o) 0) (getD st (2 * o + 1) 0) (m .lists) c
-  target-of = (
+  pub value-target : Target cell tag pay (m .lists) c
+  value-target = (
     cells c + rootCount,
     R .world .ghost,
     head,
@@ -51,18 +50,12 @@ module _ {m : Machine} {st e d c l : List ℕ} {μ : Floo.Machine} (R : Rep m st
     at-cell R i k q h b cell found,
     here R i k q h b .lives,
     here R i k q h b .kind,
-    word-of R j o g .alive,
+    new .alive,
   )
 
-  module _ {s : Lists} {c′ : List ℕ} (A : Assigned cell (getD st (2 * o) 0) (getD st (2 * o + 1) 0) (m .lists) c s c′) (z : s .dead ≡ 0) where
-    abbrev tag : ℕ
-    tag = getD st (2 * o) 0
-
-    abbrev pay : ℕ
-    pay = getD st (2 * o + 1) 0
-
+  module _ {s : Lists} {c′ : List ℕ} (A : Assigned cell tag pay (m .lists) c s c′) (z : s .dead ≡ 0) where
     abbrev changed : ℕ → Object
-    changed id = elements (set (elementsOf (objectAt (μ .store) id)) q (getD (μ .stack) j null))
+    changed id = elements (set (elementsOf (objectAt (μ .store) id)) q v)
 
     abbrev store : List Object
     store = set (μ .store) (R .world .ρ head) (changed (R .world .ρ head))
@@ -79,14 +72,13 @@ module _ {m : Machine} {st e d c l : List ℕ} {μ : Floo.Machine} (R : Rep m st
     put : Put
     put =
         let H = R .stored in
-        let v = word-of R j o g in
         let at = here R i k q h b in
         let oc = at-cell R i k q h b cell found in
-        let X = A (cells c + rootCount) (R .world .ghost) head (rank R i k q h b) (H .full) oc (at .lives) (at .kind) (v .alive) in
+        let X = A (cells c + rootCount) (R .world .ghost) head (rank R i k q h b) (H .full) oc (at .lives) (at .kind) (new .alive) in
         let none : R .world .ghost .size 1 ≡ 0 = H .full .heap .dead ∙ H .none-dead in
         let near : cells c + rootCount ≡ cells (X .0) + rootCount = rw (X .3 .size) refl in
         let since = X .5 _ _ (begins (cells c + rootCount) (aimed (R .world .ghost) cell (target 0 tag pay)) _ _ (X .0) (X .2 .heap .shape) (X .2 .counts) none) in
-        let rep = rep-assign (H .full .heap .shape) (H .full .counts) (H .objects) cell head (rank R i k q h b) q tag pay (getD (μ .stack) j null) _ oc (at .lives) (at .whole) (split R i k q h b) (v .stands) (v .alive) (X .3) in
+        let rep = rep-assign (H .full .heap .shape) (H .full .counts) (H .objects) cell head (rank R i k q h b) q tag pay v _ oc (at .lives) (at .whole) (split R i k q h b) (new .stands) (new .alive) (X .3) in
         record {
           middle = X .0;
           ghost = X .1;
@@ -135,13 +127,27 @@ module _ {m : Machine} {st e d c l : List ℕ} {μ : Floo.Machine} (R : Rep m st
     long x =
         let id = R .world .ρ head in
         at-set (λ x y. length (elementsOf x) ≡ length (elementsOf y)) (μ .store) id (changed id) (R .stored .objects .id head (here R i k q h b .lives))
-        (length-set (elementsOf (objectAt (μ .store) id)) q (getD (μ .stack) j null)) x refl
+        (length-set (elementsOf (objectAt (μ .store) id)) q v) x refl
 
-    pub put-rep : Rep (withDepth (m .depth) s m) st e d c′ l (elementPut i q j μ)
-    unfolding elementPut change object
-    put-rep =
+    pub value-put : Rep (withDepth (m .depth) s m) st e d c′ l (change (itemId i μ) (elements (set (elementsOf (object μ (itemId i μ))) q v)) μ)
+    unfolding change object
+    value-put =
         subst (λ id. Rep (withDepth (m .depth) s m) st e d c′ l (withStore (set (μ .store) id (changed id)) μ)) (here R i k q h b .stands)
         (restored R next store stored carry (λ x t p _. long x) stays)
+
+-- The value is a copy of item j.
+module _ {m : Machine} {st e d c l : List ℕ} {μ : Floo.Machine} (R : Rep m st e d c l μ) (i k q : ℕ) (h : m .depth ≡ k + suc i) (b : HasElement i q μ) (cell : ℕ)
+    (found : Found c (getD st (2 * k + 1) 0) q cell)
+    (j o : ℕ) (g : m .depth ≡ o + suc j) where
+  pub target-of : Target cell (getD st (2 * o) 0) (getD st (2 * o + 1) 0) (m .lists) c
+  target-of = value-target R i k q h b cell found (word-of R j o g)
+
+  put-rep : {s : Lists} {c′ : List ℕ}
+      → Assigned cell (getD st (2 * o) 0) (getD st (2 * o + 1) 0) (m .lists) c s c′
+      → s .dead ≡ 0
+      → Rep (withDepth (m .depth) s m) st e d c′ l (elementPut i q j μ)
+  unfolding elementPut
+  put-rep A z = value-put R i k q h b cell found (word-of R j o g) A z
 
 pub put-moves : {m : Machine} {st e d c l : List ℕ} {μ : Floo.Machine} (R : Rep m st e d c l μ) (i k q : ℕ) (h : m .depth ≡ k + suc i)
     → HasElement i q μ

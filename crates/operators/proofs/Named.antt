@@ -13,7 +13,8 @@ use Rattle.machine.specs.declared.Machine.{Machine}
 use Rattle.machine.specs.declared.Did.{Did}
 use Rattle.machine.specs.declared.Did.the-variants.{Ok, Fail}
 use Rattle.control_operators.specs.Promises.{DoesState, DoesCells, DoesFrames}
-use Rattle.operators.specs.Titles.{performAt}
+use Rattle.dictionary_operators.specs.Promises.{DoesDictionary}
+use Rattle.operators.specs.Titles.{performAt, DoesAll}
 
 pub named : (k j : ℕ) (n : List ℕ) → k ≡ j → getD titles j [] ≡ n → perform n ≡ performAt k
 unfolding performAt
@@ -41,3 +42,39 @@ stack-does (Ok m′) D c = record { does = λ e d l μ R. D .does e d c l μ R }
 pub state-cells : {f : Floo.Machine → Result Floo.Machine} {m : Machine} (r : Did) → DoesState f m r → (e c : List ℕ) → DoesCells f m e c c r
 state-cells (Fail x) D e c = record { does = λ s d l μ R. (D .does s e d c l μ R .0, refl) }
 state-cells (Ok m′) D e c = record { does = λ s d l μ R. D .does s e d c l μ R }
+
+pub heap-dictionary : {f : Floo.Machine → Result Floo.Machine} {m : Machine} {s s′ c c′ : List ℕ} (r : Did) → DoesHeap f m s s′ c c′ r → (d : List ℕ) → DoesDictionary f m s s′ d d c c′ r
+heap-dictionary (Fail x) D d = record { does = λ e l μ R. let a = D .does e d l μ R in (a .0, (a .1 .0, refl, a .1 .1)) }
+heap-dictionary (Ok m′) D d = record { does = λ e l μ R. D .does e d l μ R }
+
+pub stack-dictionary : {f : Floo.Machine → Result Floo.Machine} {m : Machine} {s s′ : List ℕ} (r : Did) → DoesStack f m s s′ r → (d c : List ℕ) → DoesDictionary f m s s′ d d c c r
+stack-dictionary r D d c = heap-dictionary r (stack-does r D c) d
+
+pub dictionary-named : {m : Machine} {s s′ d d′ c c′ : List ℕ} {r : Did} {k : ℕ} (j : ℕ) (n : List ℕ)
+    → k ≡ j
+    → getD titles j [] ≡ n
+    → DoesDictionary (perform n) m s s′ d d′ c c′ r
+    → DoesDictionary (performAt k) m s s′ d d′ c c′ r
+dictionary-named {m} {s} {s′} {d} {d′} {c} {c′} {r} {k} j n e t D = subst (λ f. DoesDictionary f m s s′ d d′ c c′ r) (named k j n e t) D
+
+-- ---- all words
+
+pub dictionary-all : {f : Floo.Machine → Result Floo.Machine} {m : Machine} {s s′ d d′ c c′ : List ℕ} (r : Did)
+    → DoesDictionary f m s s′ d d′ c c′ r
+    → (e l : List ℕ)
+    → DoesAll f m s s′ e e d d′ c c′ l l r
+dictionary-all (Fail x) D e l = record { does = λ μ R. let a = D .does e l μ R in (a .0, (a .1 .0, refl, a .1 .1, a .1 .2, refl)) }
+dictionary-all (Ok m′) D e l = record { does = λ μ R. D .does e l μ R }
+
+pub heap-all : {f : Floo.Machine → Result Floo.Machine} {m : Machine} {s s′ c c′ : List ℕ} (r : Did)
+    → DoesHeap f m s s′ c c′ r
+    → (e d l : List ℕ)
+    → DoesAll f m s s′ e e d d c c′ l l r
+heap-all r D e d l = dictionary-all r (heap-dictionary r D d) e l
+
+pub frames-all : {f : Floo.Machine → Result Floo.Machine} {m : Machine} {s s′ e e′ c c′ : List ℕ} (r : Did)
+    → DoesFrames f m s s′ e e′ c c′ r
+    → (d l : List ℕ)
+    → DoesAll f m s s′ e e′ d d c c′ l l r
+frames-all (Fail x) D d l = record { does = λ μ R. let a = D .does d l μ R in (a .0, (a .1 .0, a .1 .1, refl, a .1 .2, refl)) }
+frames-all (Ok m′) D d l = record { does = λ μ R. D .does d l μ R }

@@ -5,6 +5,7 @@ ghost use Rattle.machine.specs.Rep.{Somewhere as StackSomewhere};
 ghost use Rattle.machine.specs.Room.{DoesStack, DoesHeap};
 ghost use Rattle.frames.specs.Moves.{Somewhere, SomewhereAll};
 ghost use Rattle.control_operators.specs.Promises.{DoesFrames, DoesCells};
+ghost use Rattle.dictionary_operators.specs.Promises.{Represented, DoesDictionary};
 ghost use Rattle.operators.specs.Titles.{performAt};
 use machine::Did;
 use machine::Machine;
@@ -103,4 +104,79 @@ fn conversions(k: u32, m: Machine, stack: &mut [u32]) -> Did
         48 => stack_operators::cvx(m, stack),
         _ => stack_operators::cvlit(m, stack),
     }
+}
+
+// eq and ne.
+fn equalities(k: u32, m: Machine, stack: &mut [u32], cells: &mut [u32]) -> Did
+    requires { ⌜ (18 ≤ k) × (k < 20) × StackSomewhere m (now stack) (now cells) ⌝ }
+    ensures { λ r. ⌜ DoesHeap (performAt k) m (now (stack .entry)) (now (stack .exit)) (now (cells .entry)) (now (cells .exit)) r ⌝ }
+{
+    match k {
+        18 => equality::eq(m, stack, cells),
+        _ => equality::ne(m, stack, cells),
+    }
+}
+
+// array, mark, ], length, get and put.
+fn arrays(k: u32, m: Machine, stack: &mut [u32], cells: &mut [u32]) -> Did
+    requires { ⌜ (36 ≤ k) × (k < 42) × StackSomewhere m (now stack) (now cells) ⌝ }
+    ensures { λ r. ⌜ DoesHeap (performAt k) m (now (stack .entry)) (now (stack .exit)) (now (cells .entry)) (now (cells .exit)) r ⌝ }
+{
+    match k {
+        36 => array_operators::array(m, stack, cells),
+        37 => stack_operators::mark(m, stack),
+        38 => array_operators::close(m, stack, cells),
+        39 => array_operators::length(m, stack, cells),
+        40 => array_operators::get(m, stack, cells),
+        _ => array_operators::put(m, stack, cells),
+    }
+}
+
+// getinterval, putinterval, aload, astore and string.
+fn intervals(k: u32, m: Machine, stack: &mut [u32], cells: &mut [u32]) -> Did
+    requires { ⌜ (42 ≤ k) × (k < 47) × StackSomewhere m (now stack) (now cells) ⌝ }
+    ensures { λ r. ⌜ DoesHeap (performAt k) m (now (stack .entry)) (now (stack .exit)) (now (cells .entry)) (now (cells .exit)) r ⌝ }
+{
+    match k {
+        42 => interval_operators::getinterval(m, stack, cells),
+        43 => interval_operators::putinterval(m, stack, cells),
+        44 => array_operators::aload(m, stack, cells),
+        45 => array_operators::astore(m, stack, cells),
+        _ => array_operators::string(m, stack, cells),
+    }
+}
+
+// def, load and bind.
+fn bindings(k: u32, m: Machine, stack: &mut [u32], dict: &mut [u32], cells: &mut [u32]) -> Did
+    requires { ⌜ (24 ≤ k) × (k < 27) × Represented m (now stack) (now dict) (now cells) ⌝ }
+    ensures { λ r. ⌜ DoesDictionary (performAt k) m (now (stack .entry)) (now (stack .exit)) (now (dict .entry)) (now (dict .exit)) (now (cells .entry)) (now (cells .exit)) r ⌝ }
+{
+    match k {
+        24 => dictionary_operators::def(m, stack, dict, cells),
+        25 => dictionary_operators::load(m, stack, dict, cells),
+        _ => dictionary_operators::bind(m, stack, dict, cells),
+    }
+}
+
+// The operators below exec: those that touch stack, dictionary and cells alone.
+fn lower(k: u32, m: Machine, stack: &mut [u32], dict: &mut [u32], cells: &mut [u32]) -> Did
+    requires { ⌜ (k < 27) × Represented m (now stack) (now dict) (now cells) ⌝ }
+    ensures { λ r. ⌜ DoesDictionary (performAt k) m (now (stack .entry)) (now (stack .exit)) (now (dict .entry)) (now (dict .exit)) (now (cells .entry)) (now (cells .exit)) r ⌝ }
+{
+    if k < 6 {
+        return rearrangements(k, m, stack, cells);
+    }
+    if k < 12 {
+        return arithmetic(k, m, stack);
+    }
+    if k < 18 {
+        return bits(k, m, stack);
+    }
+    if k < 20 {
+        return equalities(k, m, stack, cells);
+    }
+    if k < 24 {
+        return comparisons(k, m, stack);
+    }
+    bindings(k, m, stack, dict, cells)
 }

@@ -1,0 +1,5 @@
+pub mod Promising
+pub mod Naming
+pub mod Returns
+pub mod Elements
+pub mod Loops
