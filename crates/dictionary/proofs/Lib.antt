@@ -4,3 +4,4 @@ pub mod Slots
 pub mod Finding
 pub mod Adding
 pub mod Rebinding
+pub mod Lookups

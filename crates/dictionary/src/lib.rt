@@ -39,7 +39,7 @@ pub fn find(m: Machine, dict: &[u32], name: &[u8]) -> usize
 pub fn add(m: Machine, dict: &mut [u32], name: &[u8]) -> Machine
     requires { ⌜ (length (now name) ≤ 31) × (12 * m .names + 12 ≤ length (now dict)) × (length (now dict) ≤ 6155) ⌝ }
     ensures { λ r. ⌜ Adds m r (now (dict .entry)) (now (dict .exit)) (now (name .entry)) ⌝ }
-    ensures { λ r. ⌜ (r .names ≡ m .names + 1) × (r .depth ≡ m .depth) ⌝ }
+    ensures { λ r. ⌜ (r .names ≡ m .names + 1) × (r .depth ≡ m .depth) × (r .frames ≡ m .frames) × (r .lists ≡ m .lists) ⌝ }
 {
     let n = m.names;
     dict[SLOT * n] = name.len() as u32;

@@ -48,7 +48,7 @@ same-length : tie.Need-same-length
 same-length c = slotted-words (c .before .before .before .before .before .before .args .dict .now) (c .before .before .before .before .before .before .args .m .names) _ (c .before .before .before .before .before .before .pre .1) (c .before .before .pack .ensures) (c .before .before .pack .kept .1 .0) .long
 
 returns : tie.Need-returns
-returns c = (adds (c .before .before .before .before .before .before .pre .0) (c .before .before .before .before .before .before .pre .1) (slotted-words _ _ _ (c .before .before .before .before .before .before .pre .1) (c .before .before .pack .ensures) (c .before .before .pack .kept .1 .0)), (refl, refl))
+returns c = (adds (c .before .before .before .before .before .before .pre .0) (c .before .before .before .before .before .before .pre .1) (slotted-words _ _ _ (c .before .before .before .before .before .before .pre .1) (c .before .before .pack .ensures) (c .before .before .pack .kept .1 .0)), (refl, refl, refl, refl))
 
 pub add-spec : {M : Type 1} → statement M
 add-spec =

@@ -1,0 +1,5 @@
+pub mod Planting
+pub mod Inverting
+pub mod Leaves
+pub mod Opening
+pub mod Turning

@@ -1,0 +1,121 @@
+-- An executable name by its slot: it is undefined where the slot's binding has the tag of none, or where no slot has the name; else its binding is pending,
+-- where the execution stack has room.
+-- Assumes nothing.
+use mathlib.Core.Path.{_≡_, refl, sym, ap, _∙_, subst}
+use mathlib.Core.Bool.{Bool}
+use mathlib.Core.List.{List}
+use mathlib.Core.Option.{Option, none, some}
+use Prim.Native.Nat.{ℕ, _+_, _*_, _/_, _≤_, _<_}
+use native.Mathlib.Omega.{arith}
+use lib.ListN.{length, getD, getElem?}
+use Rattle.semantics.specs.Values.{Value, ok, fault, _>>=_, given}
+use Rattle.semantics.specs.Machine as Floo
+use Rattle.semantics.specs.Machine.{pending, withExec, enter, lookup}
+use Rattle.semantics.specs.Steps.{roomFor}
+use Rattle.semantics.specs.declared.Error.the-variants.{Undefined, ExecStackOverflow}
+use Rattle.store.specs.Rep.{Stands, a-null, an-integer, a-boolean, a-mark, an-operator, a-literal, an-executable, a-string, an-array, a-procedure}
+use Rattle.machine.specs.Places.{keys}
+use Rattle.machine.specs.Rep.{Rep, Is, IsIn, World, Bound, unbound, bound}
+use Rattle.machine.specs.Room.{lent, fitted}
+use Rattle.machine.specs.declared.Machine.{Machine}
+use Rattle.machine.specs.declared.Did.{Did}
+use Rattle.machine.specs.declared.Did.the-variants.{Ok, Fail}
+use Rattle.machine.proofs.Rooms.{fitted-fails, room-exec, rep-fits, dictionary-fits, frames-length}
+use Rattle.dictionary.specs.Names.{slotOf, Finds}
+use Rattle.dictionary.specs.Bindings.{HasBinding, BoundFrames, PendsBinding}
+use Rattle.dictionary.proofs.Lookups.{found-key, lookup-missing}
+use Rattle.dictionary.proofs.Rebinding.{slot-room, binding-at}
+use Rattle.taking.specs.Effects.{executableTaken}
+use Rattle.taking.specs.Promises.{Bindings, NamedBindings, DoesBinding, DoesNamed}
+
+-- ---- the tag of a binding
+
+-- No value has the tag of an unbound name.
+no-value : {keys : List (List ℕ)} {texts : List Bool} {ρ : ℕ → ℕ} {v : Value} {t p : ℕ} → Stands keys texts ρ v t p → t ≡ 7 → ⊥
+no-value a-null e = omega arith
+no-value an-integer e = omega arith
+no-value a-boolean e = omega arith
+no-value a-mark e = omega arith
+no-value (an-operator q) e = omega arith
+no-value (a-literal q) e = omega arith
+no-value (an-executable q) e = omega arith
+no-value (a-string q k) e = omega arith
+no-value (an-array q k) e = omega arith
+no-value (a-procedure q k) e = omega arith
+
+module _ {w : World} {names : List (List ℕ)} {strings : List Bool} where
+  none-bound : {o : Option Value} {t p : ℕ} → Bound (Is w names strings) o t p → t ≡ 7 → o ≡ none
+  none-bound unbound e = refl
+  none-bound (bound h) e = absurd (no-value (h .stands) e)
+
+  some-bound : {o : Option Value} {t p : ℕ} → Bound (Is w names strings) o t p → (t ≡ 7 → ⊥) → (v : Value) × (o ≡ some v)
+  some-bound unbound e = absurd (e refl)
+  some-bound (bound {v = v} h) e = (v, refl)
+
+-- ---- what the definition makes of it
+
+module _ (n : List ℕ) (μ : Floo.Machine) where
+  undefined : lookup n (μ .dictionary) ≡ none → executableTaken n μ ≡ fault Undefined
+  unfolding executableTaken given _>>=_
+  undefined q = ap (λ o. given o Undefined >>= λ v. ok (enter (pending v) μ)) q
+
+  defined : {v : Value} → lookup n (μ .dictionary) ≡ some v → executableTaken n μ ≡ ok (enter (pending v) μ)
+  unfolding executableTaken given _>>=_
+  defined q = ap (λ o. given o Undefined >>= λ v. ok (enter (pending v) μ)) q
+
+-- ---- a name by its slot
+
+module _ {k : ℕ} {m : Machine} {e d c : List ℕ} where
+  pub name-room : NamedBindings k m e d c → (12 * k + 12 ≤ length d) × (length d ≤ 6155) × (8 * m .frames ≤ length e) × (length e ≤ 1031)
+  name-room (s, l, μ, n, key, R) = (slot-room R k n key, R .dict-few, R .exec-room, R .exec-few)
+
+  pub name-unbound : getD d (12 * k + 9) 0 ≡ 7 → DoesNamed k m e e d c c (Fail Undefined)
+  name-unbound tag = record {
+    does = λ s l μ R n key. (fitted-fails (lent s e d c l) (executableTaken n) μ (undefined n μ (none-bound (binding-at R k n key .0) tag)), (refl, refl));
+  }
+
+  module _ (tag : getD d (12 * k + 9) 0 ≡ 7 → ⊥) where
+    pub name-full : length e < 8 * m .frames + 8 → DoesNamed k m e e d c c (Fail ExecStackOverflow)
+    unfolding fitted lent enter withExec _>>=_
+    name-full full = record {
+      does = λ s l μ R n key.
+          let x = some-bound (binding-at R k n key .0) tag in
+          let over : length e / 8 < length (enter (pending (x .0)) μ .exec) = omega (arith, frames-length (R .frames)) in
+          (ap (λ q. q >>= roomFor (lent s e d c l) μ) (defined n μ (x .1)) ∙ room-exec (lent s e d c l) μ (enter (pending (x .0)) μ) (dictionary-fits R) over, (refl, refl));
+    }
+
+    pub name-bound : NamedBindings k m e d c → BoundFrames k m e d c
+    name-bound (s, l, μ, n, key, R) =
+        let x = some-bound (binding-at R k n key .0) tag in
+        (s, l, μ, n, x .0, record { slot = key; value = x .1 }, R)
+
+    pub name-done : {r : Machine} {e′ c′ : List ℕ} → PendsBinding k m r e e′ d c c′ → length e′ ≡ length e → DoesNamed k m e e′ d c c′ (Ok r)
+    unfolding fitted enter withExec _>>=_
+    name-done P long = record {
+      does = λ s l μ R n key.
+          let x = some-bound (binding-at R k n key .0) tag in
+          let after = P .moves s l μ R n (x .0) key (x .1) in
+          (enter (pending (x .0)) μ, ap (λ q. q >>= roomFor (lent s e d c l) μ) (defined n μ (x .1)) ∙ rep-fits after μ s e c refl long refl, after);
+    }
+
+-- ---- a name by its bytes
+
+module _ {n : List ℕ} {k : ℕ} {m : Machine} {e d c : List ℕ} (F : Finds m d n k) where
+  module _ (low : k < m .names) where
+    key-found : {s l : List ℕ} {μ : Floo.Machine} → Rep m s e d c l μ → getElem? (keys μ) k ≡ some n
+    key-found {s} {l} {μ} R =
+        let is = F .says s e c l μ R in
+        subst (λ i. getElem? (keys μ) i ≡ some n) (sym is) (found-key n (μ .dictionary) (omega (arith, is, low, R .names)))
+
+    pub name-there : Bindings m e d c → NamedBindings k m e d c
+    name-there (s, l, μ, R) = (s, l, μ, n, key-found R, R)
+
+    pub name-taken : {e′ c′ : List ℕ} {r : Did} → DoesNamed k m e e′ d c c′ r → DoesBinding (executableTaken n) m e e′ d c c′ r
+    name-taken D = record { does = λ s l μ R. D .does s l μ R n (key-found R) }
+
+  pub name-missing : m .names ≤ k → k ≤ m .names → DoesBinding (executableTaken n) m e e d c c (Fail Undefined)
+  name-missing high low = record {
+    does = λ s l μ R.
+        let all : slotOf n (μ .dictionary) ≡ length (μ .dictionary) = omega (arith, F .says s e c l μ R, R .names) in
+        (fitted-fails (lent s e d c l) (executableTaken n) μ (undefined n μ (lookup-missing n (μ .dictionary) all)), (refl, refl));
+  }
