@@ -7,7 +7,7 @@ use mathlib.Core.List.{List, [], _∷_, _++_}
 use mathlib.Core.Logic.{⊎-elim}
 use Prim.Native.Nat.{ℕ, suc, _+_, _-_, _*_, _≤_, _<_}
 use native.Mathlib.Omega.{arith}
-use lib.ListN.{length, getD, set, length-set, length-append}
+use lib.ListN.{length, getD, set, length-set, length-append, List·getD-append}
 use lib.Seq.{getD-set-same, getD-set-other}
 use Rattle.semantics.specs.Values.{Value, null, string, array, Object, elements, text}
 use Rattle.semantics.specs.Machine as Floo
@@ -130,12 +130,12 @@ set-extended store id q v low kind =
       lengths = λ j _. at-set (λ a b. length (elementsOf a) ≡ length (elementsOf b)) store id o low (length-set (elementsOf (objectAt store id)) q v) j refl;
     }
 
-pub append-extended : (store : List Object) (o : Object) → Extended store (store ++ (o ∷ []))
-append-extended store o =
+pub append-extended : (store more : List Object) → Extended store (store ++ more)
+append-extended store more =
     record {
-      longer = rw (length-append store (o ∷ [])) (omega arith);
-      kinds = λ j l. ap isText (old-object store o j l);
-      lengths = λ j l. ap (λ y. length (elementsOf y)) (old-object store o j l);
+      longer = rw (length-append store more) (omega arith);
+      kinds = λ j l. ap isText (List·getD-append store more (elements []) j l);
+      lengths = λ j l. ap (λ y. length (elementsOf y)) (List·getD-append store more (elements []) j l);
     }
 
 module _ (id q : ℕ) (v : Value) (μ : Floo.Machine) (low : id < length (μ .store)) where
@@ -171,7 +171,7 @@ module _ (id q : ℕ) (v : Value) (o : Object) (μ : Floo.Machine) (low : id < l
   pub made-extended : isText (objectAt (μ .store) id) ≡ false → Extended (μ .store) (elementSet id q v (make o μ) .store)
   unfolding make withStore
   made-extended kind =
-      extended-trans (append-extended (μ .store) o)
+      extended-trans (append-extended (μ .store) (o ∷ []))
       (element-extended id q v (make o μ) more (ap isText (old-object (μ .store) o id low) ∙ kind))
 
   pub made-new : objectAt (elementSet id q v (make o μ) .store) (made μ) ≡ o

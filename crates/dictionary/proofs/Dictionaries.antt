@@ -117,6 +117,23 @@ module _ (n : List ℕ) where
   keys-set o (here {d = d} q e) = ap (λ x. x ∷ keysOf d) (sym e)
   keys-set o (there {t = t} q r) = ap (λ x. t .key ∷ x) (keys-set o r)
 
+  -- A name that has a slot is there.
+  pub slot-key : (d : List Slot) → slotOf n d < length d → getElem? (keysOf d) (slotOf n d) ≡ some n
+  unfolding slotOf
+  slot-key [] low = absurd (omega arith)
+  slot-key (s ∷ d) low = step (compare n (s .key)) (slot-key d) low
+    where
+      step : Compared n (s .key) (same n (s .key))
+          → (slotOf n d < length d → getElem? (keysOf d) (slotOf n d) ≡ some n)
+          → slotOf n (s ∷ d) < suc (length d)
+          → getElem? (keysOf (s ∷ d)) (slotOf n (s ∷ d)) ≡ some n
+      step (yes q same-name) r l =
+          let z : slotOf n (s ∷ d) ≡ 0 = rw (q, slotOf) refl in
+          rw z (ap some (sym same-name))
+      step (no q other) r l =
+          let z : slotOf n (s ∷ d) ≡ suc (slotOf n d) = rw (q, slotOf) refl in
+          rw z (r (omega (arith, z, l)))
+
   -- ---- a name with no slot
 
   pub absent : (d : List Slot) → slotOf n d ≡ length d → Absent n d

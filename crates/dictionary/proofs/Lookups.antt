@@ -1,5 +1,5 @@
 -- What a name's slot number says: below the number of slots the name is there, and to give it a slot changes nothing; else it has no slot, nothing is looked
--- up, and one slot more is made. A name keeps its slot where others get theirs.
+-- up, and one slot more is made, where there is room. A name keeps its slot where others get theirs.
 -- Assumes nothing.
 use mathlib.Core.Path.{_≡_, refl, sym, ap, _∙_, subst}
 use mathlib.Core.List.{List, [], _∷_}
@@ -7,11 +7,19 @@ use mathlib.Core.Logic.{⊎-elim}
 use mathlib.Core.Option.{some, none}
 use Prim.Native.Nat.{ℕ, suc, _+_, _≤_, _<_}
 use native.Mathlib.Omega.{arith}
+use borrow.Author.Tests.{lt-leb}
 use lib.ListN.{length, getElem?, length-append}
 use Rattle.semantics.specs.Text.{same}
+use Rattle.semantics.specs.Values.{fault, _>>=_, check}
+use Rattle.semantics.specs.Machine as Floo
 use Rattle.semantics.specs.Machine.{Slot, lookup, slotted}
+use Rattle.semantics.specs.Steps.{Limits, roomFor}
+use Rattle.semantics.specs.declared.Error.the-variants.{LimitCheck}
 use Rattle.heap.proofs.Since.{lt-or-le}
-use Rattle.dictionary.specs.Names.{slotOf}
+use Rattle.machine.specs.Places.{keys}
+use Rattle.machine.specs.Rep.{Rep}
+use Rattle.machine.specs.declared.Machine.{Machine}
+use Rattle.dictionary.specs.Names.{slotOf, Finds}
 use Rattle.dictionary.proofs.Dictionaries.{keysOf, Compared, yes, no, compare, Sits, here, there, Absent, nil, cons, slot-sits, element-sits, absent, slotted-absent}
 
 module _ (n : List ℕ) where
@@ -132,3 +140,22 @@ module _ (n : List ℕ) where
 
   pub still-has : (k : List ℕ) (d : List Slot) → slotOf n d < length d → slotOf n (slotted k d) < length (slotted k d)
   still-has k d l = element-sits n (subst (λ i. Sits n (slotted k d) i (found d l .0)) (sym (slot-sits n (stays k (found d l .1)))) (stays k (found d l .1))) .2
+
+-- ---- by what `find` finds
+
+module _ {m : Machine} {s e d c l : List ℕ} {μ : Floo.Machine} (R : Rep m s e d c l μ) {n : List ℕ} {k : ℕ} (F : Finds m d n k) where
+  pub find-has : k < m .names → slotOf n (μ .dictionary) < length (μ .dictionary)
+  find-has low = omega (arith, F .says s e c l μ R, R .names, low)
+
+  pub find-key : k < m .names → getElem? (keys μ) k ≡ some n
+  find-key low = subst (λ i. getElem? (keys μ) i ≡ some n) (sym (F .says s e c l μ R)) (found-key n (μ .dictionary) (find-has low))
+
+  pub find-none : m .names ≤ k → k ≤ m .names → slotOf n (μ .dictionary) ≡ length (μ .dictionary)
+  find-none high low = omega (arith, F .says s e c l μ R, R .names, high, low)
+
+-- ---- the test of room
+
+-- Where there are more names than slots, it fails with limitcheck, whatever else there is no room for.
+pub room-slots : (limits : Limits) (before after : Floo.Machine) → limits .dictionarySlots < length (after .dictionary) → roomFor limits before after ≡ fault LimitCheck
+unfolding roomFor check _>>=_
+room-slots limits before after many = rw (lt-leb _ _ many) refl

@@ -13,11 +13,11 @@ use machine::TAG_NULL;
 use machine::TAG_UNBOUND;
 
 // The words of a slot: the name's length, eight words of its bytes, and the binding's two.
-const SLOT: usize = 12;
+pub const SLOT: usize = 12;
 
 const SPELLING: usize = 1;
 
-const BINDING: usize = 9;
+pub const BINDING: usize = 9;
 
 const PAYLOAD: usize = 10;
 

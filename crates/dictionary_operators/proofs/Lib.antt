@@ -3,3 +3,6 @@ pub mod Naming
 pub mod Returns
 pub mod Elements
 pub mod Loops
+pub mod Interning
+pub mod Prefixes
+pub mod Converting

@@ -1,17 +1,22 @@
-// The operators on the dictionary, def, load and bind. Each does exactly what the definition's operator of its name does and then the definition's test of
+// The operators on the dictionary, def, load, bind and cvn. Each does exactly what the definition's operator of its name does and then the definition's test of
 // room, errors and their order included. Nothing is changed before the last check.
 ghost use mathlib.Core.Path.{_≡_};
 ghost use Prim.Native.Nat.{_≤_};
+ghost use lib.ListN.{length};
 ghost use Rattle.semantics.specs.Text.{bytes};
 ghost use Rattle.semantics.specs.Operators.{perform};
+ghost use Rattle.elements.specs.Elements.{SomewhereThat};
+ghost use Rattle.strings.specs.Strings.{HasBytes};
 ghost use Rattle.dictionary_operators.specs.Promises.{Represented, DoesDictionary};
 ghost use Rattle.dictionary_operators.specs.Binding.{HasProcedure, HasElementAt, BindsElement, BindsElements};
+ghost use Rattle.dictionary_operators.specs.Interning.{itemNamed, ReadsBytes};
 use machine::Did;
 use machine::Machine;
 use machine::TAG_EXECUTABLE;
 use machine::TAG_LITERAL;
 use machine::TAG_OPERATOR;
 use machine::TAG_PROCEDURE;
+use machine::TAG_STRING;
 use machine::TAG_UNBOUND;
 use semantics::Error;
 
@@ -64,6 +69,54 @@ pub fn bind(m: Machine, stack: &[u32], dict: &[u32], cells: &mut [u32]) -> Did
         return Did::Fail(Error::TypeCheck);
     }
     Did::Ok(bind_elements(m, stack, dict, cells))
+}
+
+// Ruled out: a name of 32 bytes; the bytes after the first zero taken into the name; a slot taken for a name that has one.
+pub fn cvn(m: Machine, stack: &mut [u32], dict: &mut [u32], cells: &mut [u32]) -> Did
+    requires { ⌜ Represented m (now stack) (now dict) (now cells) ⌝ }
+    ensures { λ r. ⌜ DoesDictionary (perform (bytes "cvn")) m (now (stack .entry)) (now (stack .exit)) (now (dict .entry)) (now (dict .exit)) (now (cells .entry)) (now (cells .exit)) r ⌝ }
+{
+    if m.depth < 1 {
+        return Did::Fail(Error::StackUnderflow);
+    }
+    if stack[2 * (m.depth - 1)] != TAG_STRING {
+        return Did::Fail(Error::TypeCheck);
+    }
+    let size = strings::current_length(m, stack, cells, 0);
+    if 31 < size {
+        return Did::Fail(Error::LimitCheck);
+    }
+    let mut name = [0u8; 31];
+    read_bytes(m, stack, cells, size, &mut name);
+    name_item(m, stack, dict, cells, &name[0..size as usize])
+}
+
+// Item 0 gives way to the literal name of these bytes, which takes a slot where it has none.
+fn name_item(m: Machine, stack: &mut [u32], dict: &mut [u32], cells: &mut [u32], name: &[u8]) -> Did
+    requires { ⌜ (1 ≤ m .depth) × (length (now name) ≤ 31) × Represented m (now stack) (now dict) (now cells) ⌝ }
+    ensures { λ r. ⌜ DoesDictionary (itemNamed (now (name .entry))) m (now (stack .entry)) (now (stack .exit)) (now (dict .entry)) (now (dict .exit)) (now (cells .entry)) (now (cells .exit)) r ⌝ }
+{
+    let slot = dictionary::find(m, dict, name);
+    if slot < m.names {
+        return Did::Ok(dictionary::put_name(m, stack, cells, slot as u32, 0));
+    }
+    if dict.len() < 12 * m.names + 12 {
+        return Did::Fail(Error::LimitCheck);
+    }
+    let r = dictionary::add(m, dict, name);
+    Did::Ok(dictionary::put_name(r, stack, cells, slot as u32, 0))
+}
+
+// The first n bytes of the string that is item 0 go to the front of out.
+fn read_bytes(m: Machine, stack: &[u32], cells: &[u32], n: u32, out: &mut [u8])
+    requires { ⌜ (1 ≤ m .depth) × (n ≤ length (now out)) × SomewhereThat (HasBytes 0 0 n) m (now stack) (now cells) ⌝ }
+    ensures { λ _. ⌜ ReadsBytes n m (now (stack .entry)) (now (cells .entry)) (now (out .exit)) ⌝ }
+{
+    let mut q = 0;
+    while q < n {
+        out[q as usize] = elements::get_byte(m, stack, cells, 0, q);
+        q = q + 1;
+    }
 }
 
 // Each element of the procedure that is item 0 is bound.

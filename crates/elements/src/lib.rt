@@ -148,6 +148,14 @@ pub fn put_byte_at(cells: &mut [u32], h: u32, q: u32, b: u8)
     heap::put(cells, c, u, with_byte(w, q % 8 % 4, b));
 }
 
+// Byte j of a word, four to a word, the lowest first.
+pub fn byte_of(w: u32, j: u32) -> u8
+    requires { ⌜ j < 4 ⌝ }
+    ensures { λ r. ⌜ r ≡ byteOf w j ⌝ }
+{
+    (w / unit(j) % 256) as u8
+}
+
 // Item i, which names no object, gives way to a new array of n nulls.
 // Rules out: an array that no place names; one of another length.
 pub fn new_array(mut m: Machine, stack: &mut [u32], cells: &mut [u32], i: usize, n: u32) -> Machine
@@ -180,14 +188,6 @@ pub fn new_string(mut m: Machine, stack: &mut [u32], cells: &mut [u32], i: usize
     stack[2 * k + 1] = t.cell;
     m.lists = left;
     m
-}
-
-// Byte j of a word, four to a word, the lowest first.
-fn byte_of(w: u32, j: u32) -> u8
-    requires { ⌜ j < 4 ⌝ }
-    ensures { λ r. ⌜ r ≡ byteOf w j ⌝ }
-{
-    (w / unit(j) % 256) as u8
 }
 
 // The word with b for its byte j.

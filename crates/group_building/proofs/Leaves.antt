@@ -2,16 +2,16 @@
 -- Assumes nothing.
 use mathlib.Core.Path.{_≡_, refl, sym, ap, _∙_, subst}
 use mathlib.Core.Bool.{Bool, true, false}
-use mathlib.Core.List.{List, [], _∷_, map}
+use mathlib.Core.List.{List, [], _∷_}
 use mathlib.Core.Option.{some}
-use Prim.Native.Nat.{ℕ, suc, _+_, _-_, _*_, _/_, _≤_, _<_}
+use Prim.Native.Nat.{ℕ, _+_, _-_, _*_, _/_, _≤_, _<_}
 use native.Mathlib.Omega.{arith}
 use lib.ListN.{length, getElem?, take, drop, replicate, length-replicate, length-take}
 use Rattle.semantics.specs.Tokens.{Token}
 use Rattle.semantics.specs.Text.{same}
 use Rattle.semantics.specs.Values.{integer, name, string, text, Object, cells}
 use Rattle.semantics.specs.Machine as Floo
-use Rattle.semantics.specs.Machine.{Slot, object, bytesOf, made}
+use Rattle.semantics.specs.Machine.{object, bytesOf, made}
 use Rattle.semantics.specs.Held.{sumOf}
 use Rattle.semantics.specs.ListLaws.{All, cons}
 use Rattle.store.specs.Rep.{Stands, an-integer, a-literal, an-executable}
@@ -22,7 +22,7 @@ use Rattle.elements.specs.Elements.{freeCells}
 use Rattle.elements.proofs.Making.{few-cells}
 use Rattle.strings.specs.Strings.{FillsAt, FilledAt}
 use Rattle.dictionary.specs.Names.{slotOf, Finds}
-use Rattle.dictionary.proofs.Dictionaries.{Compared, yes, no, compare}
+use Rattle.dictionary.proofs.Dictionaries.{slot-key}
 use Rattle.token.specs.declared.Token as scanned
 use Rattle.token.specs.declared.Token.the-variants as read
 use Rattle.groups.specs.Nodes.{leafObjects}
@@ -34,23 +34,6 @@ pub same-but : (m : Machine) → SameBut m m
 same-but m = record { depth = refl; frames = refl; names = refl; written = refl }
 
 -- ---- names
-
--- A name that has a slot is there.
-pub key-at : (n : List ℕ) (d : List Slot) → slotOf n d < length d → getElem? (map (λ (s : Slot). s .key) d) (slotOf n d) ≡ some n
-unfolding slotOf
-key-at n [] low = absurd (omega arith)
-key-at n (s ∷ d) low = step (compare n (s .key)) (key-at n d) low
-  where
-    step : Compared n (s .key) (same n (s .key))
-        → (slotOf n d < length d → getElem? (map (λ (s : Slot). s .key) d) (slotOf n d) ≡ some n)
-        → slotOf n (s ∷ d) < suc (length d)
-        → getElem? (map (λ (s : Slot). s .key) (s ∷ d)) (slotOf n (s ∷ d)) ≡ some n
-    step (yes q e) go l =
-        let z : slotOf n (s ∷ d) ≡ 0 = rw (q, slotOf) refl in
-        rw z (ap some (sym e))
-    step (no q f) go l =
-        let z : slotOf n (s ∷ d) ≡ suc (slotOf n d) = rw (q, slotOf) refl in
-        rw z (go (omega (arith, z, l)))
 
 name-stands : {keys : List (List ℕ)} {texts : List Bool} {ρ : ℕ → ℕ} {n : List ℕ} {q : ℕ} (x : Bool)
     → getElem? keys q ≡ some n
@@ -79,8 +62,8 @@ puts-name {d} {n} {tag} {c} {r} {m} {cs} {cs′} F P size =
     record {
       puts = λ {s} {e} {l} {h} {k} {id} {q} {μ} {x} A is.
           let slot : r ≡ slotOf n (μ .dictionary) = F .says s e cs l μ (A .rep) in
-          let there : getElem? (map (λ (s : Slot). s .key) (μ .dictionary)) r ≡ some n =
-          subst (λ j. getElem? (map (λ (s : Slot). s .key) (μ .dictionary)) j ≡ some n) (sym slot) (key-at n (μ .dictionary) (head (A .known))) in
+          let there : getElem? (keys μ) r ≡ some n =
+          subst (λ j. getElem? (keys μ) j ≡ some n) (sym slot) (slot-key n (μ .dictionary) (head (A .known))) in
           P .sets (A .rep) h k id q (A .cell) (A .empty) (name x n) (subst (λ t. Stands (keys μ) (texts μ) (A .rep .world .ρ) (name x n) t r) (sym is) (name-stands x there));
       long = size;
     }

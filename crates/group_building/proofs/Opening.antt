@@ -2,18 +2,20 @@
 -- Assumes nothing.
 use mathlib.Core.Path.{_≡_, refl, sym, ap, _∙_, subst}
 use mathlib.Core.Bool.{true}
-use mathlib.Core.List.{List, [], _∷_, _++_}
+use mathlib.Core.List.{List, _++_}
 use Prim.Native.Nat.{ℕ, suc, _+_, _-_, _*_, _≤_, _<_}
 use native.Mathlib.Omega.{arith}
 use lib.ListN.{length, getD, replicate, length-replicate, getD-replicate}
+use lib.Seq.{take-append-seam, drop-append-seam}
 use Rattle.semantics.specs.Tokens.{Token}
 use Rattle.semantics.specs.Values.{null, array, Object, elements}
 use Rattle.semantics.specs.Machine as Floo
 use Rattle.semantics.specs.Machine.{withStore, elementsOf, make, made, change}
 use Rattle.semantics.specs.Groups.{skip}
-use Rattle.semantics.specs.ListLaws.{All, nil, cons}
+use Rattle.semantics.specs.ListLaws.{All, all-take, all-drop}
 use Rattle.semantics.specs.declared.Error.{Error}
 use Rattle.store.specs.Rep.{objectAt, element}
+use Rattle.machine.specs.Rep.{Rep}
 use Rattle.machine.specs.declared.Machine.{Machine}
 use Rattle.elements.specs.Elements.{HasCell, freeCells}
 use Rattle.elements.proofs.Making.{few-cells}
@@ -23,18 +25,45 @@ use Rattle.groups.specs.Nodes.{Nodes, inner, count, wanted, names}
 use Rattle.groups.specs.Parsing.{Parsed, JudgedAs}
 use Rattle.groups.specs.declared.Judged.{Judged}
 use Rattle.groups.specs.declared.Judged.the-variants.{Bad, Good}
-use Rattle.construction.specs.Growth.{Grown, SameBut, SetsArray, elementSet, arraySet}
+use Rattle.construction.specs.Growth.{Grown, IsArray, SameBut, SetsArray, elementSet, arraySet}
 use Rattle.construction.proofs.Holding.{array-low, element-inside, element-sought, element-found, made-new}
 use Rattle.group_building.specs.Building.{At, Known, Opens, FirstCell}
 use Rattle.group_building.proofs.Inverting.{open-first, parsed-one, no-faults}
 
-pub all-left : {A : Type 0} {P : A → Type 0} (l r : List A) → All P (l ++ r) → All P l
-all-left [] r a = nil
-all-left (x ∷ l) r (cons p a) = cons p (all-left l r a)
+module _ {A : Type 0} {P : A → Type 0} (l r : List A) (both : All P (l ++ r)) where
+  pub all-left : All P l
+  all-left = subst (All P) (take-append-seam l r) (all-take (length l) both)
 
-pub all-right : {A : Type 0} {P : A → Type 0} (l r : List A) → All P (l ++ r) → All P r
-all-right [] r a = a
-all-right (x ∷ l) r (cons p a) = all-right l r a
+  pub all-right : All P r
+  all-right = subst (All P) (drop-append-seam l r) (all-drop (length l) both)
+
+-- An array of as many nulls as the group has elements, the first of them in the cell that is found.
+unfoldable pub array-at : {s e d l script : List ℕ} {depth h id after : ℕ} {m : Machine} {cs : List ℕ} {at first : ℕ} {μ : Floo.Machine} {ns : Nodes}
+    → (R : Rep m s e d cs l μ)
+    → IsArray (R .world) (μ .store) h id
+    → objectAt (μ .store) id ≡ elements (replicate (count ns) null)
+    → FirstCell cs h (count ns) first
+    → Parsed script depth at ns after
+    → at ≤ length script
+    → Known μ (names ns)
+    → wanted ns ≤ freeCells m cs
+    → At s e d l script depth h id after m cs at first μ 0 ns
+unfolding elementsOf
+array-at {id = id} {first = first} {μ = μ} {ns = ns} R I is F P inside known room =
+    let all : length (elementsOf (objectAt (μ .store) id)) ≡ count ns = ap (λ (o : Object). length (elementsOf o)) is ∙ length-replicate (count ns) null in
+    record {
+      rep = R;
+      parsed = P;
+      inside = inside;
+      array = I;
+      cell = λ k e.
+          let rank : length (elementsOf (objectAt (μ .store) id)) ≡ 0 + suc k = all ∙ omega (arith, e) in
+          element-found R 0 k first I rank (F (omega (arith, e)));
+      long = all ∙ omega arith;
+      nulls = λ j l. ap (λ (o : Object). getD (elementsOf o) (0 + j) null) is ∙ getD-replicate (count ns) (0 + j) null null (omega (arith, l));
+      known = known;
+      room = room;
+    }
 
 -- Where the first of the elements is.
 module _ {s e d l script : List ℕ} {depth h id after : ℕ} {m : Machine} {cs : List ℕ} {at c : ℕ} {μ : Floo.Machine} {q : ℕ} {ns : Nodes}
@@ -56,10 +85,6 @@ module _ (id q n : ℕ) (μ : Floo.Machine) (low : id < length (μ .store)) wher
   new-long : length (elementsOf (objectAt (arraySet id q n μ .store) (made μ))) ≡ n
   unfolding elementsOf
   new-long = ap (λ (o : Object). length (elementsOf o)) new-array ∙ length-replicate n null
-
-  new-null : (j : ℕ) → j < n → element (arraySet id q n μ .store) (made μ) j ≡ null
-  unfolding elementsOf
-  new-null j l = ap (λ (o : Object). getD (elementsOf o) j null) new-array ∙ getD-replicate n j null null l
 
 same-dictionary : (id q n : ℕ) (μ : Floo.Machine) → arraySet id q n μ .dictionary ≡ μ .dictionary
 unfolding arraySet elementSet make change withStore
@@ -124,30 +149,19 @@ module _ {s e d l script : List ℕ} {depth h id after : ℕ} {m : Machine} {cs 
           → FirstCell cs₁ x size first
           → (I : At s e d l script (depth - 1) x (made μ) (open-first (A .parsed) L .3) r cs₁ next first (arraySet id q (count inner-nodes) μ) 0 inner-nodes)
           × Grown (A .rep .world) (I .rep .world)
-      unfolding names
+      unfolding names array-at
       inner-at {r} {x} {first} {cs₁} S free F =
           let low = array-low (A .rep) (A .array) in
           let n = count inner-nodes in
           let S′ = subst (λ n. SetsArray c n m cs r x cs₁) size-is S in
           let k = count later-nodes in
           let X = S′ .sets (A .rep) h k id q (A .cell k some-nodes) (first-null A k some-nodes) in
-          let all = new-long id q n μ low in
-          let both : Known μ (names inner-nodes ++ names later-nodes) = subst (λ ms. Known μ (names ms)) split (A .known) in (
-            record {
-              rep = X .0;
-              parsed = parsed-less;
-              inside = L .inside;
-              array = X .2;
-              cell = λ j e.
-                  let rank : length (elementsOf (objectAt (arraySet id q n μ .store) (made μ))) ≡ 0 + suc j = all ∙ omega (arith, e) in
-                  element-found (X .0) 0 j first (X .2) rank (F (omega (arith, size-is, e)));
-              long = all ∙ omega arith;
-              nulls = λ j l.
-                  let z : 0 + j ≡ j = omega arith in
-                  ap (λ i. element (arraySet id q n μ .store) (made μ) i) z ∙ new-null id q n μ low j l;
-              known = subst (λ (ds : List Floo.Slot). All (λ n. slotOf n ds < length ds) (names inner-nodes)) (sym (same-dictionary id q n μ)) (all-left (names inner-nodes) (names later-nodes) both);
-              room = omega (arith, free, size-is, A .room, inner-wanted);
-            },
+          let both : Known μ (names inner-nodes ++ names later-nodes) = subst (λ ms. Known μ (names ms)) split (A .known) in
+          let known : Known (arraySet id q n μ) (names inner-nodes) =
+          subst (λ (ds : List Floo.Slot). All (λ n. slotOf n ds < length ds) (names inner-nodes)) (sym (same-dictionary id q n μ))
+          (all-left (names inner-nodes) (names later-nodes) both) in
+          let F′ = subst (λ n. FirstCell cs₁ x n first) size-is F in (
+            array-at (X .0) (X .2) (new-array id q n μ low) F′ parsed-less (L .inside) known (omega (arith, free, size-is, A .room, inner-wanted)),
             X .1,
           )
 

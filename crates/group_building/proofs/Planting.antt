@@ -10,12 +10,13 @@ use lib.ListN.{length, set, take, drop, replicate, length-set, length-append, le
 use lib.Seq.{take-length, drop-length, set-getD, set-set, set-append-left, set-append-seam, set-at, getD-set-same, getD-append-seam, getD-at, take-suc-set, append-snoc}
 use Rattle.semantics.specs.Tokens.{Token}
 use Rattle.semantics.specs.Values.{Value, null, string, array, Object, elements, text}
-use Rattle.semantics.specs.Machine.{Machine, withStore, object, elementsOf, bytesOf, make, made, change}
+use Rattle.semantics.specs.Machine.{Machine, withDictionary, withStore, object, elementsOf, bytesOf, make, made, change}
+use Rattle.semantics.specs.Groups.{opened}
 use Rattle.store.specs.Rep.{isText, objectAt}
 use Rattle.store.proofs.Standing.{array-is}
 use Rattle.strings.specs.Strings.{stringFilled}
-use Rattle.groups.specs.Nodes.{Nodes, end, leaf, inner, leafValue, leafObjects, count, objects, values, news}
-use Rattle.groups.proofs.Trees.{news-length}
+use Rattle.groups.specs.Nodes.{Nodes, end, leaf, inner, leafValue, leafObjects, count, objects, values, news, names, internAll, grown, filled}
+use Rattle.groups.proofs.Trees.{news-length, nested, nested-store}
 use Rattle.construction.specs.Growth.{elementSet, arraySet, stringSet}
 use Rattle.group_building.specs.Building.{leafSet, planted}
 
@@ -209,3 +210,25 @@ pub planted-whole : (id : ℕ) (ns : Nodes) (μ : Machine)
 unfolding elementsOf
 planted-whole id ns μ low is =
     planted-is ns id 0 μ low (ap isText is) (ap (λ (o : Object). length (elementsOf o)) is ∙ length-replicate (count ns) null ∙ omega arith)
+
+-- ---- the definition's reading
+
+-- Where the group's names have slots and its array was made, with a null for each element, planting comes to the machine that the definition's reading of the group gives
+-- (`group-parsed`).
+pub planted-group : (ns : Nodes) (μ : Machine)
+    → planted (made μ) 0 ns (make (elements (replicate (count ns) null)) (withDictionary (internAll (names ns) (μ .dictionary)) μ)) ≡ nested ns μ
+unfolding made make filled grown opened change withStore withDictionary
+planted-group ns μ =
+    let s = μ .store in
+    let k = length s in
+    let blank : Object = elements (replicate (count ns) null) in
+    let d = internAll (names ns) (μ .dictionary) in
+    let ν = make blank (withDictionary d μ) in
+    let next : length (s ++ (blank ∷ [])) ≡ suc k = omega (arith, length-append s (blank ∷ [])) in
+    let o : Object = elements (values (suc k) ns) in
+    planted-whole k ns ν (omega (arith, next)) (getD-append-seam s blank [] (elements []))
+    ∙ ap (λ (t : List Object). withDictionary d (withStore t μ))
+    (ap (λ n. set (s ++ (blank ∷ [])) k (elements (values n ns)) ++ news n ns) next
+    ∙ ap (λ (t : List Object). t ++ news (suc k) ns) (set-append-seam s blank [] o)
+    ∙ append-assoc s (o ∷ []) (news (suc k) ns)
+    ∙ sym (nested-store ns μ))

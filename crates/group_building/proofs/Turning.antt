@@ -3,11 +3,11 @@
 -- Assumes nothing.
 use mathlib.Core.Path.{_≡_, refl, sym, ap, _∙_, subst}
 use mathlib.Core.Bool.{true, false}
-use mathlib.Core.List.{List, [], _∷_, _++_}
+use mathlib.Core.List.{List, _∷_, _++_}
 use Prim.Native.Nat.{ℕ, suc, _+_, _-_, _*_, _≤_, _<_}
 use native.Mathlib.Omega.{arith}
 use native.Mathlib.Numerals.{add-one}
-use lib.ListN.{length, getD, set, length-append, List·getD-append}
+use lib.ListN.{length, getD, set}
 use lib.Seq.{getD-set-other}
 use Rattle.semantics.specs.Tokens.{Token}
 use Rattle.semantics.specs.Values.{Value, null, array, Object, elements, cells}
@@ -29,7 +29,7 @@ use Rattle.groups.specs.Nodes.{Nodes, leaf, inner, isLeaf, leafValue, leafObjec
 use Rattle.groups.specs.Parsing.{Parsed}
 use Rattle.groups.proofs.Trees.{parsed-inside}
 use Rattle.construction.specs.Growth.{Grown, Extended, ElementAt, SameBut, elementSet, arraySet}
-use Rattle.construction.proofs.Holding.{grown-refl, grown-trans, extended-trans, grown-array, grown-element, array-low, next-element, element-extended}
+use Rattle.construction.proofs.Holding.{grown-refl, grown-trans, extended-trans, append-extended, grown-array, grown-element, array-low, next-element, element-extended}
 use Rattle.group_building.specs.Building.{leafSet, planted, Known, At, Ready, Builds, Readable, LeafIs, PieceAt, LeafAt, ReadyLeaf, PutsLeaf, ReadyOpen, Opens}
 use Rattle.group_building.specs.declared.Piece.{Piece}
 use Rattle.group_building.specs.declared.Piece.the-variants as piece
@@ -40,18 +40,10 @@ use Rattle.group_building.proofs.Opening.{all-left, all-right, first-in
 
 -- ---- one element set, and objects made
 
-more-extended : (store more : List Object) → Extended store (store ++ more)
-more-extended store more =
-    record {
-      longer = rw (length-append store more) (omega arith);
-      kinds = λ j l. ap isText (List·getD-append store more (elements []) j l);
-      lengths = λ j l. ap (λ (o : Object). length (elementsOf o)) (List·getD-append store more (elements []) j l);
-    }
-
 module _ (id q : ℕ) (v : Value) (more : List Object) (μ : Floo.Machine) (low : id < length (μ .store)) where
   restored-extended : isText (objectAt (μ .store) id) ≡ false → Extended (μ .store) (restored id (set (held id μ) q v) more μ .store)
   unfolding elementSet change object withStore
-  restored-extended kind = extended-trans (element-extended id q v μ low kind) (more-extended (set (μ .store) id (elements (set (held id μ) q v))) more)
+  restored-extended kind = extended-trans (element-extended id q v μ low kind) (append-extended (set (μ .store) id (elements (set (held id μ) q v))) more)
 
   restored-there : (r : ℕ) → (r ≡ q → ⊥) → element (restored id (set (held id μ) q v) more μ .store) id r ≡ element (μ .store) id r
   unfolding elementsOf

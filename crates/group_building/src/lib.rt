@@ -72,6 +72,18 @@ pub fn build(
     }
 }
 
+// The cell of an array's first element, if it has one: where its building starts.
+// Ruled out: a cell of an array that has none; the header taken for its first cell.
+pub fn first_cell(cells: &[u32], header: u32, size: usize) -> u32
+    requires { ⌜ (0 < size → HasCell (now cells) header 0) ⌝ }
+    ensures { λ r. ⌜ FirstCell (now (cells .entry)) header size r ⌝ }
+{
+    if size == 0 {
+        return 0;
+    }
+    heap::seek(cells, header, 0)
+}
+
 // The token of a group from `at` on.
 fn read_piece(script: &[u8], at: usize) -> Piece
     requires { ⌜ Readable (now script) at ⌝ }
@@ -171,15 +183,4 @@ fn open_group(
         machine: r,
         first: first,
     }
-}
-
-// The cell of element 0, if there is one.
-fn first_cell(cells: &[u32], header: u32, size: usize) -> u32
-    requires { ⌜ (0 < size → HasCell (now cells) header 0) ⌝ }
-    ensures { λ r. ⌜ FirstCell (now (cells .entry)) header size r ⌝ }
-{
-    if size == 0 {
-        return 0;
-    }
-    heap::seek(cells, header, 0)
 }

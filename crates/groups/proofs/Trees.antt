@@ -92,7 +92,7 @@ values-leaf t ns m =
     ap (λ k. values k ns) (sym e)
 
 -- The machine after an inner group.
-abbrev nested : Nodes → Machine → Machine
+abbrev pub nested : Nodes → Machine → Machine
 nested ms m = filled (made m) (values (made (opened m)) ms) (grown ms (opened m))
 
 made-opened : (m : Machine) → made (opened m) ≡ suc (made m)
@@ -100,7 +100,7 @@ unfolding opened make made withStore
 made-opened m = omega (arith, length-append (m .store) (elements [] ∷ []))
 
 -- Its objects: what there was, the group, and what is inside.
-nested-store : (ms : Nodes) (m : Machine) → nested ms m .store ≡ m .store ++ (elements (values (suc (made m)) ms) ∷ news (suc (made m)) ms)
+pub nested-store : (ms : Nodes) (m : Machine) → nested ms m .store ≡ m .store ++ (elements (values (suc (made m)) ms) ∷ news (suc (made m)) ms)
 unfolding filled grown opened make change withStore withDictionary made
 nested-store ms m =
     let s = m .store in

@@ -18,7 +18,7 @@ use Rattle.strings.specs.Strings.{CurrentSize}
 -- ---- on lists
 
 -- The first q bytes are all current.
-abbrev Scans : List ℕ → ℕ → Type 0
+abbrev pub Scans : List ℕ → ℕ → Type 0
 Scans l q = length (current l) ≡ q + length (current (drop q l))
 
 current-zero : (b : ℕ) (l : List ℕ) → b ≡ 0 → length (current (b ∷ l)) ≡ 0
@@ -29,19 +29,19 @@ current-more : (b : ℕ) (l : List ℕ) → (b ≡ 0 → ⊥) → length (curren
 unfolding current
 current-more b l z = rw (ne-eqb b 0 z, current) refl
 
-scans-zero : (l : List ℕ) (q : ℕ) → Scans l q → q < length l → getD l q 0 ≡ 0 → q ≡ length (current l)
+pub scans-zero : (l : List ℕ) (q : ℕ) → Scans l q → q < length l → getD l q 0 ≡ 0 → q ≡ length (current l)
 scans-zero l q h inside z =
     let here = ap (λ (t : List ℕ). length (current t)) (drop-cons l q 0 inside) ∙ current-zero (getD l q 0) (drop (suc q) l) z in
     omega (arith, h, here)
 
-scans-more : (l : List ℕ) (q : ℕ) → Scans l q → q < length l → (getD l q 0 ≡ 0 → ⊥) → Scans l (q + 1)
+pub scans-more : (l : List ℕ) (q : ℕ) → Scans l q → q < length l → (getD l q 0 ≡ 0 → ⊥) → Scans l (q + 1)
 scans-more l q h inside z =
     let here = ap (λ (t : List ℕ). length (current t)) (drop-cons l q 0 inside) ∙ current-more (getD l q 0) (drop (suc q) l) z in
     let next : q + 1 ≡ suc q = omega arith in
     let same = ap (λ k. length (current (drop k l))) next in
     omega (arith, h, here, same)
 
-scans-all : (l : List ℕ) (q : ℕ) → Scans l q → length l ≤ q → q ≡ length (current l)
+pub scans-all : (l : List ℕ) (q : ℕ) → Scans l q → length l ≤ q → q ≡ length (current l)
 unfolding current
 scans-all l q h past =
     let here = ap (λ (t : List ℕ). length (current t)) (drop-of-length-le l {i = q} past) in

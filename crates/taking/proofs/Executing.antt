@@ -1,13 +1,13 @@
 -- An executable name by its slot: it is undefined where the slot's binding has the tag of none, or where no slot has the name; else its binding is pending,
 -- where the execution stack has room.
 -- Assumes nothing.
-use mathlib.Core.Path.{_≡_, refl, sym, ap, _∙_, subst}
+use mathlib.Core.Path.{_≡_, refl, ap, _∙_}
 use mathlib.Core.Bool.{Bool}
 use mathlib.Core.List.{List}
 use mathlib.Core.Option.{Option, none, some}
 use Prim.Native.Nat.{ℕ, _+_, _*_, _/_, _≤_, _<_}
 use native.Mathlib.Omega.{arith}
-use lib.ListN.{length, getD, getElem?}
+use lib.ListN.{length, getD}
 use Rattle.semantics.specs.Values.{Value, ok, fault, _>>=_, given}
 use Rattle.semantics.specs.Machine as Floo
 use Rattle.semantics.specs.Machine.{pending, withExec, enter, lookup}
@@ -15,15 +15,15 @@ use Rattle.semantics.specs.Steps.{roomFor}
 use Rattle.semantics.specs.declared.Error.the-variants.{Undefined, ExecStackOverflow}
 use Rattle.store.specs.Rep.{Stands, a-null, an-integer, a-boolean, a-mark, an-operator, a-literal, an-executable, a-string, an-array, a-procedure}
 use Rattle.machine.specs.Places.{keys}
-use Rattle.machine.specs.Rep.{Rep, Is, IsIn, World, Bound, unbound, bound}
+use Rattle.machine.specs.Rep.{Is, World, Bound, unbound, bound}
 use Rattle.machine.specs.Room.{lent, fitted}
 use Rattle.machine.specs.declared.Machine.{Machine}
 use Rattle.machine.specs.declared.Did.{Did}
 use Rattle.machine.specs.declared.Did.the-variants.{Ok, Fail}
 use Rattle.machine.proofs.Rooms.{fitted-fails, room-exec, rep-fits, dictionary-fits, frames-length}
-use Rattle.dictionary.specs.Names.{slotOf, Finds}
-use Rattle.dictionary.specs.Bindings.{HasBinding, BoundFrames, PendsBinding}
-use Rattle.dictionary.proofs.Lookups.{found-key, lookup-missing}
+use Rattle.dictionary.specs.Names.{Finds}
+use Rattle.dictionary.specs.Bindings.{BoundFrames, PendsBinding}
+use Rattle.dictionary.proofs.Lookups.{lookup-missing, find-key, find-none}
 use Rattle.dictionary.proofs.Rebinding.{slot-room, binding-at}
 use Rattle.taking.specs.Effects.{executableTaken}
 use Rattle.taking.specs.Promises.{Bindings, NamedBindings, DoesBinding, DoesNamed}
@@ -102,20 +102,14 @@ module _ {k : ℕ} {m : Machine} {e d c : List ℕ} where
 
 module _ {n : List ℕ} {k : ℕ} {m : Machine} {e d c : List ℕ} (F : Finds m d n k) where
   module _ (low : k < m .names) where
-    key-found : {s l : List ℕ} {μ : Floo.Machine} → Rep m s e d c l μ → getElem? (keys μ) k ≡ some n
-    key-found {s} {l} {μ} R =
-        let is = F .says s e c l μ R in
-        subst (λ i. getElem? (keys μ) i ≡ some n) (sym is) (found-key n (μ .dictionary) (omega (arith, is, low, R .names)))
-
     pub name-there : Bindings m e d c → NamedBindings k m e d c
-    name-there (s, l, μ, R) = (s, l, μ, n, key-found R, R)
+    name-there (s, l, μ, R) = (s, l, μ, n, find-key R F low, R)
 
     pub name-taken : {e′ c′ : List ℕ} {r : Did} → DoesNamed k m e e′ d c c′ r → DoesBinding (executableTaken n) m e e′ d c c′ r
-    name-taken D = record { does = λ s l μ R. D .does s l μ R n (key-found R) }
+    name-taken D = record { does = λ s l μ R. D .does s l μ R n (find-key R F low) }
 
   pub name-missing : m .names ≤ k → k ≤ m .names → DoesBinding (executableTaken n) m e e d c c (Fail Undefined)
   name-missing high low = record {
     does = λ s l μ R.
-        let all : slotOf n (μ .dictionary) ≡ length (μ .dictionary) = omega (arith, F .says s e c l μ R, R .names) in
-        (fitted-fails (lent s e d c l) (executableTaken n) μ (undefined n μ (lookup-missing n (μ .dictionary) all)), (refl, refl));
+        (fitted-fails (lent s e d c l) (executableTaken n) μ (undefined n μ (lookup-missing n (μ .dictionary) (find-none R F high low))), (refl, refl));
   }

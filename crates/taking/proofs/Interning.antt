@@ -1,17 +1,15 @@
 -- A literal name by its slot: where it has none, the dictionary's room is tested before the stack's, and the new slot is its own.
 -- Assumes nothing.
-use mathlib.Core.Path.{_≡_, refl, sym, ap, _∙_, subst}
+use mathlib.Core.Path.{_≡_, refl, sym, ap, subst}
 use mathlib.Core.Bool.{false}
 use mathlib.Core.List.{List, _∷_}
 use mathlib.Core.Option.{some}
 use Prim.Native.Nat.{ℕ, _+_, _*_, _/_, _≤_, _<_}
 use native.Mathlib.Omega.{arith}
 use lib.ListN.{length, getElem?}
-use borrow.Author.Tests.{lt-leb}
-use Rattle.semantics.specs.Values.{name, ok, fault, _>>=_, check}
+use Rattle.semantics.specs.Values.{name, _>>=_}
 use Rattle.semantics.specs.Machine as Floo
 use Rattle.semantics.specs.Machine.{withStack, withDictionary, push, intern, slotted}
-use Rattle.semantics.specs.Steps.{Limits, roomFor}
 use Rattle.semantics.specs.declared.Error.the-variants.{LimitCheck, StackOverflow}
 use Rattle.machine.specs.Places.{keys}
 use Rattle.machine.specs.Rep.{Rep}
@@ -21,13 +19,9 @@ use Rattle.machine.specs.declared.Did.the-variants.{Ok, Fail}
 use Rattle.machine.proofs.Items.{items-length}
 use Rattle.machine.proofs.Rooms.{room-passes, room-stack, stack-fits, exec-fits, dictionary-fits, log-fits}
 use Rattle.dictionary.specs.Names.{slotOf, Finds, Adds}
-use Rattle.dictionary.proofs.Lookups.{found-key, slotted-found, slotted-missing, slotted-slot, slotted-has}
+use Rattle.dictionary.proofs.Lookups.{found-key, slotted-found, slotted-missing, slotted-slot, slotted-has, find-has, find-key, find-none, room-slots}
 use Rattle.taking.specs.Effects.{literalTaken}
 use Rattle.taking.specs.Promises.{Names, DoesNames, PushesName}
-
-room-dictionary : (limits : Limits) (before after : Floo.Machine) → limits .dictionarySlots < length (after .dictionary) → roomFor limits before after ≡ fault LimitCheck
-unfolding roomFor check _>>=_
-room-dictionary limits before after full = rw (lt-leb _ _ full) refl
 
 pub names-room : {m : Machine} {s d : List ℕ} → Names m s d → (2 * m .depth ≤ length s) × (length s ≤ 513) × (12 * m .names ≤ length d) × (length d ≤ 6155)
 names-room (e, c, l, μ, R) = (R .stack-room, R .stack-few, R .dict-room, R .dict-few)
@@ -36,11 +30,8 @@ module _ {n : List ℕ} {k : ℕ} {m : Machine} {s d : List ℕ} (F : Finds m d 
   -- ---- the name has a slot
 
   module _ (low : k < m .names) where
-    has : {e c l : List ℕ} {μ : Floo.Machine} → Rep m s e d c l μ → slotOf n (μ .dictionary) < length (μ .dictionary)
-    has {e} {c} {l} {μ} R = omega (arith, F .says s e c l μ R, low, R .names)
-
     unchanged : {e c l : List ℕ} {μ : Floo.Machine} → Rep m s e d c l μ → slotted n (μ .dictionary) ≡ μ .dictionary
-    unchanged {μ = μ} R = slotted-found n (μ .dictionary) (has R)
+    unchanged {μ = μ} R = slotted-found n (μ .dictionary) (find-has R F low)
 
     pub known-over : length s < 2 * m .depth + 2 → DoesNames (literalTaken n) m s s d d (Fail StackOverflow)
     unfolding literalTaken fitted lent push intern withStack withDictionary _>>=_
@@ -55,9 +46,7 @@ module _ {n : List ℕ} {k : ℕ} {m : Machine} {s d : List ℕ} (F : Finds m d 
     unfolding literalTaken fitted lent push intern withStack withDictionary _>>=_
     known-done {r} {s′} P long = record {
       does = λ e c l μ R.
-          let is = F .says s e c l μ R in
-          let key : getElem? (keys μ) k ≡ some n = subst (λ i. getElem? (keys μ) i ≡ some n) (sym is) (found-key n (μ .dictionary) (has R)) in
-          let after = subst (λ x. Rep r s′ e d c l (push (name false n) (withDictionary x μ))) (sym (unchanged R)) (P .moves e d c l μ R n key) in
+          let after = subst (λ x. Rep r s′ e d c l (push (name false n) (withDictionary x μ))) (sym (unchanged R)) (P .moves e d c l μ R n (find-key R F low)) in
           let stack : length (name false n ∷ μ .stack) ≤ length s / 2 = omega (arith, stack-fits after) in
           (push (name false n) (intern n μ), room-passes (lent s e d c l) μ (push (name false n) (intern n μ)) (dictionary-fits after) (exec-fits R) stack refl (log-fits R), after);
     }
@@ -65,20 +54,17 @@ module _ {n : List ℕ} {k : ℕ} {m : Machine} {s d : List ℕ} (F : Finds m d 
   -- ---- it takes the next one
 
   module _ (high : m .names ≤ k) (most : k ≤ m .names) where
-    missing : {e c l : List ℕ} {μ : Floo.Machine} → Rep m s e d c l μ → slotOf n (μ .dictionary) ≡ length (μ .dictionary)
-    missing {e} {c} {l} {μ} R = omega (arith, F .says s e c l μ R, high, most, R .names)
-
     pub new-full : length d < 12 * m .names + 12 → DoesNames (literalTaken n) m s s d d (Fail LimitCheck)
     unfolding literalTaken fitted lent push intern withStack withDictionary _>>=_
     new-full full = record {
       does = λ e c l μ R.
-          let many : length d / 12 < length (slotted n (μ .dictionary)) = omega (arith, slotted-missing n (μ .dictionary) (missing R), R .names) in
-          (room-dictionary (lent s e d c l) μ (push (name false n) (intern n μ)) many, (refl, refl));
+          let many : length d / 12 < length (slotted n (μ .dictionary)) = omega (arith, slotted-missing n (μ .dictionary) (find-none R F high most), R .names) in
+          (room-slots (lent s e d c l) μ (push (name false n) (intern n μ)) many, (refl, refl));
     }
 
     module _ (room : 12 * m .names + 12 ≤ length d) where
       few-names : {e c l : List ℕ} {μ : Floo.Machine} → Rep m s e d c l μ → length (slotted n (μ .dictionary)) ≤ length d / 12
-      few-names {μ = μ} R = omega (arith, slotted-missing n (μ .dictionary) (missing R), R .names)
+      few-names {μ = μ} R = omega (arith, slotted-missing n (μ .dictionary) (find-none R F high most), R .names)
 
       pub new-over : length s < 2 * m .depth + 2 → DoesNames (literalTaken n) m s s d d (Fail StackOverflow)
       unfolding literalTaken fitted lent push intern withStack withDictionary _>>=_
@@ -96,7 +82,7 @@ module _ {n : List ℕ} {k : ℕ} {m : Machine} {s d : List ℕ} (F : Finds m d 
       unfolding literalTaken fitted lent push intern withStack withDictionary _>>=_
       new-done A P long = record {
         does = λ e c l μ R.
-            let is : slotOf n (μ .dictionary) ≡ m .names = omega (arith, missing R, R .names) in
+            let is : slotOf n (μ .dictionary) ≡ m .names = omega (arith, find-none R F high most, R .names) in
             let at : slotOf n (slotted n (μ .dictionary)) ≡ k = omega (arith, slotted-slot n (μ .dictionary), F .says s e c l μ R) in
             let key : getElem? (keys (intern n μ)) k ≡ some n = subst (λ i. getElem? (keys (intern n μ)) i ≡ some n) at (found-key n (slotted n (μ .dictionary)) (slotted-has n (μ .dictionary))) in
             let after = P .moves e _ c l (intern n μ) (A .moves s e c l μ R is) n key in

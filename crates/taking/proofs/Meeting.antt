@@ -2,12 +2,12 @@
 -- are not.
 -- Assumes nothing.
 use mathlib.Core.Path.{_≡_, refl, sym, ap, _∙_, subst}
-use mathlib.Core.Bool.{Bool, true, false}
-use mathlib.Core.List.{List, [], _∷_, _++_}
-use Prim.Native.Nat.{ℕ, _+_, _-_, _≤_, _<_}
+use mathlib.Core.Bool.{Bool}
+use mathlib.Core.List.{List, [], _++_}
+use Prim.Native.Nat.{ℕ, _+_, _-_, _≤_}
 use native.Mathlib.Omega.{arith}
-use lib.ListN.{length, take, drop}
-use Rattle.semantics.specs.Values.{Result, ok, fault}
+use lib.ListN.{length, drop}
+use Rattle.semantics.specs.Values.{ok, fault}
 use Rattle.semantics.specs.Tokens.{Token, Lexeme, lex, lexeme}
 use Rattle.semantics.specs.Groups.{skip}
 use Rattle.semantics.specs.declared.Error.{Error}

@@ -2,19 +2,19 @@
 -- Assumes nothing.
 use mathlib.Core.Path.{_≡_, refl, sym, ap, _∙_, subst}
 use mathlib.Core.List.{List, [], _∷_, _++_, append-nil, append-assoc}
-use Prim.Native.Nat.{ℕ, _+_, _-_, _*_, _/_, _≤_, _<_}
+use Prim.Native.Nat.{ℕ, _+_, _-_, _*_, _≤_, _<_}
 use native.Mathlib.Omega.{arith}
 use lib.ListN.{length, take, drop, length-take}
 use Rattle.semantics.specs.Machine as Floo
 use Rattle.semantics.specs.Machine.{Slot, withDictionary, intern, slotted}
-use Rattle.semantics.specs.ListLaws.{All, nil, cons, all-append}
+use Rattle.semantics.specs.ListLaws.{nil, cons, all-append}
 use Rattle.groups.specs.Nodes.{internAll}
 use Rattle.groups.proofs.Trees.{intern-append}
 use Rattle.machine.specs.Rep.{Rep}
 use Rattle.machine.specs.declared.Machine.{Machine}
-use Rattle.dictionary.specs.Names.{slotOf, Finds, Kept, Adds}
-use Rattle.dictionary.proofs.Lookups.{slotted-found, slotted-missing, slotted-has, slotted-grows, still-has}
-use Rattle.taking.specs.Flat.{Flat, none, Group, Dictionary, HaveSlots, SameBut, withNames, NamedAs, AddsNames, AddsName, Ahead, MetAt}
+use Rattle.dictionary.specs.Names.{Finds, Kept, Adds}
+use Rattle.dictionary.proofs.Lookups.{slotted-found, slotted-missing, slotted-has, slotted-grows, still-has, find-has, find-none}
+use Rattle.taking.specs.Flat.{Flat, Group, Dictionary, HaveSlots, SameBut, withNames, NamedAs, AddsNames, AddsName, Ahead, MetAt}
 use Rattle.taking.specs.declared.Named.{Named}
 use Rattle.taking.specs.declared.Named.the-variants.{Full, Done}
 use Rattle.taking.specs.declared.Met.{Met}
@@ -33,36 +33,30 @@ module _ {n : List ℕ} {k : ℕ} {m : Machine} {d : List ℕ} (F : Finds m d n 
   pub one-known : k < m .names → AddsName n m d d (Done m)
   unfolding internAll withDictionary
   one-known low = record {
-    adds = λ s e c l μ R.
-        let has : slotOf n (μ .dictionary) < length (μ .dictionary) = omega (arith, F .says s e c l μ R, low, R .names) in
-        (
-          subst (λ x. Rep m s e d c l (withDictionary x μ)) (sym (slotted-found n (μ .dictionary) has)) R,
-          cons (slotted-has n (μ .dictionary)) nil,
-          record { depth = refl; frames = refl; lists = refl },
-        );
+    adds = λ s e c l μ R. (
+      subst (λ x. Rep m s e d c l (withDictionary x μ)) (sym (slotted-found n (μ .dictionary) (find-has R F low))) R,
+      cons (slotted-has n (μ .dictionary)) nil,
+      record { depth = refl; frames = refl; lists = refl },
+    );
     kept = kept-all;
   }
 
   module _ (high : m .names ≤ k) (most : k ≤ m .names) where
-    missing : {s e c l : List ℕ} {μ : Floo.Machine} → Rep m s e d c l μ → slotOf n (μ .dictionary) ≡ length (μ .dictionary)
-    missing {s} {e} {c} {l} {μ} R = omega (arith, F .says s e c l μ R, high, most, R .names)
-
     pub one-full : length d < 12 * m .names + 12 → AddsName n m d d Full
     unfolding internAll
     one-full full = record {
-      adds = λ s e c l μ R. omega (arith, full, slotted-missing n (μ .dictionary) (missing R), R .names);
+      adds = λ s e c l μ R. omega (arith, full, slotted-missing n (μ .dictionary) (find-none R F high most), R .names);
       kept = kept-all;
     }
 
     pub one-added : {r : Machine} {d′ : List ℕ} → Adds m r d d′ n → SameBut m r → AddsName n m d d′ (Done r)
     unfolding internAll intern
     one-added A same = record {
-      adds = λ s e c l μ R.
-          (
-            A .moves s e c l μ R (omega (arith, missing R, R .names)),
-            cons (slotted-has n (μ .dictionary)) nil,
-            same,
-          );
+      adds = λ s e c l μ R. (
+        A .moves s e c l μ R (omega (arith, find-none R F high most, R .names)),
+        cons (slotted-has n (μ .dictionary)) nil,
+        same,
+      );
       kept = A .kept;
     }
 
@@ -131,8 +125,7 @@ module _ {script : List ℕ} {from end : ℕ} {m : Machine} {d : List ℕ} {at :
   module _ (inside : at < end) where
     pub other-next : {x : Met} {next : ℕ} → MetAt script at x → x ≡ Other next → (at < next) × Adding script from end m d next r d′
     other-next {next = next} M q =
-        let N = subst (MetAt script at) q M in
-        (
+        let N = subst (MetAt script at) q M in (
           N .0,
           record {
             some = A .some;
@@ -209,8 +202,7 @@ module _ {script : List ℕ} {from end : ℕ} {m : Machine} {d : List ℕ} {at :
                     stands = λ s e₀ c l μ R.
                         let S = L .stands s e₀ c l μ R in
                         let Y = now s e₀ c l (withNames (L .done) μ) (S .0) in
-                        let same = sym (intern-append (L .done) (word ∷ []) (μ .dictionary)) in
-                        (
+                        let same = sym (intern-append (L .done) (word ∷ []) (μ .dictionary)) in (
                           subst (λ D. Rep r′ s e₀ d″ c l (withDictionary D μ)) same (Y .0),
                           subst (HaveSlots (L .done ++ (word ∷ []))) same (all-append (have-more word (internAll (L .done) (μ .dictionary)) (S .1)) (Y .1)),
                         );
@@ -222,8 +214,7 @@ module _ {script : List ℕ} {from end : ℕ} {m : Machine} {d : List ℕ} {at :
     adds = λ ns f s e c l μ R.
         let L = A .splits ns f in
         let all : L .done ≡ ns = sym (L .split ∙ ap (λ t. L .done ++ t) (flat-done script (L .left) over) ∙ append-nil (L .done)) in
-        let S = L .stands s e c l μ R in
-        (
+        let S = L .stands s e c l μ R in (
           subst (λ x. Rep r s e d′ c l (withNames x μ)) all (S .0),
           subst (λ x. HaveSlots x (internAll x (μ .dictionary))) all (S .1),
           A .same,

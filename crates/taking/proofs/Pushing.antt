@@ -3,19 +3,17 @@
 use mathlib.Core.Path.{_≡_, refl, sym, subst}
 use mathlib.Core.Bool.{false}
 use mathlib.Core.List.{List, [], _∷_}
-use mathlib.Core.Option.{some}
 use Prim.Native.Nat.{ℕ, _+_, _*_, _/_, _≤_, _<_}
 use native.Mathlib.Omega.{arith}
 use native.Mathlib.Numerals.{add-one}
 use lib.ListN.{length, getD, set}
-use Rattle.semantics.specs.Values.{Value, integer, null, name, ok, _>>=_}
+use Rattle.semantics.specs.Values.{integer, null, name, _>>=_}
 use Rattle.semantics.specs.Machine as Floo
 use Rattle.semantics.specs.Machine.{withStack, push}
 use Rattle.semantics.specs.ListLaws.{nil, cons}
 use Rattle.semantics.specs.declared.Error.the-variants.{StackOverflow}
 use Rattle.store.specs.Rep.{a-literal}
 use Rattle.machine.specs.Operands.{an-integer, a-null, Pushes}
-use Rattle.machine.specs.Places.{keys}
 use Rattle.machine.specs.Rep.{Rep, IsIn, Items, item}
 use Rattle.machine.specs.Room.{lent, fitted, DoesStack}
 use Rattle.machine.specs.declared.Machine.{Machine}

@@ -4,9 +4,9 @@ use mathlib.Core.Path.{_≡_, refl, sym, ap, _∙_, subst}
 use mathlib.Core.List.{List, [], _∷_, _++_, append-nil}
 use Prim.Native.Nat.{ℕ, _+_, _*_, _/_, _≤_, _<_}
 use native.Mathlib.Omega.{arith}
-use lib.ListN.{length, drop, getD, set, replicate, length-replicate, drop-of-length-le}
+use lib.ListN.{length, drop, set, replicate, length-replicate, drop-of-length-le}
 use lib.Seq.{getD-append-seam, set-append-seam}
-use Rattle.semantics.specs.Values.{string, null, elements, Object, text, ok, _>>=_, cells}
+use Rattle.semantics.specs.Values.{string, null, elements, text, _>>=_, cells}
 use Rattle.semantics.specs.Machine as Floo
 use Rattle.semantics.specs.Machine.{withStack, withStore, push, object, bytesOf, make, made, change}
 use Rattle.semantics.specs.Held.{sumOf}
@@ -15,14 +15,14 @@ use Rattle.token.specs.Strings.{StringAt}
 use Rattle.token.proofs.Escapes.{same-string}
 use Rattle.groups.proofs.Judging.{string-shorter}
 use Rattle.machine.specs.Rep.{Rep, Somewhere, MovesHeap}
-use Rattle.machine.specs.Room.{lent, fitted, DoesHeap}
+use Rattle.machine.specs.Room.{lent, fitted}
 use Rattle.machine.specs.declared.Machine.{Machine}
 use Rattle.machine.specs.declared.Did.the-variants.{Ok, Fail}
 use Rattle.machine.proofs.Items.{items-length}
 use Rattle.machine.proofs.Rooms.{room-stack, exec-fits, dictionary-fits}
 use Rattle.elements.specs.Elements.{freeCells, named, itemId, HasPlain, SomewhereThat, stringMade}
 use Rattle.elements.proofs.Vacancy.{makes-heap, full-heap}
-use Rattle.strings.specs.Strings.{HasBytes, Fills, Filled, bytesFilled}
+use Rattle.strings.specs.Strings.{Fills, Filled, bytesFilled}
 use Rattle.taking.specs.Effects.{stringTaken}
 use Rattle.taking.specs.Promises.{StringOf, PushesWords, DoesString}
 use Rattle.taking.proofs.Pushing.{null-words}

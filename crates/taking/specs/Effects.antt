@@ -1,6 +1,6 @@
 -- What a script token other than a brace group comes to in a step, the test of room aside.
 -- Assumes nothing.
-use mathlib.Core.Bool.{true, false}
+use mathlib.Core.Bool.{false}
 use mathlib.Core.List.{List}
 use Prim.Native.Nat.{ℕ}
 use Rattle.semantics.specs.Values.{Result, ok, _>>=_, given, integer, name, string, text}

@@ -7,7 +7,7 @@ use lib.ListN.{length, take, drop}
 use Rattle.semantics.specs.Tokens.{Token}
 use Rattle.semantics.specs.Groups.{skip}
 use Rattle.semantics.specs.Machine as Floo
-use Rattle.semantics.specs.Machine.{withDictionary, slotted}
+use Rattle.semantics.specs.Machine.{withDictionary}
 use Rattle.semantics.specs.ListLaws.{All}
 use Rattle.token.specs.Lexing.{Lexes}
 use Rattle.groups.specs.Nodes.{leafNames, internAll}

@@ -9,6 +9,8 @@ ghost use Rattle.machine.specs.Room.{DoesStack};
 ghost use Rattle.taking.specs.Effects.{integerTaken, literalTaken, executableTaken};
 ghost use Rattle.taking.specs.Promises.{Bindings, NamedBindings, Names, StringOf, DoesBinding, DoesNamed, DoesNames, DoesString, PushesWords, PushesName};
 ghost use Rattle.taking.specs.Flat.{Dictionary, Group, Ahead, AddsNames, AddsName, MetAt};
+use dictionary::BINDING;
+use dictionary::SLOT;
 use machine::Did;
 use machine::Machine;
 use machine::TAG_INTEGER;
@@ -18,11 +20,6 @@ use machine::TAG_UNBOUND;
 use semantics::Error;
 use token::Lexed;
 use token::Token;
-
-// The words of a dictionary slot, and the tag of its binding among them.
-const SLOT: usize = 12;
-
-const BINDING: usize = 9;
 
 // What giving slots to names came to: the dictionary has no room for them all, or all have one.
 pub enum Named {
@@ -117,13 +114,7 @@ pub fn take_executable(
 }
 
 // The same of a name whose slot is known.
-pub fn take_name(
-    m: Machine,
-    exec: &mut [u32],
-    dict: &[u32],
-    cells: &mut [u32],
-    slot: usize,
-) -> Did
+pub fn take_name(m: Machine, exec: &mut [u32], dict: &[u32], cells: &mut [u32], slot: usize) -> Did
     requires { ⌜ NamedBindings slot m (now exec) (now dict) (now cells) ⌝ }
     ensures { λ r. ⌜ DoesNamed slot m (now (exec .entry)) (now (exec .exit)) (now (dict .entry)) (now (cells .entry)) (now (cells .exit)) r ⌝ }
 {

@@ -1,3 +1,5 @@
+-- `add_names` meets its contract: the loop keeps `Adding`, what the names that are done come to. The measure is what is left of the group.
+-- Assumes nothing.
 use Rattle.taking.proofs.Naming.{Adding, begin, ahead, stands-now, other-next, name-few, part-short, part-named, names-full, name-next, names-done}
 use mathlib.Core.Path.{_∙_}
 use Prim.Native.Nat.{_-_}
@@ -5,10 +7,6 @@ use native.Mathlib.Omega.{arith}
 use borrow.Author.Needs.{needs}
 use Rattle.taking.proofs.add_names.Statement.{statement}
 use Rattle.taking.proofs.add_names.Tie as tie
-use Rattle.taking.proofs.add_names.Reads as reads
-use Rattle.taking.proofs.add_names.Lts as lts
-use Rattle.taking.proofs.add_name.Reads as add-name-reads
-use Rattle.taking.proofs.meet.Reads as meet-reads
 
 abbrev Inv-loop : tie.InvT-loop
 Inv-loop dict₀ script from end r₀ at₀ dict r at = Adding script from end r₀ dict₀ at r dict
@@ -16,79 +14,105 @@ Inv-loop dict₀ script from end r₀ at₀ dict r at = Adding script from end r
 abbrev μ-loop : tie.MeasureT-loop
 μ-loop dict₀ script from end r₀ at₀ dict r at = end - at
 
--- src/lib.rt:148:5
 loop-holds : tie.Need-loop-holds Inv-loop μ-loop
-loop-holds c = begin (c .before .before .pre .0) (c .before .before .pre .1)
+loop-holds c =
+    let start = c .before .before in
+    begin (start .pre .0) (start .pre .1)
 
--- src/lib.rt:149:15
 meet-requires : tie.Need-meet-requires Inv-loop μ-loop
 meet-requires c κs = ahead (c .before .loop .inv) (c .loop-test .taken)
 
--- src/lib.rt:150:23
 enum-known-start : tie.Need-enum-known-start Inv-loop μ-loop
 enum-known-start c = c .match .keys1
 
--- src/lib.rt:151:62
 add-add-name : tie.Need-add-add-name Inv-loop μ-loop
 add-add-name c = omega (arith, name-few (c .before .before .before .before .before .before .loop .inv) (c .before .before .before .before .before .loop-test .taken) (c .before .before .before .before .meet .ensures) (c .before .before .start .given .1) .1)
 
--- src/lib.rt:151:47
 sub-add-name : tie.Need-sub-add-name Inv-loop μ-loop
 sub-add-name c = search needs
 
--- src/lib.rt:151:47
 part-add-name-start : tie.Need-part-add-name-start Inv-loop μ-loop
 part-add-name-start c = search needs
 
--- src/lib.rt:151:47
 part-add-name-end : tie.Need-part-add-name-end Inv-loop μ-loop
-part-add-name-end c = name-few (c .before .before .before .before .before .before .loop .inv) (c .before .before .before .before .before .loop-test .taken) (c .before .before .before .before .meet .ensures) (c .before .before .start .given .1) .1
+part-add-name-end c =
+    let at-start = c .before .before in
+    let at-meet = at-start .before .before in
+    let at-loop-test = at-meet .before in
+    let turn = at-loop-test .before in
+    name-few (turn .loop .inv) (at-loop-test .loop-test .taken) (at-meet .meet .ensures) (at-start .start .given .1) .1
 
--- src/lib.rt:151:21
 add-name-requires : tie.Need-add-name-requires Inv-loop μ-loop
-add-name-requires c κs = (part-short _ _ _ (name-few (c .before .before .before .before .before .before .before .loop .inv) (c .before .before .before .before .before .before .loop-test .taken) (c .before .before .before .before .before .meet .ensures) (c .before .before .before .start .given .1) .0), stands-now (c .before .before .before .before .before .before .before .loop .inv))
+add-name-requires c κs =
+    let at-start = c .before .before .before in
+    let at-meet = at-start .before .before in
+    let at-loop-test = at-meet .before in
+    let turn = at-loop-test .before in
+    (part-short _ _ _ (name-few (turn .loop .inv) (at-loop-test .loop-test .taken) (at-meet .meet .ensures) (at-start .start .given .1) .0), stands-now (turn .loop .inv))
 
--- src/lib.rt:152:33
 enum-known-named : tie.Need-enum-known-named Inv-loop μ-loop
 enum-known-named c = c .match2 .keys1
 
--- src/lib.rt:153:21
 enum-told : tie.Need-enum-told Inv-loop μ-loop
 enum-told c = c .match2 .keys2
 
--- src/lib.rt:153:21
 same-length : tie.Need-same-length Inv-loop μ-loop
-same-length c = c .before .before .before .before .add-name .kept .1 .0 ∙ c .before .before .before .before .before .before .before .before .before .before .before .before .loop .inv .long
+same-length c =
+    let at-add-name = c .before .before .before .before in
+    let turn = at-add-name .before .before .before .before .before .before .before .before in
+    at-add-name .add-name .kept .1 .0 ∙ turn .loop .inv .long
 
--- src/lib.rt:153:21
 returns : tie.Need-returns Inv-loop μ-loop
-returns c = names-full (c .before .before .before .before .before .before .before .before .before .before .before .before .loop .inv) (c .before .before .before .before .before .before .before .before .before .before .before .loop-test .taken) (c .before .before .before .before .before .before .before .before .before .before .meet .ensures) (c .before .before .before .before .before .before .before .before .start .given .1) (part-named (c .before .before .before .before .before .before .before .before .before .before .before .before .before .before .before .args .script .now) (c .before .before .before .before .before .before .before .before .start .given .0 .0) (c .before .before .before .before .before .before .before .before .start .given .0 .1 .0) (c .before .before .before .before .add-name .ensures)) (c .before .before .before .before .add-name .kept .1 .0) (c .enum-told .given .1)
+returns c =
+    let at-add-name = c .before .before .before .before in
+    let at-start = at-add-name .before .before .before .before in
+    let at-meet = at-start .before .before in
+    let at-loop-test = at-meet .before in
+    let turn = at-loop-test .before in
+    let start = turn .before .before .before in
+    names-full (turn .loop .inv) (at-loop-test .loop-test .taken) (at-meet .meet .ensures) (at-start .start .given .1) (part-named (start .args .script .now) (at-start .start .given .0 .0) (at-start .start .given .0 .1 .0) (at-add-name .add-name .ensures)) (at-add-name .add-name .kept .1 .0) (c .enum-told .given .1)
 
--- src/lib.rt:148:5
 loop-less : tie.Need-loop-less Inv-loop μ-loop
-loop-less c = omega (arith, c .before .before .before .before .before .before .before .before .before .before .before .before .loop-test .taken, name-few (c .before .before .before .before .before .before .before .before .before .before .before .before .before .loop .inv) (c .before .before .before .before .before .before .before .before .before .before .before .before .loop-test .taken) (c .before .before .before .before .before .before .before .before .before .before .before .meet .ensures) (c .before .before .before .before .before .before .before .before .before .start .given .1) .2)
+loop-less c =
+    let at-start = c .before .before .before .before .before .before .before .before .before in
+    let at-meet = at-start .before .before in
+    let at-loop-test = at-meet .before in
+    let turn = at-loop-test .before in
+    omega (arith, at-loop-test .loop-test .taken, name-few (turn .loop .inv) (at-loop-test .loop-test .taken) (at-meet .meet .ensures) (at-start .start .given .1) .2)
 
--- src/lib.rt:148:5
 loop-again : tie.Need-loop-again Inv-loop μ-loop
-loop-again c = name-next (c .before .before .before .before .before .before .before .before .before .before .before .before .before .loop .inv) (c .before .before .before .before .before .before .before .before .before .before .before .before .loop-test .taken) (c .before .before .before .before .before .before .before .before .before .before .before .meet .ensures) (c .before .before .before .before .before .before .before .before .before .start .given .1) (part-named (c .before .before .before .before .before .before .before .before .before .before .before .before .before .before .before .before .args .script .now) (c .before .before .before .before .before .before .before .before .before .start .given .0 .0) (c .before .before .before .before .before .before .before .before .before .start .given .0 .1 .0) (c .before .before .before .before .before .add-name .ensures)) (c .before .before .before .before .before .add-name .kept .1 .0) (c .before .named .given .1)
+loop-again c =
+    let at-named = c .before in
+    let at-add-name = at-named .before .before .before .before in
+    let at-start = at-add-name .before .before .before .before in
+    let at-meet = at-start .before .before in
+    let at-loop-test = at-meet .before in
+    let turn = at-loop-test .before in
+    let start = turn .before .before .before in
+    name-next (turn .loop .inv) (at-loop-test .loop-test .taken) (at-meet .meet .ensures) (at-start .start .given .1) (part-named (start .args .script .now) (at-start .start .given .0 .0) (at-start .start .given .0 .1 .0) (at-add-name .add-name .ensures)) (at-add-name .add-name .kept .1 .0) (at-named .named .given .1)
 
--- src/lib.rt:158:24
 enum-known-next : tie.Need-enum-known-next Inv-loop μ-loop
 enum-known-next c = c .match .keys2
 
--- src/lib.rt:148:5
 loop-less-2 : tie.Need-loop-less-2 Inv-loop μ-loop
-loop-less-2 c = omega (arith, c .before .before .before .before .loop-test .taken, other-next (c .before .before .before .before .before .loop .inv) (c .before .before .before .before .loop-test .taken) (c .before .before .before .meet .ensures) (c .before .next .given .1) .0)
+loop-less-2 c =
+    let at-next = c .before in
+    let at-meet = at-next .before .before in
+    let at-loop-test = at-meet .before in
+    let turn = at-loop-test .before in
+    omega (arith, at-loop-test .loop-test .taken, other-next (turn .loop .inv) (at-loop-test .loop-test .taken) (at-meet .meet .ensures) (at-next .next .given .1) .0)
 
--- src/lib.rt:148:5
 loop-again-2 : tie.Need-loop-again-2 Inv-loop μ-loop
-loop-again-2 c = other-next (c .before .before .before .before .before .loop .inv) (c .before .before .before .before .loop-test .taken) (c .before .before .before .meet .ensures) (c .before .next .given .1) .1
+loop-again-2 c =
+    let at-next = c .before in
+    let at-meet = at-next .before .before in
+    let at-loop-test = at-meet .before in
+    let turn = at-loop-test .before in
+    other-next (turn .loop .inv) (at-loop-test .loop-test .taken) (at-meet .meet .ensures) (at-next .next .given .1) .1
 
--- src/lib.rt:142:1
 same-length-2 : tie.Need-same-length-2 Inv-loop μ-loop
 same-length-2 c = c .before .loop .inv .long
 
--- src/lib.rt:142:1
 returns-2 : tie.Need-returns-2 Inv-loop μ-loop
 returns-2 c = names-done (c .before .loop .inv) (c .loop-test .left)
 

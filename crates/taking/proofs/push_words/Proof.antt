@@ -1,49 +1,39 @@
+-- `push_words` meets its contract: it stores the two words, and the small state has one item more.
+-- Assumes nothing.
 use mathlib.Core.Path.{refl}
 use native.Mathlib.Omega.{arith}
 use lib.ListN.{length-set}
 use borrow.Author.Needs.{needs}
 use Rattle.taking.proofs.push_words.Statement.{statement}
 use Rattle.taking.proofs.push_words.Tie as tie
-use Rattle.taking.proofs.push_words.Reads as reads
-use Rattle.taking.proofs.push_words.Lts as lts
 
--- src/lib.rt:140:11
 mul-stack : tie.Need-mul-stack
 mul-stack c = search needs
 
--- src/lib.rt:140:5
 mul-stack-2 : tie.Need-mul-stack-2
 mul-stack-2 c = search needs
 
--- src/lib.rt:140:5
 slice-write-stack : tie.Need-slice-write-stack
 slice-write-stack c = search needs
 
--- src/lib.rt:141:11
 mul-stack-3 : tie.Need-mul-stack-3
 mul-stack-3 c = search needs
 
--- src/lib.rt:141:11
 add-stack : tie.Need-add-stack
 add-stack c = search needs
 
--- src/lib.rt:141:5
 mul-stack-4 : tie.Need-mul-stack-4
 mul-stack-4 c = search needs
 
--- src/lib.rt:141:5
 slice-write-stack-2 : tie.Need-slice-write-stack-2
 slice-write-stack-2 c = simp length-set (omega (arith, c .pre .0))
 
--- src/lib.rt:143:15
 add-r : tie.Need-add-r
 add-r c = search needs
 
--- src/lib.rt:135:1
 same-length : tie.Need-same-length
 same-length c = search needs
 
--- src/lib.rt:135:1
 returns : tie.Need-returns
 returns c = record { state = refl; words = refl }
 

@@ -1,0 +1,24 @@
+// The names that have dictionary slots, by their lengths and bytes: word 12 k of slot k is the length, and the eight words after it hold the bytes.
+ghost use Prim.Native.Nat.{_+_, _*_, _≤_, _<_};
+ghost use lib.ListN.{length};
+ghost use Rattle.names.specs.Names.{NameSize, NameByte};
+
+// The number of bytes of the name in a slot.
+// Rules out: another slot's length; a length in words.
+pub fn name_size(dict: &[u32], slot: usize) -> usize
+    requires { ⌜ 12 * slot + 12 ≤ length (now dict) ⌝ }
+    ensures { λ r. ⌜ NameSize slot (now (dict .entry)) r ⌝ }
+{
+    let n = dict[12 * slot];
+    n as usize
+}
+
+// Byte j of the name in a slot.
+// Rules out: the length read for bytes; the bytes of a word in the other order.
+pub fn name_byte(dict: &[u32], slot: usize, j: usize) -> u8
+    requires { ⌜ (12 * slot + 12 ≤ length (now dict)) × (j < 32) ⌝ }
+    ensures { λ r. ⌜ NameByte slot j (now (dict .entry)) r ⌝ }
+{
+    let w = dict[12 * slot + 1 + j / 4];
+    elements::byte_of(w, (j % 4) as u32)
+}

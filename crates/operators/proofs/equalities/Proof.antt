@@ -1,0 +1,52 @@
+use borrow.Author.Needs.{needs}
+use Rattle.operators.proofs.equalities.Statement.{statement}
+use Rattle.operators.proofs.equalities.Tie as tie
+use Rattle.operators.proofs.equalities.Reads as reads
+use Rattle.operators.proofs.equalities.Lts as lts
+use Rattle.equality.proofs.eq.Reads as eq-reads
+use Rattle.equality.proofs.ne.Reads as ne-reads
+
+-- src/lib.rt:115:15
+eq-requires : tie.Need-eq-requires
+eq-requires c κs = search needs
+
+-- src/lib.rt:116:14
+ne-requires : tie.Need-ne-requires
+ne-requires c κs = search needs
+
+-- src/lib.rt:110:1
+same-length : tie.Need-same-length
+same-length c = search needs
+
+-- src/lib.rt:110:1
+same-length-2 : tie.Need-same-length-2
+same-length-2 c = search needs
+
+-- src/lib.rt:110:1
+returns : tie.Need-returns
+returns c = ?
+
+-- src/lib.rt:110:1
+same-length-3 : tie.Need-same-length-3
+same-length-3 c = search needs
+
+-- src/lib.rt:110:1
+same-length-4 : tie.Need-same-length-4
+same-length-4 c = search needs
+
+-- src/lib.rt:110:1
+returns-2 : tie.Need-returns-2
+returns-2 c = ?
+
+pub equalities-spec : {M : Type 1} → statement M
+equalities-spec =
+    tie.close
+    (tie.spec
+    eq-requires
+    ne-requires
+    same-length
+    same-length-2
+    returns
+    same-length-3
+    same-length-4
+    returns-2)

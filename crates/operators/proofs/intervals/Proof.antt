@@ -1,0 +1,115 @@
+use borrow.Author.Needs.{needs}
+use Rattle.operators.proofs.intervals.Statement.{statement}
+use Rattle.operators.proofs.intervals.Tie as tie
+use Rattle.operators.proofs.intervals.Reads as reads
+use Rattle.operators.proofs.intervals.Lts as lts
+use Rattle.array_operators.proofs.aload.Reads as aload-reads
+use Rattle.array_operators.proofs.astore.Reads as astore-reads
+use Rattle.array_operators.proofs.string.Reads as string-reads
+use Rattle.interval_operators.proofs.getinterval.Reads as getinterval-reads
+use Rattle.interval_operators.proofs.putinterval.Reads as putinterval-reads
+
+-- src/lib.rt:141:15
+getinterval-requires : tie.Need-getinterval-requires
+getinterval-requires c κs = search needs
+
+-- src/lib.rt:142:15
+putinterval-requires : tie.Need-putinterval-requires
+putinterval-requires c κs = search needs
+
+-- src/lib.rt:143:15
+aload-requires : tie.Need-aload-requires
+aload-requires c κs = search needs
+
+-- src/lib.rt:144:15
+astore-requires : tie.Need-astore-requires
+astore-requires c κs = search needs
+
+-- src/lib.rt:145:14
+string-requires : tie.Need-string-requires
+string-requires c κs = search needs
+
+-- src/lib.rt:136:1
+same-length : tie.Need-same-length
+same-length c = search needs
+
+-- src/lib.rt:136:1
+same-length-2 : tie.Need-same-length-2
+same-length-2 c = search needs
+
+-- src/lib.rt:136:1
+returns : tie.Need-returns
+returns c = ?
+
+-- src/lib.rt:136:1
+same-length-3 : tie.Need-same-length-3
+same-length-3 c = search needs
+
+-- src/lib.rt:136:1
+same-length-4 : tie.Need-same-length-4
+same-length-4 c = search needs
+
+-- src/lib.rt:136:1
+returns-2 : tie.Need-returns-2
+returns-2 c = ?
+
+-- src/lib.rt:136:1
+same-length-5 : tie.Need-same-length-5
+same-length-5 c = search needs
+
+-- src/lib.rt:136:1
+same-length-6 : tie.Need-same-length-6
+same-length-6 c = search needs
+
+-- src/lib.rt:136:1
+returns-3 : tie.Need-returns-3
+returns-3 c = ?
+
+-- src/lib.rt:136:1
+same-length-7 : tie.Need-same-length-7
+same-length-7 c = search needs
+
+-- src/lib.rt:136:1
+same-length-8 : tie.Need-same-length-8
+same-length-8 c = search needs
+
+-- src/lib.rt:136:1
+returns-4 : tie.Need-returns-4
+returns-4 c = ?
+
+-- src/lib.rt:136:1
+same-length-9 : tie.Need-same-length-9
+same-length-9 c = search needs
+
+-- src/lib.rt:136:1
+same-length-10 : tie.Need-same-length-10
+same-length-10 c = search needs
+
+-- src/lib.rt:136:1
+returns-5 : tie.Need-returns-5
+returns-5 c = ?
+
+pub intervals-spec : {M : Type 1} → statement M
+intervals-spec =
+    tie.close
+    (tie.spec
+    getinterval-requires
+    putinterval-requires
+    aload-requires
+    astore-requires
+    string-requires
+    same-length
+    same-length-2
+    returns
+    same-length-3
+    same-length-4
+    returns-2
+    same-length-5
+    same-length-6
+    returns-3
+    same-length-7
+    same-length-8
+    returns-4
+    same-length-9
+    same-length-10
+    returns-5)
