@@ -4,4 +4,8 @@ pub mod Slots
 pub mod Finding
 pub mod Adding
 pub mod Rebinding
+<<<<<<< ours
 pub mod Lookups
+=======
+pub mod Interning
+>>>>>>> theirs

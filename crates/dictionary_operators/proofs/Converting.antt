@@ -1,5 +1,5 @@
 -- cvn in its two parts. The loop reads the string's bytes, and its current bytes are the first of them, so that what is read is the name; the item gives way to the
--- name by its slot, that is found or added.
+-- name by its slot, which is found or added.
 -- Assumes nothing.
 use mathlib.Core.Path.{_≡_, refl, sym, ap, _∙_, subst}
 use mathlib.Core.Bool.{Bool, false}
@@ -37,8 +37,8 @@ use Rattle.dictionary.specs.Bindings.{NamedStack, PutsName}
 use Rattle.dictionary_operators.specs.Promises.{Represented, DoesDictionary}
 use Rattle.dictionary_operators.specs.Interning.{itemNamed, ReadsBytes}
 use Rattle.dictionary_operators.proofs.Promising.{fails, does, alike}
-use Rattle.dictionary_operators.proofs.Interning.{room-slots, found-key, found-same, new-slot, new-key, new-slot-lacks}
-use Rattle.dictionary_operators.proofs.Prefixes.{current-few, current-byte}
+use Rattle.dictionary.proofs.Interning.{room-slots, found-key, found-same, new-slot, new-key, new-slot-lacks}
+use Rattle.strings.proofs.Prefixes.{current-few, current-byte}
 
 -- ---- the loop: the first q bytes are read
 
@@ -96,9 +96,6 @@ unfolding withStack
 stacked-dictionary n s μ = refl
 
 module _ {m : Machine} {s d c : List ℕ} where
-  pub find-room : {n : ℕ} → n ≤ 31 → Represented m s d c → (n ≤ 31) × (12 * m .names ≤ length d) × (length d ≤ 6155)
-  find-room h (e, l, μ, R) = (h, R .dict-room, R .dict-few)
-
   pub few : Represented m s d c → length d ≤ 6155
   few (e, l, μ, R) = R .dict-few
 
@@ -110,9 +107,12 @@ module _ {m : Machine} {s d c : List ℕ} where
       pub found-good : {r : Machine} {s′ c′ : List ℕ} → PutsName k 0 m r s s′ c c′ → length s′ ≡ length s → DoesDictionary (itemNamed n) m s s′ d d c c′ (Ok r)
       found-good {r} {s′} {c′} P long =
           does long refl
-          (λ e l μ R.
-          (withStack (set (μ .stack) 0 (name false n)) (intern n μ), named-is n μ, named-store n μ,
-          subst (λ x. Rep r s′ e d c′ l (withStack (set (μ .stack) 0 (name false n)) x)) (sym (found-same R n F low)) (P .moves e d l μ R n (found-key R n F low))))
+          (λ e l μ R. (
+            withStack (set (μ .stack) 0 (name false n)) (intern n μ),
+            named-is n μ,
+            named-store n μ,
+            subst (λ x. Rep r s′ e d c′ l (withStack (set (μ .stack) 0 (name false n)) x)) (sym (found-same R n F low)) (P .moves e d l μ R n (found-key R n F low)),
+          ))
 
     module _ (low : k ≤ m .names) (high : m .names ≤ k) where
       pub named-full : length d < 12 * m .names + 12 → DoesDictionary (itemNamed n) m s s d d c c (Fail LimitCheck)
@@ -137,10 +137,13 @@ module _ {m : Machine} {s d c : List ℕ} where
             → DoesDictionary (itemNamed n) m s s′ d d′ c c′ (Ok r′)
         added-good {r′} {s′} {c′} P long dict =
             does long dict
-            (λ e l μ R.
-            (withStack (set (μ .stack) 0 (name false n)) (intern n μ), named-is n μ, named-store n μ,
-            subst (λ x. Rep r′ s′ e d′ c′ l (withStack (set x 0 (name false n)) (intern n μ))) (interned-stack n μ)
-            (P .moves e d′ l (intern n μ) (A .moves s e c l μ R (new-slot R n F low high)) n (new-key R n F low high))))
+            (λ e l μ R. (
+              withStack (set (μ .stack) 0 (name false n)) (intern n μ),
+              named-is n μ,
+              named-store n μ,
+              subst (λ x. Rep r′ s′ e d′ c′ l (withStack (set x 0 (name false n)) (intern n μ))) (interned-stack n μ)
+                  (P .moves e d′ l (intern n μ) (A .moves s e c l μ R (new-slot R n F low high)) n (new-key R n F low high)),
+            ))
 
 -- ---- the definition's cvn
 

@@ -3,6 +3,4 @@ pub mod Naming
 pub mod Returns
 pub mod Elements
 pub mod Loops
-pub mod Interning
-pub mod Prefixes
 pub mod Converting

@@ -10,6 +10,8 @@ ghost use Rattle.strings.specs.Strings.{HasBytes};
 ghost use Rattle.dictionary_operators.specs.Promises.{Represented, DoesDictionary};
 ghost use Rattle.dictionary_operators.specs.Binding.{HasProcedure, HasElementAt, BindsElement, BindsElements};
 ghost use Rattle.dictionary_operators.specs.Interning.{itemNamed, ReadsBytes};
+use dictionary::NAME_BYTES;
+use dictionary::SLOT;
 use machine::Did;
 use machine::Machine;
 use machine::TAG_EXECUTABLE;
@@ -83,10 +85,10 @@ pub fn cvn(m: Machine, stack: &mut [u32], dict: &mut [u32], cells: &mut [u32]) -
         return Did::Fail(Error::TypeCheck);
     }
     let size = strings::current_length(m, stack, cells, 0);
-    if 31 < size {
+    if NAME_BYTES < size as usize {
         return Did::Fail(Error::LimitCheck);
     }
-    let mut name = [0u8; 31];
+    let mut name = [0u8; NAME_BYTES];
     read_bytes(m, stack, cells, size, &mut name);
     name_item(m, stack, dict, cells, &name[0..size as usize])
 }
@@ -100,7 +102,7 @@ fn name_item(m: Machine, stack: &mut [u32], dict: &mut [u32], cells: &mut [u32],
     if slot < m.names {
         return Did::Ok(dictionary::put_name(m, stack, cells, slot as u32, 0));
     }
-    if dict.len() < 12 * m.names + 12 {
+    if dict.len() < SLOT * m.names + SLOT {
         return Did::Fail(Error::LimitCheck);
     }
     let r = dictionary::add(m, dict, name);

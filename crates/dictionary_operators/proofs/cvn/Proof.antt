@@ -1,91 +1,71 @@
+-- `cvn` meets its contract: what it compares decides between the definition's errors and what `name_item` does, and the bytes that are read are the string's current ones.
+-- Assumes nothing.
 use Rattle.dictionary_operators.proofs.Converting.{cvn-short, cvn-mistyped, cvn-string, cvn-over, cvn-bytes, cvn-good}
 use native.Mathlib.Omega.{arith}
 use borrow.Author.Needs.{needs}
 use Rattle.dictionary_operators.proofs.cvn.Statement.{statement}
 use Rattle.dictionary_operators.proofs.cvn.Tie as tie
-use Rattle.dictionary_operators.proofs.cvn.Reads as reads
-use Rattle.dictionary_operators.proofs.cvn.Lts as lts
-use Rattle.dictionary_operators.proofs.name_item.Reads as name-item-reads
-use Rattle.dictionary_operators.proofs.read_bytes.Reads as read-bytes-reads
-use Rattle.strings.proofs.current_length.Reads as current-length-reads
 
--- src/lib.rt:80:9
 returns : tie.Need-returns
 returns c = cvn-short (c .if1 .taken)
 
--- src/lib.rt:82:14
 mul-if2 : tie.Need-mul-if2
 mul-if2 c = search needs
 
--- src/lib.rt:82:8
 mul-if2-2 : tie.Need-mul-if2-2
 mul-if2-2 c = search needs
 
--- src/lib.rt:82:8
 slice-read-if2 : tie.Need-slice-read-if2
 slice-read-if2 c = search needs
 
--- src/lib.rt:83:9
 returns-2 : tie.Need-returns-2
 returns-2 c = cvn-mistyped (c .before .before .before .if1 .left) (c .if2 .taken)
 
--- src/lib.rt:85:9
 current-length-requires : tie.Need-current-length-requires
 current-length-requires c κs = (c .before .before .before .before .before .if1 .left, cvn-string (c .before .before .before .before .before .if1 .left) (c .before .before .if2 .left) (c .before .before .before .before .before .before .before .before .before .before .pre))
 
--- src/lib.rt:87:9
+cast-if3 : tie.Need-cast-if3
+cast-if3 c = search needs
+
 same-length : tie.Need-same-length
 same-length c = search needs
 
--- src/lib.rt:87:9
 same-length-2 : tie.Need-same-length-2
 same-length-2 c = search needs
 
--- src/lib.rt:87:9
 returns-3 : tie.Need-returns-3
 returns-3 c = cvn-over (c .before .before .before .before .before .before .before .if1 .left) (c .before .before .before .before .if2 .left) (c .before .current-length .ensures) (c .if3 .taken)
 
--- src/lib.rt:90:39
 slice-aggregate-read-bytes : tie.Need-slice-aggregate-read-bytes
 slice-aggregate-read-bytes c = search needs
 
--- src/lib.rt:90:5
 read-bytes-requires : tie.Need-read-bytes-requires
 read-bytes-requires c κs = (c .before .before .before .before .before .before .before .before .before .before .if1 .left, c .before .before .before .if3 .left, cvn-bytes (c .before .before .before .before .before .before .before .before .before .before .if1 .left) (c .before .before .before .before .before .before .before .if2 .left) (c .before .before .before .before .current-length .ensures) (c .before .before .before .before .before .before .before .before .before .before .before .before .before .before .before .pre))
 
--- src/lib.rt:91:47
 cast-name-item : tie.Need-cast-name-item
 cast-name-item c = search needs
 
--- src/lib.rt:91:38
 sub-name-item : tie.Need-sub-name-item
 sub-name-item c = search needs
 
--- src/lib.rt:91:38
 part-name-item-start : tie.Need-part-name-item-start
 part-name-item-start c = search needs
 
--- src/lib.rt:91:38
 part-name-item-end : tie.Need-part-name-item-end
 part-name-item-end c = search needs
 
--- src/lib.rt:91:5
 name-item-requires : tie.Need-name-item-requires
 name-item-requires c κs = search needs
 
--- src/lib.rt:75:1
 same-length-3 : tie.Need-same-length-3
 same-length-3 c = search needs
 
--- src/lib.rt:75:1
 same-length-4 : tie.Need-same-length-4
 same-length-4 c = search needs
 
--- src/lib.rt:75:1
 same-length-5 : tie.Need-same-length-5
 same-length-5 c = search needs
 
--- src/lib.rt:75:1
 returns-4 : tie.Need-returns-4
 returns-4 c = cvn-good (c .before .before .before .before .before .before .before .before .before .before .before .before .before .before .before .before .before .before .before .before .before .before .before .before .if1 .left) (c .before .before .before .before .before .before .before .before .before .before .before .before .before .before .before .before .before .before .before .before .before .if2 .left) (c .before .before .before .before .before .before .before .before .before .before .before .before .before .before .before .before .before .before .current-length .ensures) (c .before .before .before .before .before .before .before .before .before .before .before .before .before .before .before .before .before .if3 .left) (c .before .before .before .before .before .before .before .before .before .before .before .before .before .read-bytes .ensures) (omega (arith, c .before .before .before .before .before .before .before .before .before .before .before .before .before .before .before .before .before .if3 .left, c .before .before .before .before .before .before .before .before .before .before .before .before .before .read-bytes .kept .1 .1 .1 .1 .0)) _ (c .before .before .before .before .before .before .name-item .ensures)
 
@@ -99,6 +79,7 @@ cvn-spec =
     slice-read-if2
     returns-2
     current-length-requires
+    cast-if3
     same-length
     same-length-2
     returns-3

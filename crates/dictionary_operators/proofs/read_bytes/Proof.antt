@@ -1,12 +1,11 @@
+-- `read_bytes` meets its contract: the loop keeps `Reads`, that the bytes before byte q are read. The measure is what is left of them.
+-- Assumes nothing.
 use Rattle.dictionary_operators.proofs.Converting.{Reads, begin, has-byte, again, finish}
 use borrow.Author.Needs.{needs}
 use native.Mathlib.Omega.{arith}
 use Prim.Native.Nat.{_-_}
 use Rattle.dictionary_operators.proofs.read_bytes.Statement.{statement}
 use Rattle.dictionary_operators.proofs.read_bytes.Tie as tie
-use Rattle.dictionary_operators.proofs.read_bytes.Reads as reads
-use Rattle.dictionary_operators.proofs.read_bytes.Lts as lts
-use Rattle.elements.proofs.get_byte.Reads as get-byte-reads
 
 abbrev Inv-loop : tie.InvT-loop
 Inv-loop m stack cells n out₀ q₀ out q = Reads out₀ m stack cells out q
@@ -14,39 +13,30 @@ Inv-loop m stack cells n out₀ q₀ out q = Reads out₀ m stack cells out q
 abbrev μ-loop : tie.MeasureT-loop
 μ-loop m stack cells n out₀ q₀ out q = n - q
 
--- src/lib.rt:116:5
 loop-holds : tie.Need-loop-holds Inv-loop μ-loop
 loop-holds c = begin _ _ _ _
 
--- src/lib.rt:117:27
 get-byte-requires : tie.Need-get-byte-requires Inv-loop μ-loop
 get-byte-requires c κs = (c .before .before .before .before .before .pre .0, has-byte (c .before .before .before .before .before .pre .2) (c .loop-test .taken))
 
--- src/lib.rt:117:13
 cast-out : tie.Need-cast-out Inv-loop μ-loop
 cast-out c = search needs
 
--- src/lib.rt:117:9
 slice-write-out : tie.Need-slice-write-out Inv-loop μ-loop
 slice-write-out c = omega (arith, c .before .before .before .before .before .before .pre .1, c .before .loop-test .taken, c .before .before .loop .inv .long)
 
--- src/lib.rt:118:13
 add-q : tie.Need-add-q Inv-loop μ-loop
 add-q c = search needs
 
--- src/lib.rt:116:5
 loop-less : tie.Need-loop-less Inv-loop μ-loop
 loop-less c = omega (arith, c .before .loop-test .taken)
 
--- src/lib.rt:116:5
 loop-again : tie.Need-loop-again Inv-loop μ-loop
 loop-again c = again (c .before .before .loop .inv) (omega (arith, c .before .before .before .before .before .before .pre .1, c .before .loop-test .taken)) (c .get-byte .ensures)
 
--- src/lib.rt:111:1
 same-length : tie.Need-same-length Inv-loop μ-loop
 same-length c = c .before .loop .inv .long
 
--- src/lib.rt:111:1
 returns : tie.Need-returns Inv-loop μ-loop
 returns c = finish (c .loop-test .left) (c .before .loop .inv .bytes)
 
