@@ -1,53 +1,20 @@
--- A name that is met: where it has a slot nothing changes, where it has none it takes the slot after the last one, and where there is none after the last one
--- the test of room fails with limitcheck.
+-- A name that is met: where it has a slot nothing changes, where it has none it takes the slot after the last one.
 -- Assumes nothing.
-use mathlib.Core.Path.{_≡_, refl, sym, ap, _∙_}
-use mathlib.Core.List.{List, [], _∷_, _++_}
+use mathlib.Core.Path.{_≡_, sym, ap, _∙_, subst}
+use mathlib.Core.List.{List}
 use mathlib.Core.Option.{none, some}
-use Prim.Native.Nat.{ℕ, suc, _+_, _*_, _≤_, _<_}
+use Prim.Native.Nat.{ℕ, _+_, _*_, _≤_, _<_}
 use native.Mathlib.Omega.{arith}
-use lib.ListN.{length, getElem?, length-append}
-use borrow.Author.Tests.{lt-leb}
-use Rattle.semantics.specs.Text.{same}
-use Rattle.semantics.specs.Values.{fault, _>>=_, check}
+use lib.ListN.{length, getElem?}
 use Rattle.semantics.specs.Machine as Floo
-use Rattle.semantics.specs.Machine.{Slot, withDictionary, slotted, intern}
-use Rattle.semantics.specs.Steps.{Limits, roomFor}
-use Rattle.semantics.specs.declared.Error.the-variants.{LimitCheck}
+use Rattle.semantics.specs.Machine.{withDictionary, slotted, intern}
 use Rattle.machine.specs.Places.{keys}
 use Rattle.machine.specs.Rep.{Rep}
 use Rattle.machine.specs.Room.{lent}
 use Rattle.machine.specs.declared.Machine.{Machine}
 use Rattle.dictionary.specs.Names.{slotOf, Finds}
-use Rattle.dictionary.proofs.Dictionaries.{keysOf, Compared, yes, no, compare, Absent, absent, slotted-absent}
-
--- ---- the dictionary
-
-module _ (n : List ℕ) where
-  present : (d : List Slot) → slotOf n d < length d → (getElem? (keysOf d) (slotOf n d) ≡ some n) × (slotted n d ≡ d)
-  unfolding slotOf slotted
-  present [] l = absurd (omega arith)
-  present (s ∷ d) l = step (compare n (s .key)) (present d) l
-    where
-      step : Compared n (s .key) (same n (s .key))
-          → (slotOf n d < length d → (getElem? (keysOf d) (slotOf n d) ≡ some n) × (slotted n d ≡ d))
-          → slotOf n (s ∷ d) < suc (length d)
-          → (getElem? (keysOf (s ∷ d)) (slotOf n (s ∷ d)) ≡ some n) × (slotted n (s ∷ d) ≡ s ∷ d)
-      step (yes q e) r l = (rw (q, slotOf) (ap some (sym e)), rw (q, slotted) refl)
-      step (no q e) r l =
-          let z : suc (slotOf n d) ≡ slotOf n (s ∷ d) = rw (q, slotOf) refl in
-          let x = r (omega arith) in
-          (rw (q, slotOf) (x .0), rw (q, slotted) (ap (λ t. s ∷ t) (x .1)))
-
-last-key : (d : List Slot) (s : Slot) → getElem? (keysOf (d ++ (s ∷ []))) (length d) ≡ some (s .key)
-last-key [] s = refl
-last-key (t ∷ d) s = last-key d s
-
--- ---- the test of room
-
-pub room-slots : (limits : Limits) (before after : Floo.Machine) → limits .dictionarySlots < length (after .dictionary) → roomFor limits before after ≡ fault LimitCheck
-unfolding roomFor check _>>=_
-room-slots limits before after h = rw (lt-leb _ _ h) refl
+use Rattle.dictionary.proofs.Dictionaries.{keysOf}
+use Rattle.dictionary.proofs.Lookups.{found-key as found-slot, slotted-found, slotted-missing, slotted-slot, slotted-has}
 
 -- ---- by what `find` finds
 
@@ -57,7 +24,9 @@ module _ {m : Machine} {s e d c l : List ℕ} {μ : Floo.Machine} (R : Rep m s e
 
   module _ (low : k < m .names) where
     here : (getElem? (keys μ) (slotOf n (μ .dictionary)) ≡ some n) × (slotted n (μ .dictionary) ≡ μ .dictionary)
-    here = present n (μ .dictionary) (omega (arith, at-slot, R .names))
+    here =
+        let low : slotOf n (μ .dictionary) < length (μ .dictionary) = omega (arith, at-slot, R .names) in
+        (found-slot n (μ .dictionary) low, slotted-found n (μ .dictionary) low)
 
     pub found-key : getElem? (keys μ) k ≡ some n
     found-key = ap (λ x. getElem? (keys μ) x) at-slot ∙ here .0
@@ -67,24 +36,18 @@ module _ {m : Machine} {s e d c l : List ℕ} {μ : Floo.Machine} (R : Rep m s e
     found-same = ap (λ x. withDictionary x μ) (here .1)
 
   module _ (low : k ≤ m .names) (high : m .names ≤ k) where
-    abbrev unbound : Slot
-    unbound = record { key = n; binding = none }
-
     pub new-slot : slotOf n (μ .dictionary) ≡ m .names
     new-slot = omega (arith, at-slot)
-
-    nowhere : Absent n (μ .dictionary)
-    nowhere = absent n (μ .dictionary) (new-slot ∙ R .names)
 
     pub new-key : getElem? (keys (intern n μ)) k ≡ some n
     unfolding intern withDictionary
     new-key =
-        let place : k ≡ length (μ .dictionary) = omega (arith, R .names) in
-        ap (λ x. getElem? (keysOf x) k) (slotted-absent n nowhere) ∙ ap (λ x. getElem? (keysOf (μ .dictionary ++ (unbound ∷ []))) x) place ∙ last-key (μ .dictionary) unbound
+        let place : slotOf n (slotted n (μ .dictionary)) ≡ k = slotted-slot n (μ .dictionary) ∙ sym at-slot in
+        subst (λ i. getElem? (keysOf (slotted n (μ .dictionary))) i ≡ some n) place (found-slot n (slotted n (μ .dictionary)) (slotted-has n (μ .dictionary)))
 
     new-count : length (intern n μ .dictionary) ≡ m .names + 1
     unfolding intern withDictionary
-    new-count = omega (arith, ap length (slotted-absent n nowhere), length-append (μ .dictionary) (unbound ∷ []), R .names)
+    new-count = omega (arith, slotted-missing n (μ .dictionary) (new-slot ∙ R .names), R .names)
 
     pub new-slot-lacks : length d < 12 * m .names + 12 → lent s e d c l .dictionarySlots < length (intern n μ .dictionary)
     unfolding lent

@@ -14,12 +14,9 @@ use machine::TAG_UNBOUND;
 
 // The words of a slot: the name's length, eight words of its bytes, and the binding's two.
 pub const SLOT: usize = 12;
-<<<<<<< ours
-=======
 
 // The most bytes that a name has.
 pub const NAME_BYTES: usize = 31;
->>>>>>> theirs
 
 const SPELLING: usize = 1;
 

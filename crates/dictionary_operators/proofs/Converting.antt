@@ -37,7 +37,8 @@ use Rattle.dictionary.specs.Bindings.{NamedStack, PutsName}
 use Rattle.dictionary_operators.specs.Promises.{Represented, DoesDictionary}
 use Rattle.dictionary_operators.specs.Interning.{itemNamed, ReadsBytes}
 use Rattle.dictionary_operators.proofs.Promising.{fails, does, alike}
-use Rattle.dictionary.proofs.Interning.{room-slots, found-key, found-same, new-slot, new-key, new-slot-lacks}
+use Rattle.dictionary.proofs.Lookups.{room-slots}
+use Rattle.dictionary.proofs.Interning.{found-key, found-same, new-slot, new-key, new-slot-lacks}
 use Rattle.strings.proofs.Prefixes.{current-few, current-byte}
 
 -- ---- the loop: the first q bytes are read

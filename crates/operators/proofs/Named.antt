@@ -14,6 +14,7 @@ use Rattle.machine.specs.declared.Did.{Did}
 use Rattle.machine.specs.declared.Did.the-variants.{Ok, Fail}
 use Rattle.control_operators.specs.Promises.{DoesState, DoesCells, DoesFrames}
 use Rattle.dictionary_operators.specs.Promises.{DoesDictionary}
+use Rattle.output_operators.specs.Output.{DoesLog}
 use Rattle.operators.specs.Titles.{performAt, DoesAll}
 
 pub named : (k j : ℕ) (n : List ℕ) → k ≡ j → getD titles j [] ≡ n → perform n ≡ performAt k
@@ -78,3 +79,17 @@ pub frames-all : {f : Floo.Machine → Result Floo.Machine} {m : Machine} {s s�
     → DoesAll f m s s′ e e′ d d c c′ l l r
 frames-all (Fail x) D d l = record { does = λ μ R. let a = D .does d l μ R in (a .0, (a .1 .0, a .1 .1, refl, a .1 .2, refl)) }
 frames-all (Ok m′) D d l = record { does = λ μ R. D .does d l μ R }
+
+pub log-named : {m : Machine} {s d c c′ l l′ : List ℕ} {r : Did} {k : ℕ} (j : ℕ) (n : List ℕ)
+    → k ≡ j
+    → getD titles j [] ≡ n
+    → DoesLog (perform n) m s d c c′ l l′ r
+    → DoesLog (performAt k) m s d c c′ l l′ r
+log-named {m} {s} {d} {c} {c′} {l} {l′} {r} {k} j n e t D = subst (λ f. DoesLog f m s d c c′ l l′ r) (named k j n e t) D
+
+pub log-all : {f : Floo.Machine → Result Floo.Machine} {m : Machine} {s d c c′ l l′ : List ℕ} (r : Did)
+    → DoesLog f m s d c c′ l l′ r
+    → (e : List ℕ)
+    → DoesAll f m s s e e d d c c′ l l′ r
+log-all (Fail x) D e = record { does = λ μ R. let a = D .does e μ R in (a .0, (refl, refl, refl, a .1 .0, a .1 .1)) }
+log-all (Ok m′) D e = record { does = λ μ R. D .does e μ R }

@@ -17,6 +17,10 @@ use Rattle.machine.specs.declared.Did.{Did}
 unfoldable pub performAt : ℕ → Floo.Machine → Result Floo.Machine
 performAt k = perform (getD titles k [])
 
+-- All lent words stand for some machine.
+abbrev pub Everywhere : Machine → List ℕ → List ℕ → List ℕ → List ℕ → List ℕ → Type 0
+Everywhere m s e d c l = (μ : Floo.Machine) × Rep m s e d c l μ
+
 -- An operator does f where there is room, or fails as f and the test of room do; then no word has changed.
 pub record DoesAll (f : Floo.Machine → Result Floo.Machine) (m : Machine) (s s′ e e′ d d′ c c′ l l′ : List ℕ) (r : Did) : Type 0 where
   pub does : (μ : Floo.Machine)

@@ -6,6 +6,7 @@ ghost use Rattle.machine.specs.Room.{DoesStack, DoesHeap};
 ghost use Rattle.frames.specs.Moves.{Somewhere, SomewhereAll};
 ghost use Rattle.control_operators.specs.Promises.{DoesFrames, DoesCells};
 ghost use Rattle.dictionary_operators.specs.Promises.{Represented, DoesDictionary};
+ghost use Rattle.output_operators.specs.Output.{SomewhereLog, DoesLog};
 ghost use Rattle.operators.specs.Titles.{performAt};
 use machine::Did;
 use machine::Machine;
@@ -179,4 +180,16 @@ fn lower(k: u32, m: Machine, stack: &mut [u32], dict: &mut [u32], cells: &mut [u
         return comparisons(k, m, stack);
     }
     bindings(k, m, stack, dict, cells)
+}
+
+// echo, echostack and print.
+fn outputs(k: u32, m: Machine, stack: &[u32], dict: &[u32], cells: &mut [u32], log: &mut [u8]) -> Did
+    requires { ⌜ (51 ≤ k) × (k < 54) × SomewhereLog m (now stack) (now dict) (now cells) (now log) ⌝ }
+    ensures { λ r. ⌜ DoesLog (performAt k) m (now (stack .entry)) (now (dict .entry)) (now (cells .entry)) (now (cells .exit)) (now (log .entry)) (now (log .exit)) r ⌝ }
+{
+    match k {
+        51 => output_operators::echo(m, stack, dict, cells, log),
+        52 => output_operators::echostack(m, stack, dict, cells, log),
+        _ => output_operators::print(m, stack, cells, log),
+    }
 }
