@@ -1,8 +1,7 @@
 // What a script token other than a brace group does in a step, and the names of a brace group. Each function that takes a token does exactly what the
 // definition makes of it, with the test of room after it, errors and their order included; where it fails, no word has changed.
 ghost use mathlib.Core.Path.{_≡_};
-ghost use mathlib.Core.List.{List};
-ghost use Prim.Native.Nat.{ℕ, _+_, _*_, _≤_, _<_};
+ghost use Prim.Native.Nat.{_+_, _*_, _≤_, _<_};
 ghost use lib.ListN.{length};
 ghost use Rattle.machine.specs.Rep.{Somewhere};
 ghost use Rattle.machine.specs.Room.{DoesStack};
