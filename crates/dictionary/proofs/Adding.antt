@@ -26,7 +26,7 @@ use Rattle.machine.specs.Rep.{Rep, Stored, Is, IsIn, Bound, Slots, SlotIs}
 use Rattle.machine.specs.declared.Machine.{Machine}
 use Rattle.machine.proofs.Carrying.{Reached, items-map, slots-map, frames-map}
 use Rattle.dictionary.specs.Names.{slotOf, Kept, Adds}
-use Rattle.dictionary.specs.Packing.{Packs}
+use Rattle.dictionary.specs.Packing.{Spells}
 use Rattle.dictionary.proofs.Slots.{slots-frame, slots-more}
 use Rattle.dictionary.proofs.Dictionaries.{keysOf, Absent, absent, slotted-absent, no-key, some-one, none-some}
 
@@ -209,22 +209,15 @@ module _ {m : Machine} {s e d c l : List ℕ} {μ : Floo.Machine} (R : Rep m s e
 
 -- ---- the words that `add` leaves
 
-module _ (d : List ℕ) (k : ℕ) (n : List ℕ) (room : 12 * k + 12 ≤ length d) where
-  abbrev before : List ℕ
-  before = set (set d (12 * k) (length n)) (12 * k + 9) 7
-
-  before-long : length before ≡ length d
-  before-long = length-set (set d (12 * k) (length n)) (12 * k + 9) 7 ∙ length-set d (12 * k) (length n)
-
-  pub slotted-words : {d′ : List ℕ} → Packs 8 n (12 * k + 1) before d′ → length d′ ≡ length before → Slotted k n d d′
-  slotted-words P long =
-      record {
-        long = long ∙ before-long;
-        below = λ i l. P .below i (omega arith) ∙ getD-set-other (set d (12 * k) (length n)) (12 * k + 9) i 7 0 (λ e. omega arith) ∙ getD-set-other d (12 * k) i (length n) 0 (λ e. omega arith);
-        size = P .below (12 * k) (omega arith) ∙ getD-set-other (set d (12 * k) (length n)) (12 * k + 9) (12 * k) 7 0 (λ e. omega arith) ∙ getD-set-same d (12 * k) (length n) 0 (omega arith);
-        spelt = λ j l. P .spelt j (omega arith);
-        unbound = P .above (12 * k + 9) (omega arith) ∙ getD-set-same (set d (12 * k) (length n)) (12 * k + 9) 7 0 (omega (arith, length-set d (12 * k) (length n)));
-      }
+pub slotted-words : {k : ℕ} {n d d₁ : List ℕ} → 12 * k + 12 ≤ length d → length d₁ ≡ length d → Spells k n d d₁ → Slotted k n d (set d₁ (12 * k + 9) 7)
+slotted-words {k} {n} {d} {d₁} room long P =
+    record {
+      long = length-set d₁ (12 * k + 9) 7 ∙ long;
+      below = λ i l. getD-set-other d₁ (12 * k + 9) i 7 0 (λ e. omega arith) ∙ P .others i (λ x. omega arith);
+      size = getD-set-other d₁ (12 * k + 9) (12 * k) 7 0 (λ e. omega arith) ∙ P .size;
+      spelt = λ j l. ap (λ w. byteOf w (j % 4)) (getD-set-other d₁ (12 * k + 9) (12 * k + 1 + j / 4) 7 0 (λ e. omega arith)) ∙ P .spelt j l;
+      unbound = getD-set-same d₁ (12 * k + 9) 7 0 (omega arith);
+    }
 
 pub adds : {m : Machine} {n d d′ : List ℕ} → length n ≤ 31 → 12 * m .names + 12 ≤ length d → Slotted (m .names) n d d′ → Adds m (withNames (m .names + 1) m) d d′ n
 adds {n = n} short room W = record { moves = λ s e c l μ R new. add-rep R n short new room W; kept = record { below = W .below } }

@@ -1,6 +1,6 @@
 -- The words of dictionary slots: what stores past them leave, the words of one of them, one slot more, and a binding that changes.
 -- Assumes nothing.
-use mathlib.Core.Path.{_≡_, ap, _∙_, subst}
+use mathlib.Core.Path.{_≡_, refl, ap, _∙_, subst}
 use mathlib.Core.List.{List, [], _∷_, _++_}
 use mathlib.Core.Option.{some}
 use Prim.Native.Nat.{ℕ, zero, suc, _+_, _*_, _/_, _%_, _≤_, _<_}
@@ -45,6 +45,17 @@ module _ {Is : Value → ℕ → ℕ → Type 0} where
   slot-at {words} {k} (suc i) {s} e (slot S r) =
       let place : suc k + i ≡ k + suc i = omega arith in
       subst (λ x. SlotIs Is words x s) place (slot-at i e r)
+
+  -- All of them, from each.
+  pub slots-from : {words : List ℕ} (k : ℕ) (d : List Slot) → ((i : ℕ) (s : Slot) → getElem? d i ≡ some s → SlotIs Is words (k + i) s) → Slots Is words k d
+  slots-from k [] f = end
+  slots-from {words} k (s ∷ d) f =
+      let here : k + 0 ≡ k = omega arith in
+      slot (subst (λ x. SlotIs Is words x s) here (f 0 s refl))
+      (slots-from (suc k) d
+      (λ i t e.
+      let there : k + suc i ≡ suc k + i = omega arith in
+      subst (λ x. SlotIs Is words x t) there (f (suc i) t e)))
 
   -- One slot more.
   pub slots-more : {words : List ℕ} {k : ℕ} {d : List Slot} {s : Slot} → Slots Is words k d → SlotIs Is words (k + length d) s → Slots Is words k (d ++ (s ∷ []))

@@ -11,7 +11,7 @@ use lib.Seq.{getD-set-same, getD-set-other}
 use Rattle.heap.proofs.Since.{lt-or-le}
 use Rattle.store.specs.Rep.{byteOf}
 use Rattle.store.proofs.Bytes.{four}
-use Rattle.dictionary.specs.Packing.{Packs, Agrees, Tells, First, Bytes}
+use Rattle.dictionary.specs.Packing.{Packs, Spells, Agrees, Tells, First, Bytes}
 
 -- ---- a word and its bytes
 
@@ -147,6 +147,19 @@ module _ {n : List ℕ} {at : ℕ} {d : List ℕ} where
     pack-end l =
         let all : i ≡ 8 = omega (arith, P .few) in
         subst (λ x. Packs x n at d d′) all (P .packs)
+
+-- A length before them.
+pub spells : {k : ℕ} {n d d′ : List ℕ} → 12 * k + 12 ≤ length d → Packs 8 n (12 * k + 1) (set d (12 * k) (length n)) d′ → Spells k n d d′
+spells {k} {n} {d} room P =
+    record {
+      size = P .below (12 * k) (omega arith) ∙ getD-set-same d (12 * k) (length n) 0 (omega arith);
+      spelt = λ j l. P .spelt j (omega arith);
+      others = λ i f.
+          ⊎-elim
+          (λ (y : i < 12 * k). P .below i (omega arith) ∙ getD-set-other d (12 * k) i (length n) 0 (λ e. omega arith))
+          (λ (y : 12 * k ≤ i). P .above i (omega (arith, f y)) ∙ getD-set-other d (12 * k) i (length n) 0 (λ e. omega (arith, f y)))
+          (lt-or-le i (12 * k));
+    }
 
 -- ---- words are compared
 

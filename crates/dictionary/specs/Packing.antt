@@ -4,7 +4,7 @@ use mathlib.Core.Path.{_≡_}
 use mathlib.Core.Bool.{Bool, true, false}
 use mathlib.Core.List.{List}
 use Prim.Native.Nat.{ℕ, _+_, _*_, _/_, _%_, _≤_, _<_}
-use lib.ListN.{getD}
+use lib.ListN.{length, getD}
 use Rattle.store.specs.Rep.{byteOf}
 
 -- The first 4 i bytes are in the i words from `at` on, and all other words are as they were.
@@ -12,6 +12,12 @@ pub record Packs (i : ℕ) (n : List ℕ) (at : ℕ) (d d′ : List ℕ) : Type 
   pub spelt : (j : ℕ) → j < 4 * i → byteOf (getD d′ (at + j / 4) 0) (j % 4) ≡ getD n j 0
   pub below : (k : ℕ) → k < at → getD d′ k 0 ≡ getD d k 0
   pub above : (k : ℕ) → at + i ≤ k → getD d′ k 0 ≡ getD d k 0
+
+-- Slot k has the name n, and all words but those of its length and bytes are as they were.
+pub record Spells (k : ℕ) (n d d′ : List ℕ) : Type 0 where
+  pub size : getD d′ (12 * k) 0 ≡ length n
+  pub spelt : (j : ℕ) → j < 32 → byteOf (getD d′ (12 * k + 1 + j / 4) 0) (j % 4) ≡ getD n j 0
+  pub others : (i : ℕ) → (12 * k ≤ i → 12 * k + 9 ≤ i) → getD d′ i 0 ≡ getD d i 0
 
 -- The words at `at` are this size, and the bytes of the eight after it those of w.
 pub record Agrees (d : List ℕ) (at size : ℕ) (w : List ℕ) : Type 0 where

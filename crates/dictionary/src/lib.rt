@@ -4,7 +4,7 @@ ghost use mathlib.Core.Path.{_≡_};
 ghost use Prim.Native.Nat.{_+_, _*_, _≤_, _<_};
 ghost use lib.ListN.{length, getD};
 ghost use Rattle.dictionary.specs.Names.{Finds, Adds};
-ghost use Rattle.dictionary.specs.Packing.{Packs, Agrees, Tells, First, Bytes};
+ghost use Rattle.dictionary.specs.Packing.{Packs, Spells, Agrees, Tells, First, Bytes};
 ghost use Rattle.dictionary.specs.Bindings.{BoundItems, BoundFrames, NamedItems, LoadsBinding, PendsBinding, BindsItem, NamedStack, PutsName};
 use frames::PENDING;
 use machine::Machine;
@@ -22,7 +22,7 @@ const SPELLING: usize = 1;
 
 pub const BINDING: usize = 9;
 
-const PAYLOAD: usize = 10;
+pub const PAYLOAD: usize = 10;
 
 // The slot of a name; the number of slots where it has none. The name is packed once, so that a slot takes a comparison of words and none of bytes.
 // Rules out: a name taken for a longer one that starts like it; a slot past the last one.
@@ -45,12 +45,21 @@ pub fn add(m: Machine, dict: &mut [u32], name: &[u8]) -> Machine
     ensures { λ r. ⌜ (r .names ≡ m .names + 1) × (r .depth ≡ m .depth) × (r .frames ≡ m .frames) × (r .lists ≡ m .lists) ⌝ }
 {
     let n = m.names;
-    dict[SLOT * n] = name.len() as u32;
+    spell(dict, n, name);
     dict[SLOT * n + BINDING] = TAG_UNBOUND;
-    pack(name, dict, SLOT * n + SPELLING);
     let mut r = m;
     r.names = n + 1;
     r
+}
+
+// A name's length and bytes go into a slot.
+// Rules out: bytes of an earlier name left after the new one; a binding changed.
+pub fn spell(dict: &mut [u32], slot: usize, name: &[u8])
+    requires { ⌜ (length (now name) ≤ 31) × (12 * slot + 12 ≤ length (now dict)) × (length (now dict) ≤ 6155) ⌝ }
+    ensures { λ _. ⌜ Spells slot (now (name .entry)) (now (dict .entry)) (now (dict .exit)) ⌝ }
+{
+    dict[SLOT * slot] = name.len() as u32;
+    pack(name, dict, SLOT * slot + SPELLING);
 }
 
 // Item i gives way to a copy of the slot's binding.

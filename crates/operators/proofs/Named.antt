@@ -13,7 +13,9 @@ use Rattle.machine.specs.declared.Machine.{Machine}
 use Rattle.machine.specs.declared.Did.{Did}
 use Rattle.machine.specs.declared.Did.the-variants.{Ok, Fail}
 use Rattle.control_operators.specs.Promises.{DoesState, DoesCells, DoesFrames}
+use Rattle.control_operators.proofs.Promising.{cells-frames}
 use Rattle.dictionary_operators.specs.Promises.{DoesDictionary}
+use Rattle.conversions.specs.Texts.{DoesNamedHeap}
 use Rattle.output_operators.specs.Output.{DoesLog}
 use Rattle.operators.specs.Titles.{performAt, DoesAll}
 
@@ -50,6 +52,10 @@ heap-dictionary (Ok m′) D d = record { does = λ e l μ R. D .does e d l μ R 
 
 pub stack-dictionary : {f : Floo.Machine → Result Floo.Machine} {m : Machine} {s s′ : List ℕ} (r : Did) → DoesStack f m s s′ r → (d c : List ℕ) → DoesDictionary f m s s′ d d c c r
 stack-dictionary r D d c = heap-dictionary r (stack-does r D c) d
+
+pub named-dictionary : {f : Floo.Machine → Result Floo.Machine} {m : Machine} {s s′ d c c′ : List ℕ} (r : Did) → DoesNamedHeap f m s s′ d c c′ r → DoesDictionary f m s s′ d d c c′ r
+named-dictionary (Fail x) D = record { does = λ e l μ R. let a = D .does e l μ R in (a .0, (a .1 .0, refl, a .1 .1)) }
+named-dictionary (Ok m′) D = record { does = λ e l μ R. D .does e l μ R }
 
 pub dictionary-named : {m : Machine} {s s′ d d′ c c′ : List ℕ} {r : Did} {k : ℕ} (j : ℕ) (n : List ℕ)
     → k ≡ j
@@ -93,3 +99,6 @@ pub log-all : {f : Floo.Machine → Result Floo.Machine} {m : Machine} {s d c c�
     → DoesAll f m s s e e d d c c′ l l′ r
 log-all (Fail x) D e = record { does = λ μ R. let a = D .does e μ R in (a .0, (refl, refl, refl, a .1 .0, a .1 .1)) }
 log-all (Ok m′) D e = record { does = λ μ R. D .does e μ R }
+
+pub cells-all : {f : Floo.Machine → Result Floo.Machine} {m : Machine} {e c c′ : List ℕ} (r : Did) → DoesCells f m e c c′ r → (s d l : List ℕ) → DoesAll f m s s e e d d c c′ l l r
+cells-all r D s d l = frames-all r (cells-frames r D s) d l

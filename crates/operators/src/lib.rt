@@ -7,7 +7,7 @@ ghost use Rattle.frames.specs.Moves.{Somewhere, SomewhereAll};
 ghost use Rattle.control_operators.specs.Promises.{DoesFrames, DoesCells};
 ghost use Rattle.dictionary_operators.specs.Promises.{Represented, DoesDictionary};
 ghost use Rattle.output_operators.specs.Output.{SomewhereLog, DoesLog};
-ghost use Rattle.operators.specs.Titles.{performAt};
+ghost use Rattle.operators.specs.Titles.{performAt, Everywhere, DoesAll};
 use machine::Did;
 use machine::Machine;
 
@@ -96,17 +96,6 @@ fn endings(k: u32, m: Machine, exec: &[u32], cells: &mut [u32]) -> Did
     }
 }
 
-// cvx and cvlit.
-fn conversions(k: u32, m: Machine, stack: &mut [u32]) -> Did
-    requires { ⌜ (48 ≤ k) × (k < 50) × (2 * m .depth ≤ length (now stack)) ⌝ }
-    ensures { λ r. ⌜ DoesStack (performAt k) m (now (stack .entry)) (now (stack .exit)) r ⌝ }
-{
-    match k {
-        48 => stack_operators::cvx(m, stack),
-        _ => stack_operators::cvlit(m, stack),
-    }
-}
-
 // eq and ne.
 fn equalities(k: u32, m: Machine, stack: &mut [u32], cells: &mut [u32]) -> Did
     requires { ⌜ (18 ≤ k) × (k < 20) × StackSomewhere m (now stack) (now cells) ⌝ }
@@ -183,7 +172,14 @@ fn lower(k: u32, m: Machine, stack: &mut [u32], dict: &mut [u32], cells: &mut [u
 }
 
 // echo, echostack and print.
-fn outputs(k: u32, m: Machine, stack: &[u32], dict: &[u32], cells: &mut [u32], log: &mut [u8]) -> Did
+fn outputs(
+    k: u32,
+    m: Machine,
+    stack: &[u32],
+    dict: &[u32],
+    cells: &mut [u32],
+    log: &mut [u8],
+) -> Did
     requires { ⌜ (51 ≤ k) × (k < 54) × SomewhereLog m (now stack) (now dict) (now cells) (now log) ⌝ }
     ensures { λ r. ⌜ DoesLog (performAt k) m (now (stack .entry)) (now (dict .entry)) (now (cells .entry)) (now (cells .exit)) (now (log .entry)) (now (log .exit)) r ⌝ }
 {
@@ -192,4 +188,67 @@ fn outputs(k: u32, m: Machine, stack: &[u32], dict: &[u32], cells: &mut [u32], l
         52 => output_operators::echostack(m, stack, dict, cells, log),
         _ => output_operators::print(m, stack, cells, log),
     }
+}
+
+// cvs, cvx, cvlit and cvn.
+fn converters(k: u32, m: Machine, stack: &mut [u32], dict: &mut [u32], cells: &mut [u32]) -> Did
+    requires { ⌜ (47 ≤ k) × (k < 51) × Represented m (now stack) (now dict) (now cells) ⌝ }
+    ensures { λ r. ⌜ DoesDictionary (performAt k) m (now (stack .entry)) (now (stack .exit)) (now (dict .entry)) (now (dict .exit)) (now (cells .entry)) (now (cells .exit)) r ⌝ }
+{
+    match k {
+        47 => conversions::cvs(m, stack, dict, cells),
+        48 => stack_operators::cvx(m, stack),
+        49 => stack_operators::cvlit(m, stack),
+        _ => dictionary_operators::cvn(m, stack, dict, cells),
+    }
+}
+// The operators from exec on.
+fn upper(
+    k: u32,
+    m: Machine,
+    stack: &mut [u32],
+    exec: &mut [u32],
+    dict: &mut [u32],
+    cells: &mut [u32],
+    log: &mut [u8],
+) -> Did
+    requires { ⌜ (27 ≤ k) × (k < 54) × Everywhere m (now stack) (now exec) (now dict) (now cells) (now log) ⌝ }
+    ensures { λ r. ⌜ DoesAll (performAt k) m (now (stack .entry)) (now (stack .exit)) (now (exec .entry)) (now (exec .exit)) (now (dict .entry)) (now (dict .exit)) (now (cells .entry)) (now (cells .exit)) (now (log .entry)) (now (log .exit)) r ⌝ }
+{
+    if k < 33 {
+        return bodies(k, m, stack, exec, cells);
+    }
+    if k < 36 {
+        return endings(k, m, exec, cells);
+    }
+    if k < 42 {
+        return arrays(k, m, stack, cells);
+    }
+    if k < 47 {
+        return intervals(k, m, stack, cells);
+    }
+    if k < 51 {
+        return converters(k, m, stack, dict, cells);
+    }
+    outputs(k, m, stack, dict, cells, log)
+}
+
+// The operator of this number.
+// Ruled out: two operators exchanged; one that is not in the table.
+pub fn perform(
+    k: u32,
+    m: Machine,
+    stack: &mut [u32],
+    exec: &mut [u32],
+    dict: &mut [u32],
+    cells: &mut [u32],
+    log: &mut [u8],
+) -> Did
+    requires { ⌜ (k < 54) × Everywhere m (now stack) (now exec) (now dict) (now cells) (now log) ⌝ }
+    ensures { λ r. ⌜ DoesAll (performAt k) m (now (stack .entry)) (now (stack .exit)) (now (exec .entry)) (now (exec .exit)) (now (dict .entry)) (now (dict .exit)) (now (cells .entry)) (now (cells .exit)) (now (log .entry)) (now (log .exit)) r ⌝ }
+{
+    if k < 27 {
+        return lower(k, m, stack, dict, cells);
+    }
+    upper(k, m, stack, exec, dict, cells, log)
 }

@@ -66,14 +66,14 @@ no-element [] n h = refl
 no-element (x ∷ l) zero h = absurd (omega arith)
 no-element (x ∷ l) (suc n) h = no-element l n (omega arith)
 
-an-element : (l : List Value) (n : ℕ) → n < length l → getElem? l n ≡ some (getD l n null)
+pub an-element : (l : List Value) (n : ℕ) → n < length l → getElem? l n ≡ some (getD l n null)
 an-element [] n h = absurd (omega arith)
 an-element (x ∷ l) zero h = refl
 an-element (x ∷ l) (suc n) h = an-element l n (omega arith)
 
 -- ---- the frame of each kind
 
-is-pending : {A : Value → ℕ → ℕ → Type 0} {g : Ghost} {store : List Object} {f : Frame} {kind t p a b c : ℕ}
+pub is-pending : {A : Value → ℕ → ℕ → Type 0} {g : Ghost} {store : List Object} {f : Frame} {kind t p a b c : ℕ}
     → FrameIs A g store f kind t p a b c
     → kind ≡ 0
     → (v : Value) × (f ≡ pending v) × A v t p

@@ -1,3 +1,8 @@
+use Rattle.operators.proofs.Named.{heap-named, stack-does}
+use Rattle.store.specs.Rep.{titles}
+use Rattle.semantics.specs.Operators.{table, _is_}
+use native.Mathlib.Omega.{arith}
+use mathlib.Core.Path.{refl}
 use borrow.Author.Needs.{needs}
 use Rattle.operators.proofs.arrays.Statement.{statement}
 use Rattle.operators.proofs.arrays.Tie as tie
@@ -44,7 +49,8 @@ same-length-2 c = search needs
 
 -- src/lib.rt:121:1
 returns : tie.Need-returns
-returns c = ?
+unfolding titles table _is_
+returns c = heap-named 36 _ (c .before .before .before .before .before .before .before .match .keys1) refl (c .before .before .before .before .array .ensures)
 
 -- src/lib.rt:121:1
 same-length-3 : tie.Need-same-length-3
@@ -52,7 +58,8 @@ same-length-3 c = search needs
 
 -- src/lib.rt:121:1
 returns-2 : tie.Need-returns-2
-returns-2 c = ?
+unfolding titles table _is_
+returns-2 c = heap-named 37 _ (c .before .before .before .before .match .keys2) refl (stack-does _ (c .before .before .mark .ensures) _)
 
 -- src/lib.rt:121:1
 same-length-4 : tie.Need-same-length-4
@@ -64,7 +71,8 @@ same-length-5 c = search needs
 
 -- src/lib.rt:121:1
 returns-3 : tie.Need-returns-3
-returns-3 c = ?
+unfolding titles table _is_
+returns-3 c = heap-named 38 _ (c .before .before .before .before .before .before .before .match .keys3) refl (c .before .before .before .before .close .ensures)
 
 -- src/lib.rt:121:1
 same-length-6 : tie.Need-same-length-6
@@ -76,7 +84,8 @@ same-length-7 c = search needs
 
 -- src/lib.rt:121:1
 returns-4 : tie.Need-returns-4
-returns-4 c = ?
+unfolding titles table _is_
+returns-4 c = heap-named 39 _ (c .before .before .before .before .before .before .before .match .keys4) refl (c .before .before .before .before .length .ensures)
 
 -- src/lib.rt:121:1
 same-length-8 : tie.Need-same-length-8
@@ -88,7 +97,8 @@ same-length-9 c = search needs
 
 -- src/lib.rt:121:1
 returns-5 : tie.Need-returns-5
-returns-5 c = ?
+unfolding titles table _is_
+returns-5 c = heap-named 40 _ (c .before .before .before .before .before .before .before .match .keys5) refl (c .before .before .before .before .get .ensures)
 
 -- src/lib.rt:121:1
 same-length-10 : tie.Need-same-length-10
@@ -100,7 +110,8 @@ same-length-11 c = search needs
 
 -- src/lib.rt:121:1
 returns-6 : tie.Need-returns-6
-returns-6 c = ?
+unfolding titles table _is_
+returns-6 c = heap-named 41 _ (omega (arith, c .before .before .before .before .before .before .before .match .rest, c .before .before .before .before .before .before .before .before .before .before .pre .0, c .before .before .before .before .before .before .before .before .before .before .pre .1)) refl (c .before .before .before .before .put .ensures)
 
 pub arrays-spec : {M : Type 1} → statement M
 arrays-spec =

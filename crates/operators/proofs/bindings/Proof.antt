@@ -1,3 +1,8 @@
+use Rattle.operators.proofs.Named.{dictionary-named}
+use Rattle.store.specs.Rep.{titles}
+use Rattle.semantics.specs.Operators.{table, _is_}
+use native.Mathlib.Omega.{arith}
+use mathlib.Core.Path.{refl}
 use borrow.Author.Needs.{needs}
 use Rattle.operators.proofs.bindings.Statement.{statement}
 use Rattle.operators.proofs.bindings.Tie as tie
@@ -33,7 +38,8 @@ same-length-3 c = search needs
 
 -- src/lib.rt:150:1
 returns : tie.Need-returns
-returns c = ?
+unfolding titles table _is_
+returns c = dictionary-named 24 _ (c .before .before .before .before .before .before .before .before .match .keys1) refl (c .before .before .before .before .def .ensures)
 
 -- src/lib.rt:150:1
 same-length-4 : tie.Need-same-length-4
@@ -49,7 +55,8 @@ same-length-6 c = search needs
 
 -- src/lib.rt:150:1
 returns-2 : tie.Need-returns-2
-returns-2 c = ?
+unfolding titles table _is_
+returns-2 c = dictionary-named 25 _ (c .before .before .before .before .before .before .before .before .match .keys2) refl (c .before .before .before .before .load .ensures)
 
 -- src/lib.rt:150:1
 same-length-7 : tie.Need-same-length-7
@@ -65,7 +72,8 @@ same-length-9 c = search needs
 
 -- src/lib.rt:150:1
 returns-3 : tie.Need-returns-3
-returns-3 c = ?
+unfolding titles table _is_
+returns-3 c = dictionary-named 26 _ (omega (arith, c .before .before .before .before .before .before .match .rest, c .before .before .before .before .before .before .before .before .before .before .pre .0, c .before .before .before .before .before .before .before .before .before .before .pre .1)) refl (c .before .before .bind .ensures)
 
 pub bindings-spec : {M : Type 1} → statement M
 bindings-spec =

@@ -1,3 +1,8 @@
+use Rattle.operators.proofs.Named.{heap-named}
+use Rattle.store.specs.Rep.{titles}
+use Rattle.semantics.specs.Operators.{table, _is_}
+use native.Mathlib.Omega.{arith}
+use mathlib.Core.Path.{refl}
 use borrow.Author.Needs.{needs}
 use Rattle.operators.proofs.equalities.Statement.{statement}
 use Rattle.operators.proofs.equalities.Tie as tie
@@ -24,7 +29,8 @@ same-length-2 c = search needs
 
 -- src/lib.rt:110:1
 returns : tie.Need-returns
-returns c = ?
+unfolding titles table _is_
+returns c = heap-named 18 _ (c .before .before .before .before .before .before .before .match .keys1) refl (c .before .before .before .before .eq .ensures)
 
 -- src/lib.rt:110:1
 same-length-3 : tie.Need-same-length-3
@@ -36,7 +42,8 @@ same-length-4 c = search needs
 
 -- src/lib.rt:110:1
 returns-2 : tie.Need-returns-2
-returns-2 c = ?
+unfolding titles table _is_
+returns-2 c = heap-named 19 _ (omega (arith, c .before .before .before .before .before .before .before .match .rest, c .before .before .before .before .before .before .before .before .before .before .pre .0, c .before .before .before .before .before .before .before .before .before .before .pre .1)) refl (c .before .before .before .before .ne .ensures)
 
 pub equalities-spec : {M : Type 1} → statement M
 equalities-spec =

@@ -1,3 +1,8 @@
+use Rattle.operators.proofs.Named.{heap-named}
+use Rattle.store.specs.Rep.{titles}
+use Rattle.semantics.specs.Operators.{table, _is_}
+use native.Mathlib.Omega.{arith}
+use mathlib.Core.Path.{refl}
 use borrow.Author.Needs.{needs}
 use Rattle.operators.proofs.intervals.Statement.{statement}
 use Rattle.operators.proofs.intervals.Tie as tie
@@ -39,7 +44,8 @@ same-length-2 c = search needs
 
 -- src/lib.rt:136:1
 returns : tie.Need-returns
-returns c = ?
+unfolding titles table _is_
+returns c = heap-named 42 _ (c .before .before .before .before .before .before .before .match .keys1) refl (c .before .before .before .before .getinterval .ensures)
 
 -- src/lib.rt:136:1
 same-length-3 : tie.Need-same-length-3
@@ -51,7 +57,8 @@ same-length-4 c = search needs
 
 -- src/lib.rt:136:1
 returns-2 : tie.Need-returns-2
-returns-2 c = ?
+unfolding titles table _is_
+returns-2 c = heap-named 43 _ (c .before .before .before .before .before .before .before .match .keys2) refl (c .before .before .before .before .putinterval .ensures)
 
 -- src/lib.rt:136:1
 same-length-5 : tie.Need-same-length-5
@@ -63,7 +70,8 @@ same-length-6 c = search needs
 
 -- src/lib.rt:136:1
 returns-3 : tie.Need-returns-3
-returns-3 c = ?
+unfolding titles table _is_
+returns-3 c = heap-named 44 _ (c .before .before .before .before .before .before .before .match .keys3) refl (c .before .before .before .before .aload .ensures)
 
 -- src/lib.rt:136:1
 same-length-7 : tie.Need-same-length-7
@@ -75,7 +83,8 @@ same-length-8 c = search needs
 
 -- src/lib.rt:136:1
 returns-4 : tie.Need-returns-4
-returns-4 c = ?
+unfolding titles table _is_
+returns-4 c = heap-named 45 _ (c .before .before .before .before .before .before .before .match .keys4) refl (c .before .before .before .before .astore .ensures)
 
 -- src/lib.rt:136:1
 same-length-9 : tie.Need-same-length-9
@@ -87,7 +96,8 @@ same-length-10 c = search needs
 
 -- src/lib.rt:136:1
 returns-5 : tie.Need-returns-5
-returns-5 c = ?
+unfolding titles table _is_
+returns-5 c = heap-named 46 _ (omega (arith, c .before .before .before .before .before .before .before .match .rest, c .before .before .before .before .before .before .before .before .before .before .pre .0, c .before .before .before .before .before .before .before .before .before .before .pre .1)) refl (c .before .before .before .before .string .ensures)
 
 pub intervals-spec : {M : Type 1} → statement M
 intervals-spec =

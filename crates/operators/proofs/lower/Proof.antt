@@ -1,3 +1,5 @@
+use Rattle.operators.proofs.Named.{heap-dictionary, stack-dictionary}
+use native.Mathlib.Omega.{arith}
 use borrow.Author.Needs.{needs}
 use Rattle.operators.proofs.lower.Statement.{statement}
 use Rattle.operators.proofs.lower.Tie as tie
@@ -12,7 +14,7 @@ use Rattle.operators.proofs.rearrangements.Reads as rearrangements-read
 
 -- src/lib.rt:167:9
 rearrangements-requires : tie.Need-rearrangements-requires
-rearrangements-requires c κs = search needs
+rearrangements-requires c κs = (c .before .before .if1 .taken, (_, _, _, _, c .before .before .before .before .before .before .pre .1 .3))
 
 -- src/lib.rt:167:9
 same-length : tie.Need-same-length
@@ -24,7 +26,7 @@ same-length-2 c = search needs
 
 -- src/lib.rt:167:9
 returns : tie.Need-returns
-returns c = ?
+returns c = heap-dictionary _ (c .before .before .before .before .rearrangements .ensures) _
 
 -- src/lib.rt:170:9
 arithmetic-requires : tie.Need-arithmetic-requires
@@ -36,7 +38,7 @@ same-length-3 c = search needs
 
 -- src/lib.rt:170:9
 returns-2 : tie.Need-returns-2
-returns-2 c = ?
+returns-2 c = stack-dictionary _ (c .before .before .arithmetic .ensures) _ _
 
 -- src/lib.rt:173:9
 bits-requires : tie.Need-bits-requires
@@ -48,7 +50,7 @@ same-length-4 c = search needs
 
 -- src/lib.rt:173:9
 returns-3 : tie.Need-returns-3
-returns-3 c = ?
+returns-3 c = stack-dictionary _ (c .before .before .bits .ensures) _ _
 
 -- src/lib.rt:176:9
 equalities-requires : tie.Need-equalities-requires
@@ -64,7 +66,7 @@ same-length-6 c = search needs
 
 -- src/lib.rt:176:9
 returns-4 : tie.Need-returns-4
-returns-4 c = ?
+returns-4 c = heap-dictionary _ (c .before .before .before .before .equalities .ensures) _
 
 -- src/lib.rt:179:9
 comparisons-requires : tie.Need-comparisons-requires
@@ -76,7 +78,7 @@ same-length-7 c = search needs
 
 -- src/lib.rt:179:9
 returns-5 : tie.Need-returns-5
-returns-5 c = ?
+returns-5 c = stack-dictionary _ (c .before .before .comparisons .ensures) _ _
 
 -- src/lib.rt:181:5
 bindings-requires : tie.Need-bindings-requires
@@ -96,7 +98,7 @@ same-length-10 c = search needs
 
 -- src/lib.rt:162:1
 returns-6 : tie.Need-returns-6
-returns-6 c = search needs
+returns-6 c = c .before .before .before .before .before .before .bindings .ensures
 
 pub lower-spec : {M : Type 1} → statement M
 lower-spec =

@@ -1,0 +1,163 @@
+// One step on the topmost execution slot: what is pending is executed, a procedure goes on, a loop turns. It does exactly what the definition's step does to
+// that slot, and then the definition's test of room; where it fails, no word has changed.
+ghost use mathlib.Core.Path.{_≡_};
+ghost use Prim.Native.Nat.{_+_, _-_, _*_, _≤_, _<_};
+ghost use lib.ListN.{length, getD};
+ghost use Rattle.heap.specs.Word.{word};
+ghost use Rattle.frames.specs.Moves.{SomewhereAll};
+ghost use Rattle.taking.specs.Promises.{Bindings, DoesBinding};
+ghost use Rattle.operators.specs.Titles.{Everywhere, DoesAll};
+ghost use Rattle.control_operators.specs.Promises.{DoesFrames};
+ghost use Rattle.turns.specs.Turns.{resumed};
+use frames::FOR;
+use frames::LOOP;
+use frames::PENDING;
+use frames::REPEAT;
+use frames::RUNNING;
+use machine::Did;
+use machine::Machine;
+use machine::TAG_EXECUTABLE;
+use machine::TAG_OPERATOR;
+use machine::TAG_PROCEDURE;
+
+// The topmost slot acts.
+// Ruled out: a slot that acts twice; an operator's operands gone where it fails.
+pub fn act(
+    m: Machine,
+    stack: &mut [u32],
+    exec: &mut [u32],
+    dict: &mut [u32],
+    cells: &mut [u32],
+    log: &mut [u8],
+) -> Did
+    requires { ⌜ (1 ≤ m .frames) × Everywhere m (now stack) (now exec) (now dict) (now cells) (now log) ⌝ }
+    ensures { λ r. ⌜ DoesAll resumed m (now (stack .entry)) (now (stack .exit)) (now (exec .entry)) (now (exec .exit)) (now (dict .entry)) (now (dict .exit)) (now (cells .entry)) (now (cells .exit)) (now (log .entry)) (now (log .exit)) r ⌝ }
+{
+    let k = m.frames - 1;
+    let kind = exec[8 * k];
+    if kind == PENDING {
+        return pending(m, stack, exec, dict, cells, log);
+    }
+    if kind == RUNNING {
+        return running(m, stack, exec, dict, cells, log);
+    }
+    looping(m, stack, exec, cells)
+}
+
+// The pending object is executed.
+fn pending(
+    m: Machine,
+    stack: &mut [u32],
+    exec: &mut [u32],
+    dict: &mut [u32],
+    cells: &mut [u32],
+    log: &mut [u8],
+) -> Did
+    requires { ⌜ (1 ≤ m .frames) × (getD (now exec) (8 * (m .frames - 1)) 0 ≡ 0) × Everywhere m (now stack) (now exec) (now dict) (now cells) (now log) ⌝ }
+    ensures { λ r. ⌜ DoesAll resumed m (now (stack .entry)) (now (stack .exit)) (now (exec .entry)) (now (exec .exit)) (now (dict .entry)) (now (dict .exit)) (now (cells .entry)) (now (cells .exit)) (now (log .entry)) (now (log .exit)) r ⌝ }
+{
+    let k = m.frames - 1;
+    let tag = exec[8 * k + 1];
+    let pay = exec[8 * k + 2];
+    if tag == TAG_OPERATOR {
+        let left = frames::forget_frame(m);
+        return operators::perform(pay, left, stack, exec, dict, cells, log);
+    }
+    if tag == TAG_EXECUTABLE {
+        let left = frames::forget_frame(m);
+        return taking::take_name(left, exec, dict, cells, pay as usize);
+    }
+    if tag == TAG_PROCEDURE {
+        return turns::start(m, exec, cells);
+    }
+    turns::push_top(m, stack, exec)
+}
+
+// The procedure goes on.
+fn running(
+    m: Machine,
+    stack: &mut [u32],
+    exec: &mut [u32],
+    dict: &mut [u32],
+    cells: &mut [u32],
+    log: &mut [u8],
+) -> Did
+    requires { ⌜ (1 ≤ m .frames) × (getD (now exec) (8 * (m .frames - 1)) 0 ≡ 1) × Everywhere m (now stack) (now exec) (now dict) (now cells) (now log) ⌝ }
+    ensures { λ r. ⌜ DoesAll resumed m (now (stack .entry)) (now (stack .exit)) (now (exec .entry)) (now (exec .exit)) (now (dict .entry)) (now (dict .exit)) (now (cells .entry)) (now (cells .exit)) (now (log .entry)) (now (log .exit)) r ⌝ }
+{
+    let k = m.frames - 1;
+    let c = exec[8 * k + 3];
+    let left = exec[8 * k + 4];
+    if left == 0 {
+        return turns::finish(m, exec, cells);
+    }
+    let tag = heap::get(cells, c, 0);
+    if tag == TAG_OPERATOR {
+        return perform_element(m, stack, exec, dict, cells, log);
+    }
+    if tag == TAG_EXECUTABLE {
+        return name_element(m, exec, dict, cells);
+    }
+    turns::push_next(m, stack, exec, cells)
+}
+
+// The operator that is the next element is executed. The procedure has moved on before it acts, and is put back if it fails.
+fn perform_element(
+    m: Machine,
+    stack: &mut [u32],
+    exec: &mut [u32],
+    dict: &mut [u32],
+    cells: &mut [u32],
+    log: &mut [u8],
+) -> Did
+    requires { ⌜ (1 ≤ m .frames) × (getD (now exec) (8 * (m .frames - 1)) 0 ≡ 1) × (1 ≤ getD (now exec) (8 * (m .frames - 1) + 4) 0) × (word (now cells) (getD (now exec) (8 * (m .frames - 1) + 3) 0) 0 ≡ 4) × Everywhere m (now stack) (now exec) (now dict) (now cells) (now log) ⌝ }
+    ensures { λ r. ⌜ DoesAll resumed m (now (stack .entry)) (now (stack .exit)) (now (exec .entry)) (now (exec .exit)) (now (dict .entry)) (now (dict .exit)) (now (cells .entry)) (now (cells .exit)) (now (log .entry)) (now (log .exit)) r ⌝ }
+{
+    let k = m.frames - 1;
+    let c = exec[8 * k + 3];
+    let left = exec[8 * k + 4];
+    let number = heap::get(cells, c, 1);
+    frames::advance(m, exec, cells);
+    match operators::perform(number, m, stack, exec, dict, cells, log) {
+        Did::Ok(r) => Did::Ok(r),
+        Did::Fail(e) => {
+            frames::reset_top(m, exec, RUNNING, c, left);
+            Did::Fail(e)
+        }
+    }
+}
+
+// The same of an executable name.
+fn name_element(m: Machine, exec: &mut [u32], dict: &[u32], cells: &mut [u32]) -> Did
+    requires { ⌜ (1 ≤ m .frames) × (getD (now exec) (8 * (m .frames - 1)) 0 ≡ 1) × (1 ≤ getD (now exec) (8 * (m .frames - 1) + 4) 0) × (word (now cells) (getD (now exec) (8 * (m .frames - 1) + 3) 0) 0 ≡ 6) × Bindings m (now exec) (now dict) (now cells) ⌝ }
+    ensures { λ r. ⌜ DoesBinding resumed m (now (exec .entry)) (now (exec .exit)) (now (dict .entry)) (now (cells .entry)) (now (cells .exit)) r ⌝ }
+{
+    let k = m.frames - 1;
+    let c = exec[8 * k + 3];
+    let left = exec[8 * k + 4];
+    let slot = heap::get(cells, c, 1);
+    frames::advance(m, exec, cells);
+    match taking::take_name(m, exec, dict, cells, slot as usize) {
+        Did::Ok(r) => Did::Ok(r),
+        Did::Fail(e) => {
+            frames::reset_top(m, exec, RUNNING, c, left);
+            Did::Fail(e)
+        }
+    }
+}
+
+// A loop turns.
+fn looping(m: Machine, stack: &mut [u32], exec: &mut [u32], cells: &mut [u32]) -> Did
+    requires { ⌜ (1 ≤ m .frames) × (2 ≤ getD (now exec) (8 * (m .frames - 1)) 0) × SomewhereAll m (now stack) (now exec) (now cells) ⌝ }
+    ensures { λ r. ⌜ DoesFrames resumed m (now (stack .entry)) (now (stack .exit)) (now (exec .entry)) (now (exec .exit)) (now (cells .entry)) (now (cells .exit)) r ⌝ }
+{
+    let k = m.frames - 1;
+    let kind = exec[8 * k];
+    if kind == LOOP {
+        return turns::loop_turn(m, exec, cells);
+    }
+    if kind == REPEAT {
+        return turns::repeat_turn(m, exec, cells);
+    }
+    turns::for_turn(m, stack, exec, cells)
+}

@@ -1,0 +1,4 @@
+pub mod Putting
+pub mod Reading
+pub mod Valuing
+pub mod Converting

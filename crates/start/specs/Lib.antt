@@ -1,0 +1,2 @@
+pub mod Predefined
+pub mod Begins

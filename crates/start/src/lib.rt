@@ -1,0 +1,103 @@
+// The machine at the start of a run: the predefined names in the first slots of the dictionary, and no item, execution slot or object. Only the words
+// of those slots are written.
+ghost use mathlib.Core.Path.{_≡_};
+ghost use Prim.Native.Nat.{_≤_};
+ghost use lib.ListN.{length};
+ghost use Rattle.heap.specs.Shape as Heap;
+ghost use Rattle.start.specs.Begins.{Begins};
+ghost use Rattle.start.specs.Predefined.{names, listed, tagOf, payloadOf, Filled, Ends};
+use dictionary::BINDING;
+use dictionary::PAYLOAD;
+use dictionary::SLOT;
+use machine::Machine;
+use machine::TAG_BOOLEAN;
+use machine::TAG_NULL;
+use machine::TAG_OPERATOR;
+
+const OPERATORS: usize = 54;
+
+const NAMES: usize = 58;
+
+// The number of mark, which [ is bound to.
+const MARK: u32 = 37;
+
+// Rules out: a name at another number than its operator's; a heap that takes old words for objects.
+pub fn begin(dict: &mut [u32], cells: &[u32]) -> Machine
+    requires { ⌜ (696 ≤ length (now dict)) × (length (now dict) ≤ 6155) × (Heap.cells (now cells) ≤ 32768) ⌝ }
+    ensures { λ r. ⌜ Begins (now (dict .entry)) (now (dict .exit)) (now (cells .entry)) r ⌝ }
+{
+    write_names(
+        dict,
+        b"dup exch pop index copy roll add sub mul idiv mod abs neg bitshift not and or xor eq ne lt le gt ge def load \
+            bind exec if ifelse loop repeat for exit continue stop array mark ] length get put getinterval putinterval \
+            aload astore string cvs cvx cvlit cvn echo echostack print [ true false null ",
+    );
+    Machine {
+        depth: 0,
+        frames: 0,
+        names: NAMES,
+        written: 0,
+        lists: heap::fresh(),
+        stopped: false,
+    }
+}
+
+// Each name of the list, which a blank ends, takes the next slot, with its binding.
+fn write_names(dict: &mut [u32], list: &[u8])
+    requires { ⌜ (now list ≡ listed names) × (696 ≤ length (now dict)) × (length (now dict) ≤ 6155) ⌝ }
+    ensures { λ _. ⌜ Filled (now (dict .entry)) (now (dict .exit)) ⌝ }
+{
+    let mut at = 0;
+    let mut k = 0;
+    while k < NAMES {
+        let end = blank_from(list, at);
+        dictionary::spell(dict, k, &list[at..end]);
+        dict[SLOT * k + BINDING] = binding_tag(k);
+        dict[SLOT * k + PAYLOAD] = binding_payload(k);
+        at = end + 1;
+        k = k + 1;
+    }
+}
+
+// The place of the next blank; the end where there is none.
+fn blank_from(list: &[u8], at: usize) -> usize
+    requires { ⌜ at ≤ length (now list) ⌝ }
+    ensures { λ r. ⌜ Ends (now (list .entry)) at r ⌝ }
+{
+    let mut end = at;
+    while end < list.len() {
+        if list[end] == b' ' {
+            return end;
+        }
+        end = end + 1;
+    }
+    end
+}
+
+// The operators come first, then [, true, false and null.
+fn binding_tag(k: usize) -> u32
+    ensures { λ r. ⌜ r ≡ tagOf k ⌝ }
+{
+    if k <= OPERATORS {
+        return TAG_OPERATOR;
+    }
+    if k <= OPERATORS + 2 {
+        return TAG_BOOLEAN;
+    }
+    TAG_NULL
+}
+
+fn binding_payload(k: usize) -> u32
+    ensures { λ r. ⌜ r ≡ payloadOf k ⌝ }
+{
+    if k < OPERATORS {
+        return k as u32;
+    }
+    if k == OPERATORS {
+        return MARK;
+    }
+    if k == OPERATORS + 1 {
+        return 1;
+    }
+    0
+}
