@@ -3,13 +3,13 @@
 -- Assumes nothing.
 use mathlib.Core.Path.{_≡_, refl, ap, _∙_}
 use mathlib.Core.Bool.{true, false}
-use mathlib.Core.List.{List, [], _∷_, _++_}
+use mathlib.Core.List.{List, [], _++_}
 use Prim.Native.Nat.{ℕ, zero, suc, _-_}
 use lib.ListN.{length, drop, getD}
 use lib.Dec.{leb, eqb}
-use Rattle.semantics.specs.Values.{Value, operator, name, Object, elements, Result, ok, _>>=_, check, cells}
-use Rattle.semantics.specs.Machine.{Machine, Frame, pending, running, withExec, object}
-use Rattle.semantics.specs.Held.{ofValue, ofFrame, ofObject, gather, roots, namedBy, among, prune, pruned, below, held, sumOf, heldCells}
+use Rattle.semantics.specs.Values.{name, Object, elements, Result, ok, _>>=_, check, cells}
+use Rattle.semantics.specs.Machine.{Machine, running, object}
+use Rattle.semantics.specs.Held.{ofObject, gather, roots, namedBy, among, prune, pruned, below, held, sumOf, heldCells}
 use Rattle.semantics.specs.Steps.{Limits, newCells, cellsFor, roomFor}
 use Rattle.semantics.specs.declared.Error.the-variants.{LimitCheck, ExecStackOverflow, StackOverflow, VmError, IoError}
 

@@ -4,13 +4,13 @@
 use mathlib.Core.Path.{_≡_, refl, sym, ap, _∙_, subst}
 use mathlib.Core.Bool.{Bool, true}
 use mathlib.Core.List.{List, [], _∷_}
-use mathlib.Core.Option.{Option, none, some}
+use mathlib.Core.Option.{some}
 use Prim.Native.Nat.{ℕ, zero, suc, _+_, _-_, _*_, _/_, _≤_, _<_}
 use native.Mathlib.Omega.{arith}
-use lib.ListN.{length, getD, getElem?, length-set}
-use Rattle.semantics.specs.Values.{Value, operator, name, Object, Result, ok, fault, _>>=_, given}
+use lib.ListN.{length, getD, getElem?}
+use Rattle.semantics.specs.Values.{Value, operator, name, Object, Result}
 use Rattle.semantics.specs.Machine as Floo
-use Rattle.semantics.specs.Machine.{Frame, pending, running, withExec, enter, elementsOf, object}
+use Rattle.semantics.specs.Machine.{Frame, pending, running, withExec, elementsOf, object}
 use Rattle.semantics.specs.Held.{ofValue}
 use Rattle.semantics.specs.Operators.{perform, table, _is_}
 use Rattle.semantics.specs.Steps.{resume, execute, treat, isProcedure}
@@ -26,9 +26,9 @@ use Rattle.machine.specs.declared.Did.{Did}
 use Rattle.machine.specs.declared.Did.the-variants.{Ok, Fail}
 use Rattle.frames.specs.Moves.{topFrame, frameDropped, resetTop, resetWords, Turned, ForgetsFrame, Advances}
 use Rattle.frames.proofs.Tops.{slot}
-use Rattle.frames.proofs.Running.{Runs, runs, kind-runs, element-words}
+use Rattle.frames.proofs.Running.{runs, kind-runs, element-words}
 use Rattle.frames.proofs.Undoing.{undone}
-use Rattle.operators.specs.Titles.{performAt, DoesAll}
+use Rattle.operators.specs.Titles.{performAt, Everywhere, DoesAll}
 use Rattle.taking.specs.Effects.{executableTaken}
 use Rattle.taking.specs.Promises.{Bindings, NamedBindings, DoesBinding, DoesNamed}
 use Rattle.dictionary.proofs.Dictionaries.{some-one, none-some}
@@ -74,6 +74,19 @@ getD-known : {A : Type 0} (l : List A) (i : ℕ) (d : A) {x : A} → getElem? l 
 getD-known [] i d q = absurd (none-some q)
 getD-known (y ∷ l) zero d q = some-one q
 getD-known (y ∷ l) (suc i) d q = getD-known l i d q
+
+-- An operator's number is one of 54.
+few-titles : length titles ≡ 54
+unfolding titles table _is_
+few-titles = refl
+
+inside-list : {A : Type 0} (l : List A) (i : ℕ) {x : A} → getElem? l i ≡ some x → i < length l
+inside-list [] i q = absurd (none-some q)
+inside-list (y ∷ l) zero q = omega arith
+inside-list (y ∷ l) (suc i) q = let h = inside-list l i q in omega arith
+
+pub operator-number : {o : List ℕ} (p : ℕ) → getElem? titles p ≡ some o → p < 54
+operator-number p q = subst (λ n. p < n) few-titles (inside-list titles p q)
 
 -- ---- what is pending
 
@@ -135,6 +148,24 @@ module _ {m : Machine} {s e d c l : List ℕ} {μ : Floo.Machine} (R : Rep m s e
         via (lent s e d c l) μ (frameDropped μ) resumed (executableTaken (w .0))
         (resumed-is μ (w .2) ∙ ap (executableTaken (w .0)) (sym (dropped-is μ (w .2))))
         (dropped-store μ) (roots-dropped μ (name-none (w .0)) (w .2))
+
+-- What is asked before it acts.
+module _ {m left : Machine} {s e d c l : List ℕ} {μ : Floo.Machine} (R : Rep m s e d c l μ) (slots : 1 ≤ m .frames) (kind : getD e (8 * (m .frames - 1)) 0 ≡ 0) (F : ForgetsFrame m left) where
+  pub operator-ready : getD e (8 * (m .frames - 1) + 1) 0 ≡ 4 → (getD e (8 * (m .frames - 1) + 2) 0 < 54) × Everywhere left s e d c l
+  operator-ready four =
+      let w = operator-waits R (m .frames - 1) (omega (arith, slots)) kind four in
+      (operator-number _ (w .1), (frameDropped μ, F .moves s e d c l μ R (omega (arith, four))))
+
+  pub name-ready : getD e (8 * (m .frames - 1) + 1) 0 ≡ 6 → NamedBindings (getD e (8 * (m .frames - 1) + 2) 0) left e d c
+  name-ready six =
+      let w = name-waits R (m .frames - 1) (omega (arith, slots)) kind six in (
+        s,
+        l,
+        frameDropped μ,
+        w .0,
+        subst (λ ks. getElem? ks (getD e (8 * (m .frames - 1) + 2) 0) ≡ some (w .0)) (sym (dropped-keys μ)) (w .1),
+        F .moves s e d c l μ R (omega (arith, six)),
+      )
 
 -- What the operator promises of the machine without the slot, the step promises.
 pub operator-does : {m left : Machine} {s s′ e e′ d d′ c c′ l l′ : List ℕ} (r : Did)
@@ -271,6 +302,11 @@ module _ (m : Machine) (e e₁ e′ d c c′ : List ℕ) (slots : 1 ≤ m .frame
     fits : (μ : Floo.Machine) (R : Rep m s e d c l μ) → fitted (lent s e d c l) resumed μ ≡ fitted (lent s e₁ d c l) (performAt (word c cell 1)) (after s l μ R)
     fits μ R = same-room s l μ R (performAt (word c cell 1)) (operator-next R (m .frames - 1) (omega (arith, slots)) kind left four)
 
+    pub element-ready : {μ : Floo.Machine} → Rep m s e d c l μ → (p < 54) × Everywhere m s e₁ d c l
+    element-ready {μ} R =
+        let w = is-operator (value-words R (m .frames - 1) (omega (arith, slots)) kind left .stands) four in
+        (subst (λ q. q < 54) (sym number) (operator-number _ (w .2)), (after s l μ R, stands s l μ R))
+
     pub element-performs : {did : Did} {r : Machine}
         → did ≡ Ok r
         → DoesAll (performAt p) m s s′ e₁ e′ d d′ c c′ l l′ did
@@ -339,19 +375,6 @@ pub binding-all : {f : Floo.Machine → Result Floo.Machine} {m : Machine} {e e�
     → DoesAll f m s s e e′ d d c c′ l l r
 binding-all (Fail x) D s l = record { does = λ μ R. let a = D .does s l μ R in (a .0, (refl, a .1 .0, refl, a .1 .1, refl)) }
 binding-all (Ok m′) D s l = record { does = λ μ R. D .does s l μ R }
-
--- An operator's number is one of 54.
-few-titles : length titles ≡ 54
-unfolding titles table _is_
-few-titles = refl
-
-inside-list : {A : Type 0} (l : List A) (i : ℕ) {x : A} → getElem? l i ≡ some x → i < length l
-inside-list [] i q = absurd (none-some q)
-inside-list (y ∷ l) zero q = omega arith
-inside-list (y ∷ l) (suc i) q = let h = inside-list l i q in omega arith
-
-pub operator-number : {o : List ℕ} (p : ℕ) → getElem? titles p ≡ some o → p < 54
-operator-number p q = subst (λ n. p < n) few-titles (inside-list titles p q)
 
 -- ---- kinds
 

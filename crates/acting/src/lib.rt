@@ -64,13 +64,23 @@ fn pending(
         return operators::perform(pay, left, stack, exec, dict, cells, log);
     }
     if tag == TAG_EXECUTABLE {
-        let left = frames::forget_frame(m);
-        return taking::take_name(left, exec, dict, cells, pay as usize);
+        return name_pending(m, exec, dict, cells);
     }
     if tag == TAG_PROCEDURE {
         return turns::start(m, exec, cells);
     }
     turns::push_top(m, stack, exec)
+}
+
+// The pending name's binding takes its place.
+fn name_pending(m: Machine, exec: &mut [u32], dict: &[u32], cells: &mut [u32]) -> Did
+    requires { ⌜ (1 ≤ m .frames) × (getD (now exec) (8 * (m .frames - 1)) 0 ≡ 0) × (getD (now exec) (8 * (m .frames - 1) + 1) 0 ≡ 6) × Bindings m (now exec) (now dict) (now cells) ⌝ }
+    ensures { λ r. ⌜ DoesBinding resumed m (now (exec .entry)) (now (exec .exit)) (now (dict .entry)) (now (cells .entry)) (now (cells .exit)) r ⌝ }
+{
+    let k = m.frames - 1;
+    let slot = exec[8 * k + 2] as usize;
+    let left = frames::forget_frame(m);
+    taking::take_name(left, exec, dict, cells, slot)
 }
 
 // The procedure goes on.

@@ -1,3 +1,5 @@
+-- `acting::looping` meets its contract: by the kind of the loop.
+-- Assumes nothing.
 use Rattle.acting.proofs.Executing.{for-kind}
 use Rattle.turns.proofs.Fitting.{turn-frames}
 use borrow.Author.Needs.{needs}

@@ -1,3 +1,5 @@
+-- `acting::name_element` meets its contract: as for an operator, with the binding made pending.
+-- Assumes nothing.
 use Rattle.acting.proofs.Executing.{named-ready, element-named, element-unnamed}
 use Rattle.frames.proofs.Running.{run-at, cell-room}
 use mathlib.Core.List.{[]}

@@ -1,95 +1,70 @@
+-- `operators::arithmetic` meets its contract: each branch by the operator that it calls, named by its number.
+-- Assumes nothing.
 use Rattle.operators.proofs.Named.{stack-named}
 use Rattle.store.specs.Rep.{titles}
 use Rattle.semantics.specs.Operators.{table, _is_}
-use Rattle.semantics.specs.Text.{textual}
 use native.Mathlib.Omega.{arith}
 use mathlib.Core.Path.{refl}
 use borrow.Author.Needs.{needs}
 use Rattle.operators.proofs.arithmetic.Statement.{statement}
 use Rattle.operators.proofs.arithmetic.Tie as tie
-use Rattle.operators.proofs.arithmetic.Reads as reads
-use Rattle.operators.proofs.arithmetic.Lts as lts
-use Rattle.number_operators.proofs.abs.Reads as abs-reads
-use Rattle.number_operators.proofs.add.Reads as add-reads
-use Rattle.number_operators.proofs.idiv.Reads as idiv-reads
-use Rattle.number_operators.proofs.mul.Reads as mul-reads
-use Rattle.number_operators.proofs.rem.Reads as rem-reads
-use Rattle.number_operators.proofs.sub.Reads as sub-reads
 
--- src/lib.rt:15:14
 add-requires : tie.Need-add-requires
 add-requires c κs = search needs
 
--- src/lib.rt:16:14
 sub-requires : tie.Need-sub-requires
 sub-requires c κs = search needs
 
--- src/lib.rt:17:14
 mul-requires : tie.Need-mul-requires
 mul-requires c κs = search needs
 
--- src/lib.rt:18:14
 idiv-requires : tie.Need-idiv-requires
 idiv-requires c κs = search needs
 
--- src/lib.rt:19:15
 rem-requires : tie.Need-rem-requires
 rem-requires c κs = search needs
 
--- src/lib.rt:20:14
 abs-requires : tie.Need-abs-requires
 abs-requires c κs = search needs
 
--- src/lib.rt:10:1
 same-length : tie.Need-same-length
 same-length c = search needs
 
--- src/lib.rt:10:1
 returns : tie.Need-returns
 unfolding titles table _is_
 returns c = stack-named 6 _ (c .before .before .before .before .match .keys1) refl (c .before .before .add .ensures)
 
--- src/lib.rt:10:1
 same-length-2 : tie.Need-same-length-2
 same-length-2 c = search needs
 
--- src/lib.rt:10:1
 returns-2 : tie.Need-returns-2
 unfolding titles table _is_
 returns-2 c = stack-named 7 _ (c .before .before .before .before .match .keys2) refl (c .before .before .sub .ensures)
 
--- src/lib.rt:10:1
 same-length-3 : tie.Need-same-length-3
 same-length-3 c = search needs
 
--- src/lib.rt:10:1
 returns-3 : tie.Need-returns-3
 unfolding titles table _is_
 returns-3 c = stack-named 8 _ (c .before .before .before .before .match .keys3) refl (c .before .before .mul .ensures)
 
--- src/lib.rt:10:1
 same-length-4 : tie.Need-same-length-4
 same-length-4 c = search needs
 
--- src/lib.rt:10:1
 returns-4 : tie.Need-returns-4
 unfolding titles table _is_
 returns-4 c = stack-named 9 _ (c .before .before .before .before .match .keys4) refl (c .before .before .idiv .ensures)
 
--- src/lib.rt:10:1
 same-length-5 : tie.Need-same-length-5
 same-length-5 c = search needs
 
--- src/lib.rt:10:1
 returns-5 : tie.Need-returns-5
 unfolding titles table _is_
 returns-5 c = stack-named 10 _ (c .before .before .before .before .match .keys5) refl (c .before .before .rem .ensures)
 
--- src/lib.rt:10:1
 same-length-6 : tie.Need-same-length-6
 same-length-6 c = search needs
 
--- src/lib.rt:10:1
 returns-6 : tie.Need-returns-6
 unfolding titles table _is_
 returns-6 c = stack-named 11 _ (omega (arith, c .before .before .before .before .match .rest, c .before .before .before .before .before .before .pre .0, c .before .before .before .before .before .before .pre .1)) refl (c .before .before .abs .ensures)

@@ -1,3 +1,5 @@
+-- `operators::bindings` meets its contract: each branch by the operator that it calls, named by its number.
+-- Assumes nothing.
 use Rattle.operators.proofs.Named.{dictionary-named}
 use Rattle.store.specs.Rep.{titles}
 use Rattle.semantics.specs.Operators.{table, _is_}
@@ -6,71 +8,51 @@ use mathlib.Core.Path.{refl}
 use borrow.Author.Needs.{needs}
 use Rattle.operators.proofs.bindings.Statement.{statement}
 use Rattle.operators.proofs.bindings.Tie as tie
-use Rattle.operators.proofs.bindings.Reads as reads
-use Rattle.operators.proofs.bindings.Lts as lts
-use Rattle.dictionary_operators.proofs.bind.Reads as bind-reads
-use Rattle.dictionary_operators.proofs.def.Reads as def-reads
-use Rattle.dictionary_operators.proofs.load.Reads as load-reads
 
--- src/lib.rt:155:15
 def-requires : tie.Need-def-requires
 def-requires c κs = search needs
 
--- src/lib.rt:156:15
 load-requires : tie.Need-load-requires
 load-requires c κs = search needs
 
--- src/lib.rt:157:14
 bind-requires : tie.Need-bind-requires
 bind-requires c κs = search needs
 
--- src/lib.rt:150:1
 same-length : tie.Need-same-length
 same-length c = search needs
 
--- src/lib.rt:150:1
 same-length-2 : tie.Need-same-length-2
 same-length-2 c = search needs
 
--- src/lib.rt:150:1
 same-length-3 : tie.Need-same-length-3
 same-length-3 c = search needs
 
--- src/lib.rt:150:1
 returns : tie.Need-returns
 unfolding titles table _is_
 returns c = dictionary-named 24 _ (c .before .before .before .before .before .before .before .before .match .keys1) refl (c .before .before .before .before .def .ensures)
 
--- src/lib.rt:150:1
 same-length-4 : tie.Need-same-length-4
 same-length-4 c = search needs
 
--- src/lib.rt:150:1
 same-length-5 : tie.Need-same-length-5
 same-length-5 c = search needs
 
--- src/lib.rt:150:1
 same-length-6 : tie.Need-same-length-6
 same-length-6 c = search needs
 
--- src/lib.rt:150:1
 returns-2 : tie.Need-returns-2
 unfolding titles table _is_
 returns-2 c = dictionary-named 25 _ (c .before .before .before .before .before .before .before .before .match .keys2) refl (c .before .before .before .before .load .ensures)
 
--- src/lib.rt:150:1
 same-length-7 : tie.Need-same-length-7
 same-length-7 c = search needs
 
--- src/lib.rt:150:1
 same-length-8 : tie.Need-same-length-8
 same-length-8 c = search needs
 
--- src/lib.rt:150:1
 same-length-9 : tie.Need-same-length-9
 same-length-9 c = search needs
 
--- src/lib.rt:150:1
 returns-3 : tie.Need-returns-3
 unfolding titles table _is_
 returns-3 c = dictionary-named 26 _ (omega (arith, c .before .before .before .before .before .before .match .rest, c .before .before .before .before .before .before .before .before .before .before .pre .0, c .before .before .before .before .before .before .before .before .before .before .pre .1)) refl (c .before .before .bind .ensures)

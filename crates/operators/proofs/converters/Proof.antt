@@ -1,3 +1,5 @@
+-- `operators::converters` meets its contract: each branch by the operator that it calls, named by its number.
+-- Assumes nothing.
 use Rattle.operators.proofs.Named.{dictionary-named, named-dictionary, stack-dictionary}
 use Rattle.store.specs.Rep.{titles}
 use Rattle.semantics.specs.Operators.{table, _is_}

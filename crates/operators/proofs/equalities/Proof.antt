@@ -1,3 +1,5 @@
+-- `operators::equalities` meets its contract: each branch by the operator that it calls, named by its number.
+-- Assumes nothing.
 use Rattle.operators.proofs.Named.{heap-named}
 use Rattle.store.specs.Rep.{titles}
 use Rattle.semantics.specs.Operators.{table, _is_}
@@ -6,41 +8,29 @@ use mathlib.Core.Path.{refl}
 use borrow.Author.Needs.{needs}
 use Rattle.operators.proofs.equalities.Statement.{statement}
 use Rattle.operators.proofs.equalities.Tie as tie
-use Rattle.operators.proofs.equalities.Reads as reads
-use Rattle.operators.proofs.equalities.Lts as lts
-use Rattle.equality.proofs.eq.Reads as eq-reads
-use Rattle.equality.proofs.ne.Reads as ne-reads
 
--- src/lib.rt:115:15
 eq-requires : tie.Need-eq-requires
 eq-requires c κs = search needs
 
--- src/lib.rt:116:14
 ne-requires : tie.Need-ne-requires
 ne-requires c κs = search needs
 
--- src/lib.rt:110:1
 same-length : tie.Need-same-length
 same-length c = search needs
 
--- src/lib.rt:110:1
 same-length-2 : tie.Need-same-length-2
 same-length-2 c = search needs
 
--- src/lib.rt:110:1
 returns : tie.Need-returns
 unfolding titles table _is_
 returns c = heap-named 18 _ (c .before .before .before .before .before .before .before .match .keys1) refl (c .before .before .before .before .eq .ensures)
 
--- src/lib.rt:110:1
 same-length-3 : tie.Need-same-length-3
 same-length-3 c = search needs
 
--- src/lib.rt:110:1
 same-length-4 : tie.Need-same-length-4
 same-length-4 c = search needs
 
--- src/lib.rt:110:1
 returns-2 : tie.Need-returns-2
 unfolding titles table _is_
 returns-2 c = heap-named 19 _ (omega (arith, c .before .before .before .before .before .before .before .match .rest, c .before .before .before .before .before .before .before .before .before .before .pre .0, c .before .before .before .before .before .before .before .before .before .before .pre .1)) refl (c .before .before .before .before .ne .ensures)

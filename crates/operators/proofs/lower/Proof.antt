@@ -1,102 +1,73 @@
+-- `operators::lower` meets its contract: each branch by the operator that it calls, named by its number.
+-- Assumes nothing.
 use Rattle.operators.proofs.Named.{heap-dictionary, stack-dictionary}
-use native.Mathlib.Omega.{arith}
 use borrow.Author.Needs.{needs}
 use Rattle.operators.proofs.lower.Statement.{statement}
 use Rattle.operators.proofs.lower.Tie as tie
-use Rattle.operators.proofs.lower.Reads as reads
-use Rattle.operators.proofs.lower.Lts as lts
-use Rattle.operators.proofs.arithmetic.Reads as arithmetic-reads
-use Rattle.operators.proofs.bindings.Reads as bindings-reads
-use Rattle.operators.proofs.bits.Reads as bits-reads
-use Rattle.operators.proofs.comparisons.Reads as comparisons-reads
-use Rattle.operators.proofs.equalities.Reads as equalities-reads
-use Rattle.operators.proofs.rearrangements.Reads as rearrangements-reads
 
--- src/lib.rt:167:9
 rearrangements-requires : tie.Need-rearrangements-requires
 rearrangements-requires c κs = (c .before .before .if1 .taken, (_, _, _, _, c .before .before .before .before .before .before .pre .1 .3))
 
--- src/lib.rt:167:9
 same-length : tie.Need-same-length
 same-length c = search needs
 
--- src/lib.rt:167:9
 same-length-2 : tie.Need-same-length-2
 same-length-2 c = search needs
 
--- src/lib.rt:167:9
 returns : tie.Need-returns
 returns c = heap-dictionary _ (c .before .before .before .before .rearrangements .ensures) _
 
--- src/lib.rt:170:9
 arithmetic-requires : tie.Need-arithmetic-requires
 arithmetic-requires c κs = search needs
 
--- src/lib.rt:170:9
 same-length-3 : tie.Need-same-length-3
 same-length-3 c = search needs
 
--- src/lib.rt:170:9
 returns-2 : tie.Need-returns-2
 returns-2 c = stack-dictionary _ (c .before .before .arithmetic .ensures) _ _
 
--- src/lib.rt:173:9
 bits-requires : tie.Need-bits-requires
 bits-requires c κs = search needs
 
--- src/lib.rt:173:9
 same-length-4 : tie.Need-same-length-4
 same-length-4 c = search needs
 
--- src/lib.rt:173:9
 returns-3 : tie.Need-returns-3
 returns-3 c = stack-dictionary _ (c .before .before .bits .ensures) _ _
 
--- src/lib.rt:176:9
 equalities-requires : tie.Need-equalities-requires
 equalities-requires c κs = search needs
 
--- src/lib.rt:176:9
 same-length-5 : tie.Need-same-length-5
 same-length-5 c = search needs
 
--- src/lib.rt:176:9
 same-length-6 : tie.Need-same-length-6
 same-length-6 c = search needs
 
--- src/lib.rt:176:9
 returns-4 : tie.Need-returns-4
 returns-4 c = heap-dictionary _ (c .before .before .before .before .equalities .ensures) _
 
--- src/lib.rt:179:9
 comparisons-requires : tie.Need-comparisons-requires
 comparisons-requires c κs = search needs
 
--- src/lib.rt:179:9
 same-length-7 : tie.Need-same-length-7
 same-length-7 c = search needs
 
--- src/lib.rt:179:9
 returns-5 : tie.Need-returns-5
 returns-5 c = stack-dictionary _ (c .before .before .comparisons .ensures) _ _
 
--- src/lib.rt:181:5
 bindings-requires : tie.Need-bindings-requires
 bindings-requires c κs = search needs
 
--- src/lib.rt:162:1
 same-length-8 : tie.Need-same-length-8
 same-length-8 c = search needs
 
--- src/lib.rt:162:1
 same-length-9 : tie.Need-same-length-9
 same-length-9 c = search needs
 
--- src/lib.rt:162:1
 same-length-10 : tie.Need-same-length-10
 same-length-10 c = search needs
 
--- src/lib.rt:162:1
 returns-6 : tie.Need-returns-6
 returns-6 c = c .before .before .before .before .before .before .bindings .ensures
 

@@ -1,3 +1,5 @@
+-- `operators::perform` meets its contract: each branch by the operator that it calls, named by its number.
+-- Assumes nothing.
 use Rattle.operators.proofs.Named.{dictionary-all}
 use native.Mathlib.Omega.{arith}
 use borrow.Author.Needs.{needs}

@@ -1,3 +1,5 @@
+-- `operators::rearrangements` meets its contract: each branch by the operator that it calls, named by its number.
+-- Assumes nothing.
 use Rattle.operators.proofs.Named.{heap-named, stack-does}
 use Rattle.store.specs.Rep.{titles}
 use Rattle.semantics.specs.Operators.{table, _is_}
@@ -6,109 +8,78 @@ use mathlib.Core.Path.{refl}
 use borrow.Author.Needs.{needs}
 use Rattle.operators.proofs.rearrangements.Statement.{statement}
 use Rattle.operators.proofs.rearrangements.Tie as tie
-use Rattle.operators.proofs.rearrangements.Reads as reads
-use Rattle.operators.proofs.rearrangements.Lts as lts
-use Rattle.stack_operators.proofs.copy.Reads as copy-reads
-use Rattle.stack_operators.proofs.dup.Reads as dup-reads
-use Rattle.stack_operators.proofs.exch.Reads as exch-reads
-use Rattle.stack_operators.proofs.index.Reads as index-reads
-use Rattle.stack_operators.proofs.pop.Reads as pop-reads
-use Rattle.stack_operators.proofs.roll.Reads as roll-reads
 
--- src/lib.rt:63:14
 dup-requires : tie.Need-dup-requires
 dup-requires c κs = search needs
 
--- src/lib.rt:64:14
 exch-requires : tie.Need-exch-requires
 exch-requires c κs = search needs
 
--- src/lib.rt:65:14
 pop-requires : tie.Need-pop-requires
 pop-requires c κs = search needs
 
--- src/lib.rt:66:14
 index-requires : tie.Need-index-requires
 index-requires c κs = search needs
 
--- src/lib.rt:67:14
 copy-requires : tie.Need-copy-requires
 copy-requires c κs = search needs
 
--- src/lib.rt:68:14
 roll-requires : tie.Need-roll-requires
 roll-requires c κs = search needs
 
--- src/lib.rt:58:1
 same-length : tie.Need-same-length
 same-length c = search needs
 
--- src/lib.rt:58:1
 same-length-2 : tie.Need-same-length-2
 same-length-2 c = search needs
 
--- src/lib.rt:58:1
 returns : tie.Need-returns
 unfolding titles table _is_
 returns c = heap-named 0 _ (c .before .before .before .before .before .before .before .match .keys1) refl (c .before .before .before .before .dup .ensures)
 
--- src/lib.rt:58:1
 same-length-3 : tie.Need-same-length-3
 same-length-3 c = search needs
 
--- src/lib.rt:58:1
 returns-2 : tie.Need-returns-2
 unfolding titles table _is_
 returns-2 c = heap-named 1 _ (c .before .before .before .before .match .keys2) refl (stack-does _ (c .before .before .exch .ensures) _)
 
--- src/lib.rt:58:1
 same-length-4 : tie.Need-same-length-4
 same-length-4 c = search needs
 
--- src/lib.rt:58:1
 same-length-5 : tie.Need-same-length-5
 same-length-5 c = search needs
 
--- src/lib.rt:58:1
 returns-3 : tie.Need-returns-3
 unfolding titles table _is_
 returns-3 c = heap-named 2 _ (c .before .before .before .before .before .before .before .match .keys3) refl (c .before .before .before .before .pop .ensures)
 
--- src/lib.rt:58:1
 same-length-6 : tie.Need-same-length-6
 same-length-6 c = search needs
 
--- src/lib.rt:58:1
 same-length-7 : tie.Need-same-length-7
 same-length-7 c = search needs
 
--- src/lib.rt:58:1
 returns-4 : tie.Need-returns-4
 unfolding titles table _is_
 returns-4 c = heap-named 3 _ (c .before .before .before .before .before .before .before .match .keys4) refl (c .before .before .before .before .index .ensures)
 
--- src/lib.rt:58:1
 same-length-8 : tie.Need-same-length-8
 same-length-8 c = search needs
 
--- src/lib.rt:58:1
 same-length-9 : tie.Need-same-length-9
 same-length-9 c = search needs
 
--- src/lib.rt:58:1
 returns-5 : tie.Need-returns-5
 unfolding titles table _is_
 returns-5 c = heap-named 4 _ (c .before .before .before .before .before .before .before .match .keys5) refl (c .before .before .before .before .copy .ensures)
 
--- src/lib.rt:58:1
 same-length-10 : tie.Need-same-length-10
 same-length-10 c = search needs
 
--- src/lib.rt:58:1
 same-length-11 : tie.Need-same-length-11
 same-length-11 c = search needs
 
--- src/lib.rt:58:1
 returns-6 : tie.Need-returns-6
 unfolding titles table _is_
 returns-6 c = heap-named 5 _ (omega (arith, c .before .before .before .before .before .before .before .match .rest, c .before .before .before .before .before .before .before .before .before .before .pre .0)) refl (c .before .before .before .before .roll .ensures)

@@ -1,3 +1,5 @@
+-- `operators::upper` meets its contract: each branch by the operator that it calls, named by its number.
+-- Assumes nothing.
 use Rattle.operators.proofs.Named.{frames-all, cells-all, heap-all, dictionary-all, log-all}
 use native.Mathlib.Omega.{arith}
 use borrow.Author.Needs.{needs}
