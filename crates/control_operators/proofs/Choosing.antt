@@ -30,7 +30,8 @@ use Rattle.frames.specs.Moves as Moves
 use Rattle.frames.specs.Moves.{Enters, entered}
 use Rattle.control_operators.specs.Promises.{DoesFrames, Forgets}
 use Rattle.machine.proofs.Outcomes.{pop2-under}
-use Rattle.control_operators.proofs.Popping.{pop3-short, pop3-some, stands-no-boolean}
+use Rattle.machine.proofs.Pops.{pop3-under, pop3-some}
+use Rattle.control_operators.proofs.Popping.{stands-no-boolean}
 use Rattle.control_operators.proofs.Promising.{fit-full, fit-ok}
 use Rattle.control_operators.proofs.Named.{if-is, ifelse-is}
 use Rattle.control_operators.proofs.Entering.{Into}
@@ -123,7 +124,7 @@ same-frames R R′ = sym (frames-length (R′ .frames)) ∙ frames-length (R .fr
 module _ {m : Machine} {s e d c l : List ℕ} {μ : Floo.Machine} (R : Rep m s e d c l μ) where
   pub ifelse-under : m .depth < 3 → perform (bytes "ifelse") μ ≡ fault StackUnderflow
   unfolding ifelse _>>=_
-  ifelse-under h = ifelse-is μ ∙ rw (pop3-short μ (omega (arith, items-length (R .items)))) refl
+  ifelse-under h = ifelse-is μ ∙ rw (pop3-under μ (omega (arith, items-length (R .items)))) refl
 
   module _ (k : ℕ) (h : m .depth ≡ suc (suc (suc k))) where
     if-false : Top (IsIn (R .world) μ) s (suc (suc k)) (μ .stack)

@@ -28,7 +28,8 @@ use Rattle.frames.specs.Moves.{Shaped, Enters, entered}
 use Rattle.control_operators.specs.Promises.{DoesSlots, Forgets}
 use Rattle.machine.proofs.Outcomes.{pop1-under, pop2-under}
 use Rattle.machine.proofs.Rooms.{fitted-fails}
-use Rattle.control_operators.proofs.Popping.{pop4-short, pop4-some, count-low, count-high}
+use Rattle.word.proofs.Counts.{count-low, count-high}
+use Rattle.control_operators.proofs.Popping.{pop4-short, pop4-some}
 use Rattle.control_operators.proofs.Promising.{fit-full, fit-ok}
 use Rattle.control_operators.proofs.Named.{entering, repeat-is, for-is}
 

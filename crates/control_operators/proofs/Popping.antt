@@ -1,31 +1,19 @@
--- The definition's pops, and what they give for operands of which the tags are known.
+-- The definition's pop of four operands, and an operand that is no Boolean.
 -- Assumes nothing.
 use mathlib.Core.Path.{_≡_, refl}
 use mathlib.Core.Bool.{Bool}
 use mathlib.Core.List.{List, [], _∷_}
-use Prim.Native.Nat.{ℕ, _^_, _≤_, _<_}
+use Prim.Native.Nat.{ℕ, _<_}
 use native.Mathlib.Omega.{arith}
 use lib.ListN.{length}
-use Rattle.semantics.specs.Words.{signed}
-use Rattle.semantics.specs.Values.{Value, ok, fault, bool, count}
-use Rattle.semantics.specs.Machine.{Machine, withStack, pop3, pop4}
-use Rattle.semantics.specs.declared.Error.the-variants.{StackUnderflow, TypeCheck, RangeCheck}
+use Rattle.semantics.specs.Values.{Value, ok, fault, bool}
+use Rattle.semantics.specs.Machine.{Machine, withStack, pop4}
+use Rattle.semantics.specs.declared.Error.the-variants.{StackUnderflow, TypeCheck}
 use Rattle.store.specs.Rep.{Stands, a-null, an-integer, a-boolean, a-mark, an-operator, a-literal, an-executable, a-string, an-array, a-procedure}
-use Rattle.word.proofs.Words.{signed-low, signed-high}
 
 -- ---- too few items
 
 module _ (μ : Machine) where
-  pub pop3-short : length (μ .stack) < 3 → pop3 μ ≡ fault StackUnderflow
-  unfolding pop3
-  pop3-short = by (μ .stack) refl
-    where
-      by : (s : List Value) → μ .stack ≡ s → length s < 3 → pop3 μ ≡ fault StackUnderflow
-      by [] e l = rw (e, pop3)
-      by (a ∷ []) e l = rw (e, pop3)
-      by (a ∷ b ∷ []) e l = rw (e, pop3)
-      by (a ∷ b ∷ c ∷ s) e l = absurd (omega arith)
-
   pub pop4-short : length (μ .stack) < 4 → pop4 μ ≡ fault StackUnderflow
   unfolding pop4
   pop4-short = by (μ .stack) refl
@@ -38,10 +26,6 @@ module _ (μ : Machine) where
       by (a ∷ b ∷ c ∷ d ∷ s) e l = absurd (omega arith)
 
   -- ---- enough
-
-  pub pop3-some : {x y z : Value} {s : List Value} → μ .stack ≡ z ∷ y ∷ x ∷ s → pop3 μ ≡ ok (x, y, z, withStack s μ)
-  unfolding pop3 withStack
-  pop3-some e = rw (e, pop3)
 
   pub pop4-some : {w x y z : Value} {s : List Value} → μ .stack ≡ z ∷ y ∷ x ∷ w ∷ s → pop4 μ ≡ ok (w, x, y, z, withStack s μ)
   unfolding pop4 withStack
@@ -64,13 +48,3 @@ stands-no-boolean (an-executable q) n = refl
 stands-no-boolean (a-string q k) n = refl
 stands-no-boolean (an-array q k) n = refl
 stands-no-boolean (a-procedure q k) n = refl
-
--- ---- a count
-
-pub count-low : (w : ℕ) → w < 2 ^ 31 → count (signed w) ≡ ok w
-unfolding count
-count-low w l = rw (signed-low w l) refl
-
-pub count-high : (w : ℕ) → 2 ^ 31 ≤ w → w < 2 ^ 32 → count (signed w) ≡ fault RangeCheck
-unfolding count
-count-high w l h = rw (signed-high w l h) refl

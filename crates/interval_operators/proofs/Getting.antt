@@ -36,7 +36,8 @@ use Rattle.elements.proofs.Tags.{tag-string, tag-array, tag-no-object}
 use Rattle.elements.proofs.Vacancy.{push-makes, makes-heap, full-heap}
 use Rattle.strings.specs.Strings.{pasted, bytesCopied}
 use Rattle.interval_operators.specs.Intervals.{Integers, elementsCopied, resultLeft}
-use Rattle.interval_operators.proofs.Splitting.{three, refit, tag-x, known, tag-object, text-of, array-of, text-size, array-size, count-low, count-high, getting, get-is, get-under}
+use Rattle.word.proofs.Counts.{count-low, count-high}
+use Rattle.interval_operators.proofs.Splitting.{three, refit, tag-x, known, tag-object, text-of, array-of, text-size, array-size, getting, get-is, get-under}
 
 abbrev op : Floo.Machine → Result Floo.Machine
 op = perform (bytes "getinterval")

@@ -26,7 +26,8 @@ use Rattle.elements.specs.Elements.{tagOf, named, itemId, ItemTag, ArraySize, S
 use Rattle.elements.proofs.Tags.{tag-string, tag-array, tag-no-object}
 use Rattle.strings.specs.Strings.{pasted, bytesCopied}
 use Rattle.interval_operators.specs.Intervals.{ArrayItem, ItemInteger, elementsCopied, threeDropped}
-use Rattle.interval_operators.proofs.Splitting.{Three, three, refit, tag-x, tag-y, tag-z, known, tag-object, tag-integer, tag-no-integer, nine, text-of, array-of, text-size, array-size, count-low, count-high, putting, put-is, put-under}
+use Rattle.word.proofs.Counts.{count-low, count-high}
+use Rattle.interval_operators.proofs.Splitting.{Three, three, refit, tag-x, tag-y, tag-z, known, tag-object, tag-integer, tag-no-integer, nine, text-of, array-of, text-size, array-size, putting, put-is, put-under}
 
 abbrev op : Floo.Machine → Result Floo.Machine
 op = perform (bytes "putinterval")

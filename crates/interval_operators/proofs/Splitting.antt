@@ -4,12 +4,11 @@ use mathlib.Core.Path.{_≡_, refl, sym, ap, _∙_, subst}
 use mathlib.Core.Bool.{Bool, true, false}
 use mathlib.Core.List.{List, [], _∷_}
 use mathlib.Core.Logic.{⊎-elim}
-use Prim.Native.Nat.{ℕ, suc, _+_, _-_, _*_, _^_, _≤_, _<_}
+use Prim.Native.Nat.{ℕ, suc, _+_, _-_, _*_, _≤_, _<_}
 use native.Mathlib.Omega.{arith}
 use lib.ListN.{length, getD}
 use lib.Dec.{leb}
 use Rattle.semantics.specs.Text.{bytes, textual}
-use Rattle.semantics.specs.Words.{signed}
 use Rattle.semantics.specs.Values.{Value, integer, boolean, null, mark, operator, name, string, array, Object, elements, text, Result, ok, fault, _>>=_, check, int, objectId, count}
 use Rattle.semantics.specs.Machine as Floo
 use Rattle.semantics.specs.Machine.{withStack, object, elementsOf, bytesOf, change, pop3}
@@ -18,10 +17,10 @@ use Rattle.semantics.specs.Operators.{perform, find, table, _is_}
 use Rattle.semantics.specs.declared.Error.the-variants.{StackUnderflow, TypeCheck, RangeCheck}
 use Rattle.heap.proofs.Since.{lt-or-le}
 use Rattle.store.specs.Rep.{objectAt}
-use Rattle.word.proofs.Words.{signed-low, signed-high}
 use Rattle.machine.specs.Rep.{Rep}
 use Rattle.machine.specs.declared.Machine.{Machine}
 use Rattle.machine.proofs.Outcomes.{stack-depth}
+use Rattle.machine.proofs.Pops.{pop3-under}
 use Rattle.elements.specs.Elements.{tagOf, named, ItemTag}
 use Rattle.elements.proofs.Arrays.{array-item}
 use Rattle.elements.proofs.Strings.{string-item}
@@ -67,16 +66,6 @@ tag-no-integer (array x i) n = refl
 -- A tag from 8 on that is not 8.
 pub nine : {t u : ℕ} → 8 ≤ t → (t ≡ 8 → ⊥) → t ≡ u → 9 ≤ u
 nine {t} h n q = ⊎-elim (λ (k : t < 9). absurd (n (omega (arith, h, k)))) (λ (k : 9 ≤ t). omega (arith, k, q)) (lt-or-le t 9)
-
--- ---- a count
-
-pub count-low : (w : ℕ) → w < 2 ^ 31 → count (signed w) ≡ ok w
-unfolding count
-count-low w l = rw (signed-low w l) refl
-
-pub count-high : (w : ℕ) → 2 ^ 31 ≤ w → w < 2 ^ 32 → count (signed w) ≡ fault RangeCheck
-unfolding count
-count-high w l h = rw (signed-high w l h) refl
 
 -- ---- the three topmost items
 
@@ -191,21 +180,11 @@ module _ (μ : Floo.Machine) {z y x : Value} {rest : List Value} (split : μ .st
   get-is = ap (perform (bytes "getinterval")) (sym (refit μ split)) ∙ get-at z y x rest μ
 
 -- Too few items.
-pop3-short : (μ : Floo.Machine) → length (μ .stack) < 3 → pop3 μ ≡ fault StackUnderflow
-unfolding pop3
-pop3-short μ = by (μ .stack) refl
-  where
-    by : (s : List Value) → μ .stack ≡ s → length s < 3 → pop3 μ ≡ fault StackUnderflow
-    by [] e l = rw (e, pop3)
-    by (a ∷ []) e l = rw (e, pop3)
-    by (a ∷ b ∷ []) e l = rw (e, pop3)
-    by (a ∷ b ∷ c ∷ s) e l = absurd (omega arith)
-
 module _ (μ : Floo.Machine) (few : length (μ .stack) < 3) where
   pub put-under : perform (bytes "putinterval") μ ≡ fault StackUnderflow
   unfolding textual perform find table _is_ putinterval _>>=_
-  put-under = ap (λ r. r >>= λ p. putting (p .0) (p .1) (p .2) (p .3)) (pop3-short μ few)
+  put-under = ap (λ r. r >>= λ p. putting (p .0) (p .1) (p .2) (p .3)) (pop3-under μ few)
 
   pub get-under : perform (bytes "getinterval") μ ≡ fault StackUnderflow
   unfolding textual perform find table _is_ getinterval _>>=_
-  get-under = ap (λ r. r >>= λ p. getting (p .0) (p .1) (p .2) (p .3)) (pop3-short μ few)
+  get-under = ap (λ r. r >>= λ p. getting (p .0) (p .1) (p .2) (p .3)) (pop3-under μ few)

@@ -5,7 +5,6 @@ use Rattle.array_operators.proofs.Getting.{zero-past}
 use borrow.Author.Needs.{needs}
 use Rattle.array_operators.proofs.byte_or_zero.Statement.{statement}
 use Rattle.array_operators.proofs.byte_or_zero.Tie as tie
-use Rattle.array_operators.proofs.byte_or_zero.Reads as reads
 
 maximum-requires : tie.Need-maximum-requires
 maximum-requires c κs = search needs
