@@ -39,7 +39,7 @@ use Rattle.machine.specs.declared.Machine.{Machine}
 use Rattle.machine.proofs.Restacking.{withDepth}
 use Rattle.machine.proofs.Rehousing.{roots-store, restored-in}
 use Rattle.elements.specs.Elements.{freeCells}
-use Rattle.elements.proofs.Making.{added, carry-added, long-added}
+use Rattle.elements.proofs.Making.{added, carry-added, long-added, cells-used}
 use Rattle.construction.specs.Growth.{Grown, ElementAt, elementSet, arraySet, stringSet, SetsPlain, SetsArray, SetsString}
 
 -- ---- in the heap
@@ -250,7 +250,4 @@ pub cells-left : {m : Machine} {st e d c l : List ℕ} {μ : Floo.Machine} → R
     → Put c₁ cell 0 t c₂
     → Put c₂ cell 1 y c₃
     → s .listed + (cells c₃ - s .edge) + (n + 1) ≡ freeCells m c
-cells-left R M e P₁ P₂ =
-    let F = R .stored .full in
-    let X = M _ _ F in
-    omega (arith, F .heap .shape .within, X .1 .heap .shape .within, X .2 .long, P₁ .size, P₂ .size)
+cells-left R M e P₁ P₂ = omega (arith, cells-used R M e, P₁ .size, P₂ .size)

@@ -5,7 +5,7 @@ use mathlib.Core.Path.{_≡_, refl, sym, ap, _∙_, subst}
 use mathlib.Core.Bool.{true, false}
 use mathlib.Core.List.{List, [], _∷_, _++_, map}
 use mathlib.Core.Logic.{⊎-elim}
-use Prim.Native.Nat.{ℕ, suc, _+_, _*_, _/_, _≤_, _<_}
+use Prim.Native.Nat.{ℕ, suc, _+_, _-_, _*_, _/_, _≤_, _<_}
 use native.Mathlib.Omega.{arith}
 use native.Mathlib.Numerals.{add-one}
 use lib.ListN.{length, getD, set, replicate, List·getD-append}
@@ -54,6 +54,17 @@ plain-tag : {m : Machine} {st e d c l : List ℕ} {μ : Floo.Machine} → Rep m 
     → getD st (2 * k) 0 < 8
 plain-tag {st = st} R i k h p =
     ⊎-elim (λ l. l) (λ l. absurd (nameless p (names-stands (word-of R i k h .stands) l))) (lt-or-le (getD st (2 * k) 0) 8)
+
+-- The cells of a new object are free no more.
+pub cells-used : {m : Machine} {st e d c l : List ℕ} {μ : Floo.Machine} → Rep m st e d c l μ
+    → {kind n x : ℕ} {s : Lists} {c′ : List ℕ}
+    → Made kind n x (m .lists) c s c′
+    → s .listed + m .lists .edge + n + 1 ≡ m .lists .listed + s .edge
+    → s .listed + (cells c′ - s .edge) + (n + 1) ≡ freeCells m c
+cells-used R M e =
+    let F = R .stored .full in
+    let X = M _ _ F in
+    omega (arith, F .heap .shape .within, X .1 .heap .shape .within, X .2 .long)
 
 -- Object o is made with header x.
 module _ {m : Machine} {st e d c l : List ℕ} {μ : Floo.Machine} (R : Rep m st e d c l μ) {s : Lists} {c′ : List ℕ} (x : ℕ) (o : Object)

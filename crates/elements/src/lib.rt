@@ -157,11 +157,12 @@ pub fn byte_of(w: u32, j: u32) -> u8
 }
 
 // Item i, which names no object, gives way to a new array of n nulls.
-// Rules out: an array that no place names; one of another length.
+// Rules out: an array that no place names; one of another length; a cell taken that is not its own.
 pub fn new_array(mut m: Machine, stack: &mut [u32], cells: &mut [u32], i: usize, n: u32) -> Machine
     requires { ⌜ (i < m .depth) × (n + 1 ≤ freeCells m (now cells)) × SomewhereThat (HasPlain i) m (now stack) (now cells) ⌝ }
     ensures { λ r. ⌜ MovesHeap (arrayMade i n) m r (now (stack .entry)) (now (stack .exit)) (now (cells .entry)) (now (cells .exit)) ⌝ }
     ensures { λ r. ⌜ r .depth ≡ m .depth ⌝ }
+    ensures { λ r. ⌜ freeCells r (now (cells .exit)) + (n + 1) ≡ freeCells m (now (cells .entry)) ⌝ }
 {
     let k = m.depth - 1 - i;
     let lists = m.lists;

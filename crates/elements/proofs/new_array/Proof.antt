@@ -1,6 +1,6 @@
 -- `new_array` meets its contract: the object that is made takes the item's place (`array-moves`).
 -- Assumes nothing.
-use Rattle.elements.proofs.Making.{array-moves, room-to-make}
+use Rattle.elements.proofs.Making.{array-moves, room-to-make, cells-used}
 use lib.ListN.{length-set}
 use native.Mathlib.Omega.{arith}
 use mathlib.Core.Path.{refl}
@@ -53,7 +53,9 @@ returns : tie.Need-returns
 returns c =
     let after-allocate = c .before .before .before in
     let start = after-allocate .before .before .before .before .before .before in
-    (array-moves (start .pre .2 .4) (start .args .i) _ (omega (arith, start .pre .0)) (start .pre .2 .5) (start .args .n) _ (after-allocate .allocate .ensures .2) (after-allocate .allocate .ensures .1), refl)
+    let made = after-allocate .allocate .ensures in
+    let R = start .pre .2 .4 in
+    (array-moves R (start .args .i) _ (omega (arith, start .pre .0)) (start .pre .2 .5) (start .args .n) _ (made .2) (made .1), (refl, cells-used R (made .1) (made .0)))
 
 pub new-array-spec : {M : Type 1} → statement M
 new-array-spec =
