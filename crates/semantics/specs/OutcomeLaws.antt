@@ -21,7 +21,7 @@ use Rattle.semantics.specs.ShortSteps.{nameText-length, commandIn, Sound
 use Rattle.semantics.specs.declared.Error.{Error}
 use Rattle.semantics.specs.declared.Error.the-variants.{SyntaxError, LimitCheck, Undefined, StackUnderflow, TypeCheck, RangeCheck, UndefinedResult, UnmatchedMark, ExecStackOverflow, StackOverflow, VmError, IoError}
 
-decimalZ-length : (z : ℤ) → length (decimalZ z) ≤ 11
+pub decimalZ-length : (z : ℤ) → length (decimalZ z) ≤ 11
 unfolding decimalZ
 decimalZ-length (pos n) = omega (arith, decimal-length n)
 decimalZ-length (negsuc n) = omega (arith, decimal-length (suc n))
@@ -31,7 +31,7 @@ unfolding truth bytes
 truth-length true = omega arith
 truth-length false = omega arith
 
-item-length : (m : Machine) (v : Value) → Short v → length (item m v) ≤ 130
+pub item-length : (m : Machine) (v : Value) → Short v → length (item m v) ≤ 130
 unfolding item bytes
 item-length m (integer w) h = omega (arith, decimalZ-length (signed w))
 item-length m (boolean b) h = omega (arith, truth-length b)
@@ -45,7 +45,7 @@ item-length m (string i) h =
 item-length m (array true i) h = omega (arith, decimal-length (length (elementsOf (object m i))))
 item-length m (array false i) h = omega (arith, decimal-length (length (elementsOf (object m i))))
 
-line-length : (k v : List ℕ) → length (line k v) ≤ length k + length v + 2
+pub line-length : (k v : List ℕ) → length (line k v) ≤ length k + length v + 2
 unfolding line bytes
 line-length k v = simp (line, length-append) (omega arith)
 
@@ -55,7 +55,7 @@ items-length m nil = omega arith
 items-length m (cons {a = v} {l = vs} p ps) =
     omega (arith, length-append (line (bytes "item") (item m v)) (items m vs), line-length (bytes "item") (item m v), item-length m v p, items-length m ps)
 
-error-length : (e : Error) → length (errorText e) ≤ 17
+pub error-length : (e : Error) → length (errorText e) ≤ 17
 unfolding errorText bytes
 error-length SyntaxError = omega arith
 error-length LimitCheck = omega arith
