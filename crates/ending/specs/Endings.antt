@@ -1,0 +1,39 @@
+-- What a command and an ending stand for in the definition (01, Outcome).
+-- Assumes nothing.
+use mathlib.Core.Bool.{true}
+use mathlib.Core.List.{List, []}
+use Prim.Native.Nat.{ℕ, _+_, _≤_, _<_}
+use lib.ListN.{length, getD, take, drop}
+use Rattle.semantics.specs.Printing.{nameText}
+use Rattle.semantics.specs.Steps as steps
+use Rattle.store.specs.Rep.{titles}
+use Rattle.ending.specs.declared.Command.{Command}
+use Rattle.ending.specs.declared.Command.the-variants.{Nothing, Operator, Name, Token}
+use Rattle.ending.specs.declared.Ending.{Ending}
+use Rattle.ending.specs.declared.Ending.the-variants.{Finished, Stopped, OutOfFuel, Failed}
+
+-- The text of a command, given the script and the names by their slots.
+unfoldable pub commandText : List ℕ → List (List ℕ) → Command → List ℕ
+commandText script names Nothing = []
+commandText script names (Operator k) = getD titles k []
+commandText script names (Name k) = nameText true (getD names k [])
+commandText script names (Token at size) = nameText true (take size (drop at script))
+
+-- A command that there is: its operator, its slot or its bytes.
+abbrev pub IsCommand : List ℕ → List (List ℕ) → Command → Type 0
+IsCommand script names Nothing = Unit {0}
+IsCommand script names (Operator k) = k < 54
+IsCommand script names (Name k) = k < length names
+IsCommand script names (Token at size) = (at + size ≤ length script) × (size ≤ 31)
+
+unfoldable pub endingOf : List ℕ → List (List ℕ) → Ending → steps.Ending
+endingOf script names Finished = steps.finished
+endingOf script names Stopped = steps.stopped
+endingOf script names OutOfFuel = steps.outOfFuel
+endingOf script names (Failed e command) = steps.failed e (commandText script names command)
+
+abbrev pub IsEnding : List ℕ → List (List ℕ) → Ending → Type 0
+IsEnding script names Finished = Unit {0}
+IsEnding script names Stopped = Unit {0}
+IsEnding script names OutOfFuel = Unit {0}
+IsEnding script names (Failed e command) = IsCommand script names command

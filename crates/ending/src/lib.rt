@@ -1,0 +1,17 @@
+// How a run ends, said in numbers and offsets: what a failing step hands on and the outcome writes.
+use semantics::Error;
+
+// The operator or executable name whose execution failed: none, an operator by its number, a name by its slot, or a name of the script by its offset and size.
+pub enum Command {
+    Nothing,
+    Operator(u32),
+    Name(u32),
+    Token(usize, usize),
+}
+
+pub enum Ending {
+    Finished,
+    Stopped,
+    OutOfFuel,
+    Failed(Error, Command),
+}
