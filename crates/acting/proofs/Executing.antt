@@ -29,6 +29,7 @@ use Rattle.frames.proofs.Tops.{slot}
 use Rattle.frames.proofs.Running.{runs, kind-runs, element-words}
 use Rattle.frames.proofs.Undoing.{undone}
 use Rattle.operators.specs.Titles.{performAt, Everywhere, DoesAll}
+use Rattle.operators.proofs.Named.{log-same}
 use Rattle.taking.specs.Effects.{executableTaken}
 use Rattle.taking.specs.Promises.{Bindings, NamedBindings, DoesBinding, DoesNamed}
 use Rattle.dictionary.proofs.Dictionaries.{some-one, none-some}
@@ -180,6 +181,7 @@ operator-does {m} {s = s} {s′ = s′} {e = e} {e′ = e′} {d = d} {d′ = d�
       does = λ μ R. alike (λ m′. Rep m′ s′ e′ d′ c′ l′) ((s′ ≡ s) × (e′ ≡ e) × (d′ ≡ d) × (c′ ≡ c) × (l′ ≡ l)) r
           (operator-fits R (m .frames - 1) (omega (arith, slots)) kind four)
           (D .does (frameDropped μ) (F .moves s e d c l μ R (omega (arith, four))));
+      rest = D .rest;
     }
 
 pub name-does : {m left : Machine} {e e′ d c c′ : List ℕ} (r : Did)
@@ -316,6 +318,7 @@ module _ (m : Machine) (e e₁ e′ d c c′ : List ℕ) (slots : 1 ≤ m .frame
         record {
           does = λ μ R. alike (λ m′. Rep m′ s′ e′ d′ c′ l′) ((s′ ≡ s) × (e′ ≡ e) × (d′ ≡ d) × (c′ ≡ c) × (l′ ≡ l)) (Ok r) (fits μ R)
               (D .does _ (stands s l μ R));
+          rest = D .rest;
         }
 
     pub element-fails : {did : Did} {x : Error} {e″ : List ℕ}
@@ -329,6 +332,7 @@ module _ (m : Machine) (e e₁ e′ d c c′ : List ℕ) (slots : 1 ≤ m .frame
           does = λ μ R.
               let a = D .does _ (stands s l μ R) in
               (fits μ R ∙ a .0, (a .1 .0, back m e e₁ e′ _ kind T (a .1 .1) z, a .1 .2, a .1 .3, a .1 .4));
+          rest = D .rest;
         }
 
   module _ (six : word c cell 0 ≡ 6) {p : ℕ} (slot-is : p ≡ word c cell 1) where
@@ -373,8 +377,8 @@ pub binding-all : {f : Floo.Machine → Result Floo.Machine} {m : Machine} {e e�
     → DoesBinding f m e e′ d c c′ r
     → (s l : List ℕ)
     → DoesAll f m s s e e′ d d c c′ l l r
-binding-all (Fail x) D s l = record { does = λ μ R. let a = D .does s l μ R in (a .0, (refl, a .1 .0, refl, a .1 .1, refl)) }
-binding-all (Ok m′) D s l = record { does = λ μ R. D .does s l μ R }
+binding-all (Fail x) D s l = record { does = λ μ R. let a = D .does s l μ R in (a .0, (refl, a .1 .0, refl, a .1 .1, refl)); rest = log-same l (Fail x) }
+binding-all (Ok m′) D s l = record { does = λ μ R. D .does s l μ R; rest = log-same l (Ok m′) }
 
 -- ---- kinds
 

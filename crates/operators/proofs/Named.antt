@@ -16,7 +16,7 @@ use Rattle.control_operators.specs.Promises.{DoesState, DoesCells, DoesFrames}
 use Rattle.control_operators.proofs.Promising.{cells-frames}
 use Rattle.dictionary_operators.specs.Promises.{DoesDictionary}
 use Rattle.conversions.specs.Texts.{DoesNamedHeap}
-use Rattle.output_operators.specs.Output.{DoesLog}
+use Rattle.output_operators.specs.Output.{LogRest, DoesLog}
 use Rattle.operators.specs.Titles.{performAt, DoesAll}
 
 pub named : (k j : ℕ) (n : List ℕ) → k ≡ j → getD titles j [] ≡ n → perform n ≡ performAt k
@@ -66,12 +66,17 @@ dictionary-named {m} {s} {s′} {d} {d′} {c} {c′} {r} {k} j n e t D = subst 
 
 -- ---- all words
 
+-- A log that is not lent.
+pub log-same : (l : List ℕ) (r : Did) → LogRest l l r
+log-same l (Ok m) = refl
+log-same l (Fail x) = tt
+
 pub dictionary-all : {f : Floo.Machine → Result Floo.Machine} {m : Machine} {s s′ d d′ c c′ : List ℕ} (r : Did)
     → DoesDictionary f m s s′ d d′ c c′ r
     → (e l : List ℕ)
     → DoesAll f m s s′ e e d d′ c c′ l l r
-dictionary-all (Fail x) D e l = record { does = λ μ R. let a = D .does e l μ R in (a .0, (a .1 .0, refl, a .1 .1, a .1 .2, refl)) }
-dictionary-all (Ok m′) D e l = record { does = λ μ R. D .does e l μ R }
+dictionary-all (Fail x) D e l = record { does = λ μ R. let a = D .does e l μ R in (a .0, (a .1 .0, refl, a .1 .1, a .1 .2, refl)); rest = log-same l (Fail x) }
+dictionary-all (Ok m′) D e l = record { does = λ μ R. D .does e l μ R; rest = log-same l (Ok m′) }
 
 pub heap-all : {f : Floo.Machine → Result Floo.Machine} {m : Machine} {s s′ c c′ : List ℕ} (r : Did)
     → DoesHeap f m s s′ c c′ r
@@ -83,8 +88,8 @@ pub frames-all : {f : Floo.Machine → Result Floo.Machine} {m : Machine} {s s�
     → DoesFrames f m s s′ e e′ c c′ r
     → (d l : List ℕ)
     → DoesAll f m s s′ e e′ d d c c′ l l r
-frames-all (Fail x) D d l = record { does = λ μ R. let a = D .does d l μ R in (a .0, (a .1 .0, a .1 .1, refl, a .1 .2, refl)) }
-frames-all (Ok m′) D d l = record { does = λ μ R. D .does d l μ R }
+frames-all (Fail x) D d l = record { does = λ μ R. let a = D .does d l μ R in (a .0, (a .1 .0, a .1 .1, refl, a .1 .2, refl)); rest = log-same l (Fail x) }
+frames-all (Ok m′) D d l = record { does = λ μ R. D .does d l μ R; rest = log-same l (Ok m′) }
 
 pub log-named : {m : Machine} {s d c c′ l l′ : List ℕ} {r : Did} {k : ℕ} (j : ℕ) (n : List ℕ)
     → k ≡ j
@@ -97,8 +102,8 @@ pub log-all : {f : Floo.Machine → Result Floo.Machine} {m : Machine} {s d c c�
     → DoesLog f m s d c c′ l l′ r
     → (e : List ℕ)
     → DoesAll f m s s e e d d c c′ l l′ r
-log-all (Fail x) D e = record { does = λ μ R. let a = D .does e μ R in (a .0, (refl, refl, refl, a .1 .0, a .1 .1)) }
-log-all (Ok m′) D e = record { does = λ μ R. D .does e μ R }
+log-all (Fail x) D e = record { does = λ μ R. let a = D .does e μ R in (a .0, (refl, refl, refl, a .1 .0, a .1 .1)); rest = D .rest }
+log-all (Ok m′) D e = record { does = λ μ R. D .does e μ R; rest = D .rest }
 
 pub cells-all : {f : Floo.Machine → Result Floo.Machine} {m : Machine} {e c c′ : List ℕ} (r : Did) → DoesCells f m e c c′ r → (s d l : List ℕ) → DoesAll f m s s e e d d c c′ l l r
 cells-all r D s d l = frames-all r (cells-frames r D s) d l

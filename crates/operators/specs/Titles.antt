@@ -12,6 +12,7 @@ use Rattle.machine.specs.Rep.{Rep, Answer}
 use Rattle.machine.specs.Room.{lent, fitted}
 use Rattle.machine.specs.declared.Machine.{Machine}
 use Rattle.machine.specs.declared.Did.{Did}
+use Rattle.output_operators.specs.Output.{LogRest}
 
 -- The operator of number k.
 unfoldable pub performAt : ℕ → Floo.Machine → Result Floo.Machine
@@ -21,8 +22,9 @@ performAt k = perform (getD titles k [])
 abbrev pub Everywhere : Machine → List ℕ → List ℕ → List ℕ → List ℕ → List ℕ → Type 0
 Everywhere m s e d c l = (μ : Floo.Machine) × Rep m s e d c l μ
 
--- An operator does f where there is room, or fails as f and the test of room do; then no word has changed.
+-- An operator does f where there is room, or fails as f and the test of room do; then no word has changed. The log past what is written is as before.
 pub record DoesAll (f : Floo.Machine → Result Floo.Machine) (m : Machine) (s s′ e e′ d d′ c c′ l l′ : List ℕ) (r : Did) : Type 0 where
   pub does : (μ : Floo.Machine)
       → Rep m s e d c l μ
       → Answer (λ m′. Rep m′ s′ e′ d′ c′ l′) ((s′ ≡ s) × (e′ ≡ e) × (d′ ≡ d) × (c′ ≡ c) × (l′ ≡ l)) r (fitted (lent s e d c l) f μ)
+  pub rest : LogRest l l′ r

@@ -7,7 +7,7 @@ use Prim.Native.Nat.{ℕ, zero, suc, _+_, _/_, _%_, _≤_, _<_}
 use native.Mathlib.Omega.{arith}
 use borrow.Author.Tests.{le-leb, lt-leb}
 use lib.ListN.{length, take, drop, length-append, length-drop, drop-of-length-le}
-use lib.Seq.{length-take-le, take-at}
+use lib.Seq.{length-take-le, take-at, drop-at}
 use Rattle.semantics.specs.Values.{Result, ok, fault, _>>=_, check}
 use Rattle.semantics.specs.Machine as Floo
 use Rattle.semantics.specs.Machine.{withStack, write}
@@ -44,12 +44,22 @@ same-roots t μ r = by (r % 4) (r / 4)
     by (suc (suc zero)) i = refl
     by (suc (suc (suc k))) i = refl
 
+head-long : (at : ℕ) (t l l′ : List ℕ) (r : ℕ) → at ≤ length l → Written at t l l′ r → length (take at l ++ t) ≡ r
+head-long at t l l′ r h w = length-append (take at l) t ∙ ap (λ n. n + length t) (length-take-le at l h) ∙ sym (w .end)
+
 -- The log's first bytes stay, and the text comes after them.
 taken : (at : ℕ) (t l l′ : List ℕ) (r : ℕ) → at ≤ length l → Written at t l l′ r → take r l′ ≡ take at l ++ t
 unfolding pasted
 taken at t l l′ r h w =
-    let long : length (take at l ++ t) ≡ r = length-append (take at l) t ∙ ap (λ n. n + length t) (length-take-le at l h) ∙ sym (w .end) in
-    ap (λ (x : List ℕ). take r x) (w .bytes) ∙ take-at (take at l ++ t) (drop (at + length t) l) r long
+    ap (λ (x : List ℕ). take r x) (w .bytes) ∙ take-at (take at l ++ t) (drop (at + length t) l) r (head-long at t l l′ r h w)
+
+-- What comes after the text stays.
+pub past : {at r : ℕ} {t l l′ : List ℕ} → at ≤ length l → Written at t l l′ r → drop r l′ ≡ drop r l
+unfolding pasted
+past {at} {r} {t} {l} {l′} h w =
+    ap (λ (x : List ℕ). drop r x) (w .bytes)
+    ∙ drop-at (take at l ++ t) (drop (at + length t) l) r (head-long at t l l′ r h w)
+    ∙ ap (λ (n : ℕ). drop n l) (sym (w .end))
 
 module _ {m : Machine} {s e d c l : List ℕ} {μ : Floo.Machine} (R : Rep m s e d c l μ) where
   pub written-is : length (μ .log) ≡ m .written
@@ -110,7 +120,7 @@ room-log limits before after dictionary exec stack store log =
 module _ {f : Floo.Machine → Result Floo.Machine} {m : Machine} {s d c l : List ℕ} where
   pub fails-log : {x : Error} → ((e : List ℕ) (μ : Floo.Machine) → Rep m s e d c l μ → f μ ≡ fault x) → DoesLog f m s d c c l l (Fail x)
   unfolding fitted _>>=_
-  fails-log h = record { does = λ e μ R. (ap (λ q. q >>= roomFor (lent s e d c l) μ) (h e μ R), (refl, refl)) }
+  fails-log h = record { does = λ e μ R. (ap (λ q. q >>= roomFor (lent s e d c l) μ) (h e μ R), (refl, refl)); rest = tt }
 
 -- What the primitives before it do leaves all that the test looks at, but for fewer items on the stack.
 pub record Keeps (g : Floo.Machine → Floo.Machine) : Type 0 where
@@ -152,6 +162,7 @@ module _ {f : Floo.Machine → Result Floo.Machine} (g : Floo.Machine → Floo.M
                   ∙ room-log (lent s e d c l) μ (write (t .0) (g μ)) dictionary exec stack (G .store μ) log,
               (refl, refl),
             );
+        rest = tt;
       }
 
   -- The text is written, and r is the place after it.
@@ -160,9 +171,10 @@ module _ {f : Floo.Machine → Result Floo.Machine} (g : Floo.Machine → Floo.M
       → ((e : List ℕ) (μ : Floo.Machine)
       → Rep m s e d c l μ
       → (t : List ℕ) × (f μ ≡ ok (write t (g μ))) × Written (m .written) t l l′ r × (m .written + length t ≤ length l))
+      → drop r l′ ≡ drop r l
       → DoesLog f m s d c c′ l l′ (Ok (withWritten r m′))
   unfolding fitted _>>=_ lent write
-  writes-log {m′} {c′} {l′} {r} M h =
+  writes-log {m′} {c′} {l′} {r} M h p =
       record {
         does = λ e μ R.
             let t = h e μ R in
@@ -178,4 +190,5 @@ module _ {f : Floo.Machine → Result Floo.Machine} (g : Floo.Machine → Floo.M
                   ∙ room-passes (lent s e d c l) μ (write (t .0) (g μ)) dictionary exec stack (G .store μ) log,
               logged-rep after text (omega (arith, same, t .3)),
             );
+        rest = p;
       }

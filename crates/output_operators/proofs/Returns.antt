@@ -25,7 +25,7 @@ use Rattle.elements.proofs.Tags.{tag-string}
 use Rattle.strings.specs.Strings.{CurrentSize}
 use Rattle.printing.specs.Shown.{cut, Known, WithRoom, Measures, Writes}
 use Rattle.output_operators.specs.Output.{DoesLog, SomewhereLog, CopiesCurrent}
-use Rattle.output_operators.proofs.Logging.{withWritten, fails-log, over-log, writes-log, dropped-keeps}
+use Rattle.output_operators.proofs.Logging.{withWritten, past, fails-log, over-log, writes-log, dropped-keeps}
 use Rattle.output_operators.proofs.Named.{print-under, print-wrong, print-done, echo-under, echo-done}
 
 -- ---- the topmost item
@@ -89,12 +89,13 @@ module _ {m : Machine} {s : List ℕ} (some : 1 ≤ m .depth) where
             let i = the-string R in
             (current (bytesOf (object μ (i .0))), print-done μ (split R) (i .1), omega (arith, h, Z .says e d l μ R (i .0) (i .1))))
 
-        pub print-good : {m′ : Machine} {c′ l′ : List ℕ}
+        pub print-good : {m′ : Machine} {c′ d₀ l′ : List ℕ}
+            → SomewhereLog m s d₀ c l
             → m .written + n ≤ length l
             → CopiesCurrent m s c l l′ n
             → MovesHeap dropped m m′ s s c c′
             → DoesLog (perform (bytes "print")) m s d c c′ l l′ (Ok (withWritten (m .written + n) m′))
-        print-good room C M =
+        print-good {d₀ = d₀} w room C M =
             writes-log dropped dropped-keeps M
             (λ e μ R.
             let i = the-string R in (
@@ -103,6 +104,8 @@ module _ {m : Machine} {s : List ℕ} (some : 1 ≤ m .depth) where
               C .says e d l μ R (i .0) (i .1),
               omega (arith, room, Z .says e d l μ R (i .0) (i .1)),
             ))
+            (let i = the-string (w .2) in
+            past (w .2 .log-room) (C .says (w .0) d₀ l (w .1) (w .2) (i .0) (i .1)))
 
   -- ---- echo
 
@@ -156,3 +159,4 @@ module _ {m : Machine} {s : List ℕ} (some : 1 ≤ m .depth) where
                 last 10 (R .log-room) (line-fits w) (written R),
                 omega (arith, fits, measured R, longer R, R .log-room),
               ))
+              (past (w .2 .log-room) (last 10 (w .2 .log-room) (line-fits w) (written (w .2))))

@@ -21,7 +21,7 @@ use Rattle.machine.specs.declared.Machine.{Machine}
 use Rattle.machine.specs.declared.Did.the-variants.{Ok, Fail}
 use Rattle.machine.proofs.Outcomes.{stack-depth}
 use Rattle.output_operators.specs.Output.{DoesLog, SomewhereLog, lineOf, FitsLine, LineRoom, WritesLine}
-use Rattle.output_operators.proofs.Logging.{withWritten, over-log, writes-log, itself-keeps}
+use Rattle.output_operators.proofs.Logging.{withWritten, past, over-log, writes-log, itself-keeps}
 use Rattle.output_operators.proofs.Named.{echostack-is}
 
 line-done : (μ : Floo.Machine) → perform (bytes "echostack") μ ≡ ok (write (lineOf μ) μ)
@@ -53,6 +53,8 @@ module _ {m : Machine} {s d c l : List ℕ} where
         (λ e μ R.
         let line = line-none μ (stack-depth R ∙ none) in
         (lineOf μ, line-done μ, respelt line (one (omega (arith, h))), omega (arith, h, ap length line)))
+        (let low : m .written < length l = omega (arith, h) in
+        past {at = m .written} (omega (arith, low)) (one {v = 10} low))
 
   module _ {r : Bool} (F : FitsLine m s d c (length l - m .written) r) where
     pub line-over : r ≡ false → DoesLog (perform (bytes "echostack")) m s d c c l l (Fail IoError)
@@ -71,5 +73,6 @@ module _ {m : Machine} {s d c l : List ℕ} where
       pub line-room : SomewhereLog m s d c l → LineRoom m s d c l
       line-room w = record { somewhere = w; fits = short (w .2) }
 
-      pub line-good : {l′ : List ℕ} {after : ℕ} → WritesLine m s d c l l′ after → DoesLog (perform (bytes "echostack")) m s d c c l l′ (Ok (withWritten after m))
-      line-good W = writes-log (λ μ. μ) itself-keeps stays (λ e μ R. (lineOf μ, line-done μ, W .says e μ R, short R))
+      pub line-good : {l′ : List ℕ} {after : ℕ} → SomewhereLog m s d c l → WritesLine m s d c l l′ after → DoesLog (perform (bytes "echostack")) m s d c c l l′ (Ok (withWritten after m))
+      line-good w W =
+          writes-log (λ μ. μ) itself-keeps stays (λ e μ R. (lineOf μ, line-done μ, W .says e μ R, short R)) (past (w .2 .log-room) (W .says (w .0) (w .1) (w .2)))

@@ -4,7 +4,7 @@ use mathlib.Core.Path.{_≡_}
 use mathlib.Core.Bool.{Bool}
 use mathlib.Core.List.{List, _++_, map, reverse}
 use Prim.Native.Nat.{ℕ, zero, suc, _+_, _≤_}
-use lib.ListN.{length, getD}
+use lib.ListN.{length, getD, drop}
 use lib.Dec.{leb}
 use Rattle.semantics.specs.Text.{bytes}
 use Rattle.semantics.specs.Printing.{joined, echoed}
@@ -16,10 +16,16 @@ use Rattle.machine.specs.Rep.{Rep, Answer}
 use Rattle.machine.specs.Room.{lent, fitted}
 use Rattle.machine.specs.declared.Machine.{Machine}
 use Rattle.machine.specs.declared.Did.{Did}
+use Rattle.machine.specs.declared.Did.the-variants.{Ok, Fail}
 
 -- The words stand for some machine.
 abbrev pub SomewhereLog : Machine → List ℕ → List ℕ → List ℕ → List ℕ → Type 0
 SomewhereLog m s d c l = (e : List ℕ) × (μ : Floo.Machine) × Rep m s e d c l μ
+
+-- The log past what is written is as before.
+abbrev pub LogRest : List ℕ → List ℕ → Did → Type 0
+LogRest l l′ (Ok r) = drop (r .written) l′ ≡ drop (r .written) l
+LogRest l l′ (Fail e) = Unit {0}
 
 -- An operator that reads the words of stack and dictionary, and touches the cells' words and the log's bytes, does f where there is room, or fails as f and
 -- the test of room do.
@@ -27,6 +33,7 @@ pub record DoesLog (f : Floo.Machine → Result Floo.Machine) (m : Machine) (s d
   pub does : (e : List ℕ) (μ : Floo.Machine)
       → Rep m s e d c l μ
       → Answer (λ m′. Rep m′ s e d c′ l′) ((c′ ≡ c) × (l′ ≡ l)) r (fitted (lent s e d c l) f μ)
+  pub rest : LogRest l l′ r
 
 -- The current bytes of item 0, n of them, are written after what the log holds.
 pub record CopiesCurrent (m : Machine) (s c l l′ : List ℕ) (n : ℕ) : Type 0 where

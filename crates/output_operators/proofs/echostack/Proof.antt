@@ -34,7 +34,7 @@ same-length-2 : tie.Need-same-length-2
 same-length-2 c = search needs
 
 returns-3 : tie.Need-returns-3
-returns-3 c = line-good (c .before .before .before .before .before .stack-fits .ensures) (c .before .before .before .before .if3 .taken) (c .before .before .write-stack .ensures)
+returns-3 c = line-good (c .before .before .before .before .before .stack-fits .ensures) (c .before .before .before .before .if3 .taken) (c .before .before .before .before .before .before .before .before .before .before .before .before .pre) (c .before .before .write-stack .ensures)
 
 returns-4 : tie.Need-returns-4
 returns-4 c = line-over (c .before .stack-fits .ensures) (c .if3 .left)
