@@ -82,7 +82,7 @@ fn weigh(script: &[u8], at: usize) -> Weighed
 }
 
 // The fault of an answer that has one, for the branch of a `let .. else` that returns with its name.
-fn fault_of(judged: Judged) -> Error
+pub fn fault_of(judged: Judged) -> Error
     ensures { λ r. ⌜ r ≡ faultOf judged ⌝ }
 {
     match judged {

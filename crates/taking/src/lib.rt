@@ -164,7 +164,8 @@ pub fn push_name(m: Machine, stack: &mut [u32], slot: usize) -> Machine
 }
 
 // Two words go above the topmost item.
-fn push_words(m: Machine, stack: &mut [u32], tag: u32, payload: u32) -> Machine
+// Rules out: the payload below the tag; a cell counted for them.
+pub fn push_words(m: Machine, stack: &mut [u32], tag: u32, payload: u32) -> Machine
     requires { ⌜ (2 * m .depth + 2 ≤ length (now stack)) × (length (now stack) ≤ 513) ⌝ }
     ensures { λ r. ⌜ PushesWords tag payload m r (now (stack .entry)) (now (stack .exit)) ⌝ }
 {

@@ -1,0 +1,2 @@
+pub mod Constructing
+pub mod Rooming
