@@ -2,22 +2,23 @@
 -- moved on, is what the step promises.
 -- Assumes nothing.
 use mathlib.Core.Path.{_≡_, refl, sym, ap, _∙_, subst}
-use mathlib.Core.Bool.{Bool, true}
+use mathlib.Core.Bool.{true}
 use mathlib.Core.List.{List, [], _∷_}
 use mathlib.Core.Option.{some}
-use Prim.Native.Nat.{ℕ, zero, suc, _+_, _-_, _*_, _/_, _≤_, _<_}
+use Prim.Native.Nat.{ℕ, suc, _+_, _-_, _*_, _/_, _≤_, _<_}
 use native.Mathlib.Omega.{arith}
 use lib.ListN.{length, getD, getElem?}
 use Rattle.semantics.specs.Values.{Value, operator, name, Object, Result}
 use Rattle.semantics.specs.Machine as Floo
 use Rattle.semantics.specs.Machine.{Frame, pending, running, withExec, elementsOf, object}
 use Rattle.semantics.specs.Held.{ofValue}
-use Rattle.semantics.specs.Operators.{perform, table, _is_}
+use Rattle.semantics.specs.Operators.{perform, _is_}
 use Rattle.semantics.specs.Steps.{resume, execute, treat, isProcedure}
 use Rattle.semantics.specs.declared.Error.{Error}
 use Rattle.heap.specs.Word.{word}
 use Rattle.heap.specs.Shape.{Ghost, cells}
-use Rattle.store.specs.Rep.{Stands, a-null, an-integer, a-boolean, a-mark, an-operator, a-literal, an-executable, a-string, an-array, a-procedure, titles, element, objectAt}
+use Rattle.store.specs.Rep.{titles, element, objectAt}
+use Rattle.store.proofs.Standing.{is-operator, is-executable}
 use Rattle.machine.specs.Places.{keys}
 use Rattle.machine.specs.Rep.{Rep, IsIn, Answer, FrameIs, a-pending, a-running, a-looping, a-repeating, a-counting}
 use Rattle.machine.specs.Room.{lent, fitted}
@@ -32,62 +33,16 @@ use Rattle.operators.specs.Titles.{performAt, Everywhere, DoesAll}
 use Rattle.operators.proofs.Named.{log-same}
 use Rattle.taking.specs.Effects.{executableTaken}
 use Rattle.taking.specs.Promises.{Bindings, NamedBindings, DoesBinding, DoesNamed}
-use Rattle.dictionary.proofs.Dictionaries.{some-one, none-some}
 use Rattle.turns.specs.Turns.{resumed}
 use Rattle.turns.proofs.Resuming.{top-is, dropped-is, resumed-is, reset-is}
 use Rattle.turns.proofs.Procedures.{is-pending, an-element}
+use Rattle.commands.proofs.Values.{getD-known, operator-number}
 use Rattle.acting.proofs.Via.{via, roots-dropped, roots-moved}
-
--- ---- values by their tags
-
-module _ {ks : List (List ℕ)} {texts : List Bool} {ρ : ℕ → ℕ} where
-  pub is-operator : {v : Value} {t p : ℕ} → Stands ks texts ρ v t p → t ≡ 4 → (o : List ℕ) × (v ≡ operator o) × (getElem? titles p ≡ some o)
-  is-operator a-null q = absurd (omega arith)
-  is-operator an-integer q = absurd (omega arith)
-  is-operator a-boolean q = absurd (omega arith)
-  is-operator a-mark q = absurd (omega arith)
-  is-operator (an-operator {o = o} x) q = (o, refl, x)
-  is-operator (a-literal x) q = absurd (omega arith)
-  is-operator (an-executable x) q = absurd (omega arith)
-  is-operator (a-string x y) q = absurd (omega arith)
-  is-operator (an-array x y) q = absurd (omega arith)
-  is-operator (a-procedure x y) q = absurd (omega arith)
-
-  pub is-executable : {v : Value} {t p : ℕ} → Stands ks texts ρ v t p → t ≡ 6 → (n : List ℕ) × (v ≡ name true n) × (getElem? ks p ≡ some n)
-  is-executable a-null q = absurd (omega arith)
-  is-executable an-integer q = absurd (omega arith)
-  is-executable a-boolean q = absurd (omega arith)
-  is-executable a-mark q = absurd (omega arith)
-  is-executable (an-operator x) q = absurd (omega arith)
-  is-executable (a-literal x) q = absurd (omega arith)
-  is-executable (an-executable {n = n} x) q = (n, refl, x)
-  is-executable (a-string x y) q = absurd (omega arith)
-  is-executable (an-array x y) q = absurd (omega arith)
-  is-executable (a-procedure x y) q = absurd (omega arith)
 
 -- ---- the answer of what stands for the step
 
 alike : (Q : Machine → Floo.Machine → Type 0) (S : Type 0) (r : Did) {p q : Result Floo.Machine} → p ≡ q → Answer Q S r q → Answer Q S r p
 alike Q S r e A = subst (λ x. Answer Q S r x) (sym e) A
-
--- What is at a place.
-getD-known : {A : Type 0} (l : List A) (i : ℕ) (d : A) {x : A} → getElem? l i ≡ some x → getD l i d ≡ x
-getD-known [] i d q = absurd (none-some q)
-getD-known (y ∷ l) zero d q = some-one q
-getD-known (y ∷ l) (suc i) d q = getD-known l i d q
-
--- An operator's number is one of 54.
-few-titles : length titles ≡ 54
-unfolding titles table _is_
-few-titles = refl
-
-inside-list : {A : Type 0} (l : List A) (i : ℕ) {x : A} → getElem? l i ≡ some x → i < length l
-inside-list [] i q = absurd (none-some q)
-inside-list (y ∷ l) zero q = omega arith
-inside-list (y ∷ l) (suc i) q = let h = inside-list l i q in omega arith
-
-pub operator-number : {o : List ℕ} (p : ℕ) → getElem? titles p ≡ some o → p < 54
-operator-number p q = subst (λ n. p < n) few-titles (inside-list titles p q)
 
 -- ---- what is pending
 

@@ -11,7 +11,7 @@ use Rattle.semantics.specs.Machine as Floo
 use Rattle.semantics.specs.Machine.{withStack, withStore, withDictionary, push, make, made, change}
 use Rattle.semantics.specs.Groups.{taken, group, opened}
 use Rattle.semantics.specs.Held.{sumOf}
-use Rattle.semantics.specs.Steps.{Limits, roomFor}
+use Rattle.semantics.specs.Steps.{Limits, roomFor, silent, commandOf, isProcedure, treat, tokenMove}
 use Rattle.semantics.specs.declared.Error.{Error}
 use Rattle.semantics.specs.declared.Error.the-variants.{LimitCheck, StackOverflow, VmError}
 use Rattle.machine.specs.Rep.{Rep}
@@ -47,14 +47,14 @@ pub group-fault : {script : List ℕ} {from : ℕ} {answer : Judged}
     → r ≡ faultOf answer
     → {m : Machine} {s d c : List ℕ}
     → TakesGroup script from m s s d d c c (Fail r)
-unfolding groupTaken groupRead _>>=_
+unfolding groupTaken groupRead tokenMove silent _>>=_
 group-fault {script} {from} J u first {r} e {m} {s} {d} {c} =
     let F = subst (JudgedAs script 15 from) u J in
     subst (λ y. TakesGroup script from m s s d d c c (Fail y)) (sym (e ∙ ap faultOf u))
     (record {
       takes = λ e l μ R.
           let z = F .says (length script) (made μ) [] (opened μ) (omega (arith, first)) in
-          (ap (λ q. q >>= λ t. ok (push (t .value) (t .machine)) >>= roomFor (lent s e d c l) μ) z, refl, refl, R);
+          (ap (λ q. tokenMove q .result >>= roomFor (lent s e d c l) μ) z, ap (λ q. tokenMove q .command) z, refl, refl, R);
     })
 
 -- What a good answer says.
@@ -88,8 +88,13 @@ module _ {script : List ℕ} {from : ℕ} (first : 1 ≤ from) (inside : from �
   read-is μ = group-parsed script P inside (length script) (made μ) [] (opened μ) (omega (arith, first))
 
   taken-is : (limits : Limits) (μ : Floo.Machine) → groupTaken limits script from μ ≡ roomFor limits μ (procedure ns μ)
-  unfolding groupTaken taken _>>=_
-  taken-is limits μ = ap (λ q. q >>= λ t. ok (push (t .value) (t .machine)) >>= roomFor limits μ) (read-is μ)
+  unfolding groupTaken taken tokenMove treat isProcedure _>>=_
+  taken-is limits μ = ap (λ q. tokenMove q .result >>= roomFor limits μ) (read-is μ)
+
+  -- A group executes nothing.
+  quiet : (μ : Floo.Machine) → tokenMove (groupRead script from μ) .command ≡ []
+  unfolding taken tokenMove commandOf
+  quiet μ = ap (λ q. tokenMove q .command) (read-is μ)
 
   -- ---- the names
 
@@ -105,7 +110,7 @@ module _ {script : List ℕ} {from : ℕ} (first : 1 ≤ from) (inside : from �
     group-full {s} {c} u = record {
       takes = λ e l μ R.
           let full = subst (NamedAs (names ns) m s e d d′ c l μ) u (named-as R) in
-          (taken-is (lent s e d c l) μ ∙ room-slots (lent s e d c l) μ (procedure ns μ) full, refl, refl, stays R);
+          (taken-is (lent s e d c l) μ ∙ room-slots (lent s e d c l) μ (procedure ns μ) full, quiet μ, refl, refl, stays R);
     }
 
     module _ {q : Machine} (u : r ≡ named.Done q) where
@@ -121,7 +126,7 @@ module _ {script : List ℕ} {from : ℕ} (first : 1 ≤ from) (inside : from �
       group-over {s} {c} over = record {
         takes = λ e l μ R.
             let deep : length s / 2 < length (procedure ns μ .stack) = omega (arith, items-length (R .items), over) in
-            (taken-is (lent s e d c l) μ ∙ room-stack (lent s e d c l) μ (procedure ns μ) (names-fit R) (exec-fits R) deep, refl, refl, stays R);
+            (taken-is (lent s e d c l) μ ∙ room-stack (lent s e d c l) μ (procedure ns μ) (names-fit R) (exec-fits R) deep, quiet μ, refl, refl, stays R);
       }
 
       module _ {s c : List ℕ} (room : 2 * m .depth + 2 ≤ length s) where
@@ -134,7 +139,7 @@ module _ {script : List ℕ} {from : ℕ} (first : 1 ≤ from) (inside : from �
         group-none few = record {
           takes = λ e l μ R.
               let many : freeCells m c < sumOf cells (group-news ns μ) = omega (arith, few, group-cells ns μ) in
-              (taken-is (lent s e d c l) μ ∙ room-none R (procedure ns μ) (group-news ns μ) (store-is ns μ) (names-fit R) (exec-fits R) (stack-fit R) many, refl, refl, stays R);
+              (taken-is (lent s e d c l) μ ∙ room-none R (procedure ns μ) (group-news ns μ) (store-is ns μ) (names-fit R) (exec-fits R) (stack-fit R) many, quiet μ, refl, refl, stays R);
         }
 
         module _ (enough : count ns + 1 + wanted ns ≤ freeCells m c) where

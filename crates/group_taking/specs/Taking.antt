@@ -9,7 +9,7 @@ use Rattle.semantics.specs.Values.{Result, ok, fault, _>>=_, null, array, eleme
 use Rattle.semantics.specs.Machine as Floo
 use Rattle.semantics.specs.Machine.{push, make, made}
 use Rattle.semantics.specs.Groups.{Taken, taken, group, opened}
-use Rattle.semantics.specs.Steps.{Limits, roomFor}
+use Rattle.semantics.specs.Steps.{Limits, roomFor, tokenMove}
 use Rattle.groups.specs.Nodes.{Nodes, count, wanted, names}
 use Rattle.groups.specs.Parsing.{Parsed}
 use Rattle.machine.specs.Rep.{Rep}
@@ -24,9 +24,9 @@ use Rattle.group_taking.specs.declared.Grouped.the-variants.{Done, Fail}
 unfoldable pub groupRead : List ℕ → ℕ → Floo.Machine → Result Taken
 groupRead script from μ = group script (length script) (made μ) 15 from [] (opened μ)
 
--- It is pushed, and then room is tested.
+-- What the step makes of it, with the test of room after it.
 unfoldable pub groupTaken : Limits → List ℕ → ℕ → Floo.Machine → Result Floo.Machine
-groupTaken limits script from μ = groupRead script from μ >>= λ t. ok (push (t .value) (t .machine)) >>= roomFor limits μ
+groupTaken limits script from μ = tokenMove (groupRead script from μ) .result >>= roomFor limits μ
 
 -- From `from` on, past a brace, the script may have a group, and the words stand for some machine.
 abbrev pub Opened : List ℕ → ℕ → Machine → List ℕ → List ℕ → List ℕ → Type 0
@@ -40,7 +40,7 @@ GroupedAs script from m s s′ e d d′ c c′ l μ (Done r after) =
     × (groupTaken (lent s e d c l) script from μ ≡ ok (push (array true (made μ)) ν))
     × Rep r s′ e d′ c′ l (push (array true (made μ)) ν) × (after ≤ length script)
 GroupedAs script from m s s′ e d d′ c c′ l μ (Fail x) =
-    (groupTaken (lent s e d c l) script from μ ≡ fault x) × (s′ ≡ s) × (c′ ≡ c) × Rep m s e d′ c l μ
+    (groupTaken (lent s e d c l) script from μ ≡ fault x) × (tokenMove (groupRead script from μ) .command ≡ []) × (s′ ≡ s) × (c′ ≡ c) × Rep m s e d′ c l μ
 
 pub record TakesGroup (script : List ℕ) (from : ℕ) (m : Machine) (s s′ d d′ c c′ : List ℕ) (r : Grouped) : Type 0 where
   pub takes : (e l : List ℕ) (μ : Floo.Machine) → Rep m s e d c l μ → GroupedAs script from m s s′ e d d′ c c′ l μ r

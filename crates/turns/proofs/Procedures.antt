@@ -61,7 +61,7 @@ module _ {keys : List (List ℕ)} {texts : List Bool} {ρ : ℕ → ℕ} (μ : F
 
 -- ---- an element by its place
 
-no-element : (l : List Value) (n : ℕ) → length l ≤ n → getElem? l n ≡ none
+pub no-element : (l : List Value) (n : ℕ) → length l ≤ n → getElem? l n ≡ none
 no-element [] n h = refl
 no-element (x ∷ l) zero h = absurd (omega arith)
 no-element (x ∷ l) (suc n) h = no-element l n (omega arith)

@@ -1,0 +1,50 @@
+// What the topmost execution slot would execute, an operator or a name, read from the words before the step, so that a step that fails can report it.
+// It is exactly the command that the definition's step hands on.
+ghost use Prim.Native.Nat.{_≤_};
+ghost use Rattle.frames.specs.Moves.{Somewhere};
+ghost use Rattle.commands.specs.Commands.{CommandIs, Commands};
+use ending::Command;
+use frames::PENDING;
+use frames::RUNNING;
+use machine::Machine;
+use machine::TAG_EXECUTABLE;
+use machine::TAG_OPERATOR;
+
+// The command of the topmost slot: what is pending, or a procedure's next element.
+// Rules out: the element before or after the next one; a command of a loop or of a literal name.
+pub fn command(m: Machine, exec: &[u32], cells: &[u32]) -> Command
+    requires { ⌜ (1 ≤ m .frames) × Somewhere m (now exec) (now cells) ⌝ }
+    ensures { λ r. ⌜ Commands m (now (exec .entry)) (now (cells .entry)) r ⌝ }
+{
+    let k = m.frames - 1;
+    let kind = exec[8 * k];
+    if kind == PENDING {
+        let tag = exec[8 * k + 1];
+        let pay = exec[8 * k + 2];
+        return command_of(tag, pay);
+    }
+    if kind == RUNNING {
+        let c = exec[8 * k + 3];
+        let left = exec[8 * k + 4];
+        if left == 0 {
+            return Command::Nothing;
+        }
+        let tag = heap::get(cells, c, 0);
+        let pay = heap::get(cells, c, 1);
+        return command_of(tag, pay);
+    }
+    Command::Nothing
+}
+
+// The command that a value is, by its two words.
+fn command_of(tag: u32, pay: u32) -> Command
+    ensures { λ r. ⌜ CommandIs tag pay r ⌝ }
+{
+    if tag == TAG_OPERATOR {
+        return Command::Operator(pay);
+    }
+    if tag == TAG_EXECUTABLE {
+        return Command::Name(pay);
+    }
+    Command::Nothing
+}

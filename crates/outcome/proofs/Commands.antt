@@ -1,0 +1,242 @@
+-- How the run ended: the command by its number, its slot or its place in the script, the error's name, and the lines that they stand in.
+-- Assumes nothing.
+use mathlib.Core.Path.{_≡_, refl, sym, ap, _∙_, subst}
+use mathlib.Core.Bool.{true}
+use mathlib.Core.List.{List, [], _∷_, _++_, append-assoc}
+use mathlib.Core.Option.{some}
+use Prim.Native.Nat.{ℕ, zero, suc, _+_, _-_, _≤_, _<_}
+use native.Mathlib.Omega.{arith}
+use lib.ListN.{length, getD, getElem?, set, take, drop, length-take, length-map}
+use Rattle.semantics.specs.Text.{bytes}
+use Rattle.semantics.specs.Values.{name}
+use Rattle.semantics.specs.Machine as Floo
+use Rattle.semantics.specs.Printing.{nameText, shown, echoedTo}
+use Rattle.semantics.specs.Steps as Steps
+use Rattle.semantics.specs.Outcome.{errorText, line, endingLines}
+use Rattle.semantics.specs.OutcomeLaws.{error-length}
+use Rattle.semantics.specs.ShortSteps.{nameText-length}
+use Rattle.semantics.specs.Operators.{Entry, table}
+use Rattle.semantics.specs.NameLaws.{operator-count}
+use Rattle.semantics.specs.declared.Error.{Error}
+use Rattle.store.specs.Rep.{titles, an-executable}
+use Rattle.text.specs.Writing.{Written}
+use Rattle.text.proofs.Pasting.{nothing, then, last, respelt}
+use Rattle.names.proofs.Spelling.{title-slot, size-is}
+use Rattle.printing.specs.Shown as Shown
+use Rattle.printing.specs.Shown.{WithRoom, Writes}
+use Rattle.ending.specs.Endings.{commandText, IsCommand, endingOf, IsEnding}
+use Rattle.ending.specs.declared.Command.{Command}
+use Rattle.ending.specs.declared.Command.the-variants.{Nothing, Operator, Name, Token}
+use Rattle.ending.specs.declared.Ending.{Ending}
+use Rattle.ending.specs.declared.Ending.the-variants.{Failed}
+use Rattle.machine.specs.Places.{keys}
+use Rattle.machine.specs.Rep.{Rep, IsIn}
+use Rattle.machine.specs.declared.Machine.{Machine}
+use Rattle.outcome.specs.Reports.{Known, EndingRoom, WritesEnding, FailureRoom, WritesFailure, CommandRoom, WritesCommand}
+use Rattle.outcome.proofs.Beginnings.{title-plain}
+
+-- ---- a name by its slot
+
+there : (l : List (List ℕ)) (k : ℕ) → k < length l → getElem? l k ≡ some (getD l k [])
+there [] k h = absurd (omega arith)
+there (a ∷ l) zero h = refl
+there (a ∷ l) (suc k) h = there l k (omega arith)
+
+title-there : (k : ℕ) → k < 54 → getElem? titles k ≡ some (getD titles k [])
+unfolding titles
+title-there k h = there titles k (omega (arith, h, length-map table (λ (e : Entry). e .title), operator-count))
+
+module _ {m : Machine} {s e d c l : List ℕ} {μ : Floo.Machine} (R : Rep m s e d c l μ) (k : ℕ) {n : List ℕ} (q : getElem? (keys μ) k ≡ some n) where
+  -- An executable name's two words.
+  pub executable-words : IsIn (R .world) μ (name true n) 6 k
+  executable-words = record { stands = an-executable q; alive = λ l. absurd (omega arith) }
+
+  abbrev pub executable-known : Shown.Known d c 6 k
+  executable-known = record { small = m; stack = s; exec = e; log = l; machine = μ; rep = R; value = name true n; words = executable-words }
+
+  executable-length : length (echoedTo 0 μ (name true n)) ≤ 125
+  unfolding echoedTo shown
+  executable-length = omega (arith, nameText-length true n, size-is R k n q)
+
+-- ---- the command
+
+-- The name that is written of an operator or a slot, and what the definition writes.
+record Slotted (script : List ℕ) (command : Command) (μ : Floo.Machine) (k : ℕ) : Type 0 where
+  text : List ℕ
+  slot : getElem? (keys μ) k ≡ some text
+  same : commandText script (keys μ) command ≡ echoedTo 0 μ (name true text)
+
+abbrev Slotting : List ℕ → List ℕ → List ℕ → Command → ℕ → Type 0
+Slotting script d c command k =
+    (m : Machine) (s e l : List ℕ) (μ : Floo.Machine) → Rep m s e d c l μ → IsCommand script (keys μ) command → Slotted script command μ k
+
+module _ {script d c : List ℕ} {command : Command} {k : ℕ} where
+  operator-slot : command ≡ Operator k → Slotting script d c command k
+  unfolding commandText echoedTo shown
+  operator-slot q m s e l μ R h =
+      let few : k < 54 = subst (λ x. IsCommand script (keys μ) x) q h in
+      let title = title-there k few in
+      record {
+        text = getD titles k [];
+        slot = title-slot R k (getD titles k []) title;
+        same = ap (commandText script (keys μ)) q ∙ sym (title-plain k (getD titles k []) title);
+      }
+
+  name-slot : command ≡ Name k → Slotting script d c command k
+  unfolding commandText echoedTo shown
+  name-slot q m s e l μ R h =
+      let few : k < length (keys μ) = subst (λ x. IsCommand script (keys μ) x) q h in
+      record { text = getD (keys μ) k []; slot = there (keys μ) k few; same = ap (commandText script (keys μ)) q }
+
+  -- Both are written as the executable name in that slot.
+  module _ (slotted : Slotting script d c command k) where
+    slot-room : {at : ℕ} {out : List ℕ} → CommandRoom script d c command at out → WithRoom d c 6 k 0 at out
+    slot-room N =
+        let K = N .known in
+        let S = slotted (K .small) (K .stack) (K .exec) (K .log) (K .machine) (K .rep) (K .holds) in
+        record { known = executable-known (K .rep) k (S .slot); fits = omega (arith, N .fits, executable-length (K .rep) k (S .slot)) }
+
+    slot-written : {at r : ℕ} {old new : List ℕ} → Writes d c 6 k 0 at old new r → WritesCommand script d c command at old new r
+    slot-written W =
+        record {
+          says = λ m s e l μ R h.
+              let S = slotted m s e l μ R h in
+              respelt (S .same) (W .says m s e l μ R (name true (S .text)) (executable-words R k (S .slot)));
+        }
+
+  module _ (q : command ≡ Operator k) where
+    pub operator-room : {at : ℕ} {out : List ℕ} → CommandRoom script d c command at out → WithRoom d c 6 k 0 at out
+    operator-room N = slot-room (operator-slot q) N
+
+    pub operator-written : {at r : ℕ} {old new : List ℕ} → Writes d c 6 k 0 at old new r → WritesCommand script d c command at old new r
+    operator-written W = slot-written (operator-slot q) W
+
+  module _ (q : command ≡ Name k) where
+    pub name-room : {at : ℕ} {out : List ℕ} → CommandRoom script d c command at out → WithRoom d c 6 k 0 at out
+    name-room N = slot-room (name-slot q) N
+
+    pub name-written : {at r : ℕ} {old new : List ℕ} → Writes d c 6 k 0 at old new r → WritesCommand script d c command at old new r
+    name-written W = slot-written (name-slot q) W
+
+pub nothing-written : {script d c : List ℕ} {command : Command} {at : ℕ} {out : List ℕ} → command ≡ Nothing → WritesCommand script d c command at out out at
+unfolding commandText
+nothing-written {script} {at = at} {out = out} q =
+    record { says = λ m s e l μ R h. respelt (ap (commandText script (keys μ)) q) (nothing at out) }
+
+-- A name of the script.
+module _ {script d c : List ℕ} {command : Command} (start size : ℕ) (q : command ≡ Token start size) where
+  module _ {at : ℕ} {out : List ℕ} (N : CommandRoom script d c command at out) where
+    pub token-inside : (start + size ≤ length script) × (size ≤ 31)
+    token-inside = subst (λ x. IsCommand script (keys (N .known .machine)) x) q (N .known .holds)
+
+    pub token-room : at + length (nameText true (take (start + size - start) (drop start script))) ≤ length out
+    token-room =
+        omega (
+          arith,
+          N .fits,
+          token-inside .1,
+          nameText-length true (take (start + size - start) (drop start script)),
+          length-take (start + size - start) (drop start script),
+        )
+
+  pub token-written : {at r : ℕ} {old new : List ℕ}
+      → Written at (nameText true (take (start + size - start) (drop start script))) old new r
+      → WritesCommand script d c command at old new r
+  unfolding commandText
+  token-written W =
+      let whole : size ≡ start + size - start = omega arith in
+      record { says = λ m s e l μ R h. respelt (ap (commandText script (keys μ)) q ∙ ap (λ j. nameText true (take j (drop start script))) whole) W }
+
+command-length : {m : Machine} {s e d c l : List ℕ} {μ : Floo.Machine} (script : List ℕ) (command : Command)
+    → Rep m s e d c l μ
+    → IsCommand script (keys μ) command
+    → length (commandText script (keys μ) command) ≤ 125
+unfolding commandText
+command-length script Nothing R h = omega arith
+command-length {m} {s} {e} {l = l} {μ = μ} script (Operator k) R h = let S = operator-slot {script = script} {k = k} refl m s e l μ R h in omega (arith, ap length (S .same), executable-length R k (S .slot))
+command-length {m} {s} {e} {l = l} {μ = μ} script (Name k) R h = let S = name-slot {script = script} {k = k} refl m s e l μ R h in omega (arith, ap length (S .same), executable-length R k (S .slot))
+command-length script (Token start size) R h =
+    omega (arith, h .1, nameText-length true (take size (drop start script)), length-take size (drop start script))
+
+-- ---- an error
+
+seam : (h a n k t f : List ℕ) → h ++ (a ++ n) ++ (k ++ t ++ f) ≡ h ++ a ++ (n ++ k) ++ t ++ f
+seam h a n k t f = simp append-assoc
+
+failure-text : (e : Error) (command : List ℕ)
+    → endingLines (Steps.failed e command) ≡ bytes "ending=error\nerror=" ++ errorText e ++ bytes "\ncommand=" ++ command ++ (10 ∷ [])
+unfolding endingLines line bytes
+failure-text e command = seam (bytes "ending=error\nerror=") (errorText e) (bytes "\n") (bytes "command=") command (bytes "\n")
+
+module _ {script d c : List ℕ} {command : Command} {out : List ℕ} (N : FailureRoom script d c command out)
+    {o₁ : List ℕ} {start : ℕ} (head : Written 0 (bytes "ending=error\nerror=") out o₁ start) (k₁ : length o₁ ≡ length out) where
+  pub error-room : start + 17 ≤ length o₁
+  unfolding bytes
+  error-room = omega (arith, N .fits, head .end, k₁)
+
+  module _ (error : Error) {o₂ : List ℕ} {middle : ℕ} (name : Written start (errorText error) o₁ o₂ middle) (k₂ : length o₂ ≡ length o₁) where
+    middle-few : middle ≤ 36
+    unfolding bytes
+    middle-few = omega (arith, head .end, name .end, error-length error)
+
+    pub key-room : middle + length (bytes "\ncommand=") ≤ length o₂
+    unfolding bytes
+    key-room = omega (arith, N .fits, middle-few, k₁, k₂)
+
+    module _ {o₃ : List ℕ} {next : ℕ} (key : Written middle (bytes "\ncommand=") o₂ o₃ next) (k₃ : length o₃ ≡ length o₂) where
+      next-few : next ≤ 45
+      unfolding bytes
+      next-few = omega (arith, middle-few, key .end)
+
+      pub command-room : CommandRoom script d c command next o₃
+      command-room = record { known = N .known; fits = omega (arith, N .fits, next-few, k₁, k₂, k₃) }
+
+      module _ {o₄ : List ℕ} {after : ℕ} (text : WritesCommand script d c command next o₃ o₄ after) (k₄ : length o₄ ≡ length o₃) where
+        pub after-few : after + 1 ≤ 171
+        after-few =
+            let K = N .known in
+            omega (
+              arith,
+              next-few,
+              text .says (K .small) (K .stack) (K .exec) (K .log) (K .machine) (K .rep) (K .holds) .end,
+              command-length script command (K .rep) (K .holds),
+            )
+
+        pub last-room : after < length o₄
+        last-room = omega (arith, N .fits, after-few, k₁, k₂, k₃, k₄)
+
+        pub failure-written : WritesFailure script d c error command out (set o₄ after 10) (after + 1)
+        failure-written =
+            record {
+              says = λ m s e l μ R h.
+                  let low : 0 ≤ length out = omega arith in
+                  respelt (failure-text error (commandText script (keys μ) command))
+                  (last 10 low last-room (then low (then low (then low head name) key) (text .says m s e l μ R h)));
+            }
+
+-- ---- the ending
+
+pub failed-room : {script d c : List ℕ} {ending : Ending} {out : List ℕ} {error : Error} {command : Command}
+    → EndingRoom script d c ending out
+    → ending ≡ Failed error command
+    → FailureRoom script d c command out
+failed-room {script} N q =
+    let K = N .known in
+    record {
+      known = record { small = K .small; stack = K .stack; exec = K .exec; log = K .log; machine = K .machine; rep = K .rep; holds = subst (λ y. IsEnding script (keys (K .machine)) y) q (K .holds) };
+      fits = N .fits;
+    }
+
+module _ {script d c : List ℕ} {ending : Ending} {old new : List ℕ} {r : ℕ} where
+  -- An ending without a command is one text.
+  pub ending-written : (e : Ending) → ((names : List (List ℕ)) → Written 0 (endingLines (endingOf script names e)) old new r) → ending ≡ e → WritesEnding script d c ending old new r
+  ending-written e W q =
+      record { says = λ m s x l μ R h. respelt (ap (λ y. endingLines (endingOf script (keys μ) y)) q) (W (keys μ)) }
+
+  pub failed-written : {error : Error} {command : Command} → ending ≡ Failed error command → WritesFailure script d c error command old new r → WritesEnding script d c ending old new r
+  unfolding endingOf
+  failed-written q W =
+      record {
+        says = λ m s e l μ R h.
+            respelt (ap (λ y. endingLines (endingOf script (keys μ) y)) q) (W .says m s e l μ R (subst (λ y. IsEnding script (keys μ) y) q h));
+      }

@@ -1,0 +1,6 @@
+pub mod Numbers
+pub mod Beginnings
+pub mod Valuing
+pub mod Lining
+pub mod Commands
+pub mod Reporting

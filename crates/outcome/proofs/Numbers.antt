@@ -1,0 +1,107 @@
+-- The lines of the five numbers: a key, a number of 10 digits at most, and what the numbers are in every machine that the words stand for.
+-- Assumes nothing.
+use mathlib.Core.Path.{_≡_, ap, _∙_}
+use mathlib.Core.List.{List, []}
+use Prim.Native.Nat.{ℕ, _+_, _-_, _≤_, _<_}
+use native.Mathlib.Omega.{arith}
+use lib.ListN.{length, set, length-set, length-take}
+use Rattle.semantics.specs.Text.{bytes, decimal}
+use Rattle.semantics.specs.TextLaws.{decimal-length}
+use Rattle.semantics.specs.Machine as Floo
+use Rattle.semantics.specs.Held.{heldCells}
+use Rattle.semantics.specs.Outcome.{line}
+use Rattle.semantics.specs.OutcomeLaws.{line-length}
+use Rattle.heap.specs.Shape.{cells}
+use Rattle.store.proofs.Rooming.{lists-room}
+use Rattle.text.specs.Writing.{Written}
+use Rattle.text.proofs.Pasting.{then, last, respelt}
+use Rattle.machine.specs.Rep.{Rep, Somewhere}
+use Rattle.machine.specs.declared.Machine.{Machine}
+use Rattle.machine.proofs.Rooted.{rooted}
+use Rattle.machine.proofs.Outcomes.{stack-depth}
+use Rattle.elements.specs.Elements.{freeCells}
+use Rattle.outcome.specs.Reports.{CountsRoom, WritesCounts, countLines}
+
+-- ---- a line
+
+module _ {at next : ℕ} {key out mid : List ℕ} (n : ℕ) (room : at + length key + 12 ≤ length out) (K : Written at key out mid next) (same : length mid ≡ length out) where
+  pub sign-room : next < length mid
+  sign-room = omega (arith, room, K .end, same)
+
+  pub digits-room : next + 1 + length (decimal n) ≤ length (set mid next 61)
+  digits-room = omega (arith, room, K .end, same, length-set mid next 61, decimal-length n)
+
+  module _ {new : List ℕ} {after : ℕ} (D : Written (next + 1) (decimal n) (set mid next 61) new after) (kept : length new ≡ length (set mid next 61)) where
+    pub feed-room : after < length new
+    feed-room = omega (arith, room, K .end, D .end, same, kept, length-set mid next 61, decimal-length n)
+
+    pub number-line : Written at (line key (decimal n)) out (set new after 10) (after + 1)
+    unfolding line bytes
+    number-line = let low : at ≤ length out = omega (arith, room) in last 10 low feed-room (then low (last 61 low sign-room K) D)
+
+-- ---- the five numbers
+
+-- The cells that are not free are those that are held.
+pub held-room : {m : Machine} {s e d c l : List ℕ} {μ : Floo.Machine} → Rep m s e d c l μ → freeCells m c + heldCells μ ≡ cells c
+held-room {μ = μ} R = let H = R .stored in lists-room μ (H .full) (H .none-dead) (H .none-out) (H .objects) (rooted μ)
+
+module _ {m : Machine} {at : ℕ} {c : List ℕ} {next : ℕ} {out : List ℕ} (N : CountsRoom m at c next out) where
+  pub count-somewhere : (s : List ℕ) × Somewhere m s c
+  count-somewhere = (N .stack, (N .exec, N .dict, N .log, N .machine, N .rep))
+
+  pub free-few : freeCells m c ≤ cells c
+  free-few = omega (arith, held-room (N .rep))
+
+  pub depth-few : m .depth ≤ 256
+  depth-few = omega (arith, N .rep .stack-room, N .rep .stack-few)
+
+-- A line of a number is short.
+pub count-length : (key : List ℕ) (n : ℕ) → length (line key (decimal n)) ≤ length key + 12
+count-length key n = omega (arith, line-length key (decimal n), decimal-length n)
+
+-- What is left after one.
+pub after-line : {at r : ℕ} {out mid : List ℕ} (key : List ℕ) (n left : ℕ)
+    → at + (length key + 12 + left) ≤ length out
+    → Written at (line key (decimal n)) out mid r
+    → length mid ≡ length out
+    → r + left ≤ length mid
+after-line key n left h W same = omega (arith, h, W .end, same, count-length key n)
+
+-- After each of the first four lines there is room for the others.
+module _ {m : Machine} {at : ℕ} {c : List ℕ} {next : ℕ} {out : List ℕ} (N : CountsRoom m at c next out)
+    {o₁ : List ℕ} {r₁ : ℕ} (at-line : Written next (line (bytes "at") (decimal at)) out o₁ r₁) (k₁ : length o₁ ≡ length out) where
+  pub after-at : r₁ + 65 ≤ length o₁
+  unfolding bytes
+  after-at = after-line (bytes "at") at 65 (N .fits) at-line k₁
+
+  module _ (steps : ℕ) {o₂ : List ℕ} {r₂ : ℕ} (steps-line : Written r₁ (line (bytes "steps") (decimal steps)) o₁ o₂ r₂) (k₂ : length o₂ ≡ length o₁) where
+    pub after-steps : r₂ + 48 ≤ length o₂
+    unfolding bytes
+    after-steps = after-line (bytes "steps") steps 48 after-at steps-line k₂
+
+    module _ {o₃ : List ℕ} {r₃ : ℕ} (depth-line : Written r₂ (line (bytes "depth") (decimal (m .depth))) o₂ o₃ r₃) (k₃ : length o₃ ≡ length o₂) where
+      pub after-depth : r₃ + 31 ≤ length o₃
+      unfolding bytes
+      after-depth = after-line (bytes "depth") (m .depth) 31 after-steps depth-line k₃
+
+      module _ (held : ℕ) {o₄ : List ℕ} {r₄ : ℕ} (held-line : Written r₃ (line (bytes "held") (decimal held)) o₃ o₄ r₄) (k₄ : length o₄ ≡ length o₃) where
+        pub after-held : r₄ + 15 ≤ length o₄
+        unfolding bytes
+        after-held = after-line (bytes "held") held 15 after-depth held-line k₄
+
+        pub counts-written : (free : ℕ) → free ≡ freeCells m c → held ≡ cells c - free → {new : List ℕ} {r : ℕ}
+            → Written r₄ (line (bytes "log") (decimal (m .written))) o₄ new r
+            → WritesCounts m at steps c next out new r
+        unfolding countLines
+        counts-written free f h log-line =
+            record {
+              says = λ s e d l μ R.
+                  let low : next ≤ length out = omega (arith, N .fits) in
+                  let is-held : heldCells μ ≡ held = omega (arith, f, h, held-room R) in
+                  let is-log : length (μ .log) ≡ m .written = omega (arith, ap length (R .logged), length-take (m .written) l, R .log-room) in
+                  respelt
+                  (ap (λ n. countLines at steps n (heldCells μ) (length (μ .log))) (stack-depth R)
+                  ∙ ap (λ n. countLines at steps (m .depth) n (length (μ .log))) is-held
+                  ∙ ap (λ n. countLines at steps (m .depth) held n) is-log)
+                  (then low (then low (then low (then low at-line steps-line) depth-line) held-line) log-line);
+            }

@@ -1,0 +1,245 @@
+-- Steps that take a token: what the token's function promises is the definition's step.
+-- Assumes nothing.
+use mathlib.Core.Path.{_≡_, refl, sym, ap, _∙_, subst}
+use mathlib.Core.Bool.{true, false}
+use mathlib.Core.List.{List, []}
+use Prim.Native.Nat.{ℕ, _+_, _-_}
+use native.Mathlib.Omega.{arith}
+use lib.ListN.{take, drop}
+use Rattle.semantics.specs.Values.{Value, Result, ok, fault, _>>=_, array, Object}
+use Rattle.semantics.specs.Tokens.{Token, lex, lexeme}
+use Rattle.semantics.specs.Machine as Floo
+use Rattle.semantics.specs.Machine.{Frame, push, made}
+use Rattle.semantics.specs.Groups.{taken, skip, tokenValue}
+use Rattle.semantics.specs.Steps as steps
+use Rattle.semantics.specs.Steps.{Move, roomFor, moved, silent, commandOf, tokenMove, offsetAfter}
+use Rattle.semantics.specs.declared.Error.{Error}
+use Rattle.semantics.specs.declared.Error.the-variants.{SyntaxError}
+use Rattle.heap.specs.Shape.{Ghost}
+use Rattle.ending.specs.Endings.{commandText, IsCommand}
+use Rattle.ending.specs.declared.Command.{Command}
+use Rattle.ending.specs.declared.Command.the-variants as command
+use Rattle.machine.specs.Places.{keys}
+use Rattle.machine.specs.Rep.{Rep, Answer, Frames, bottom, frame}
+use Rattle.machine.specs.Room.{lent, fitted, DoesStack}
+use Rattle.machine.specs.declared.Machine.{Machine}
+use Rattle.machine.specs.declared.Did.{Did}
+use Rattle.machine.specs.declared.Did.the-variants.{Fail}
+use Rattle.token.specs.declared.Token as scanned
+use Rattle.token.specs.Lexing.{TokenAt, Lexes, NameToken, StringToken, BraceToken, EndToken, LexedAt, faultOf}
+use Rattle.token.specs.declared.Lexed.{Lexed}
+use Rattle.token.specs.declared.Lexed.the-variants as lexed
+use Rattle.taking.specs.Effects.{integerTaken, stringTaken, literalTaken, executableTaken}
+use Rattle.taking.specs.Promises.{DoesBinding, DoesNames, DoesString}
+use Rattle.taking.proofs.Moves.{integer-move, string-move, literal-move, executable-move}
+use Rattle.group_taking.specs.Taking.{groupRead, groupTaken, GroupedAs, TakesGroup}
+use Rattle.group_taking.specs.declared.Grouped.{Grouped}
+use Rattle.group_taking.specs.declared.Grouped.the-variants as grouped
+use Rattle.step.specs.Stepping.{stateOf, SteppedAs, StepsToken, endedBy, groupedBy}
+use Rattle.step.specs.declared.State.{State}
+use Rattle.step.specs.declared.Stepped.{Stepped}
+use Rattle.step.proofs.Moving.{Ends, ends-step, kept-answer, token-step, end-step, fault-step, ended-ok, ended-fault}
+
+-- ---- no execution slot
+
+no-frames : {A : Value → ℕ → ℕ → Type 0} {g : Ghost} {store : List Object} {words : List ℕ} {n : ℕ} {fs : List Frame} → Frames A g store words n fs → n ≡ 0 → fs ≡ []
+no-frames bottom q = refl
+no-frames (frame h f) q = absurd (omega arith)
+
+exec-empty : {m : Machine} {s e d c l : List ℕ} {μ : Floo.Machine} → Rep m s e d c l μ → m .frames ≡ 0 → μ .exec ≡ []
+exec-empty R q = no-frames (R .frames) q
+
+-- ---- the token that was read
+
+pub token-is : (script : List ℕ) (start : ℕ) {answer : Lexed} → LexedAt script start answer
+    → {t : scanned.Token} {next : ℕ}
+    → answer ≡ lexed.Token t next
+    → {u : scanned.Token}
+    → t ≡ u
+    → TokenAt script start next u
+token-is script start k {t} {next} g h = subst (TokenAt script start next) h (subst (LexedAt script start) g k)
+
+-- ---- from a promise to the step
+
+module _ {script : List ℕ} {σ : State} (none : σ .machine .frames ≡ 0) {start : ℕ} (begins : start ≡ skip script (σ .next)) where
+  -- What is done is what the definition makes of the token.
+  module _ {next : ℕ} (t : Token) (L : Lexes script start t next) (f : Floo.Machine → Result Floo.Machine) (command : Command)
+      (result : (μ : Floo.Machine) → tokenMove (tokenValue script μ next t) .result ≡ f μ)
+      (after : (μ : Floo.Machine) → offsetAfter start (tokenValue script μ next t) ≡ next)
+      (name : (μ : Floo.Machine) → (tokenMove (tokenValue script μ next t) .command ≡ commandText script (keys μ) command) × IsCommand script (keys μ) command)
+      {s s′ e e′ d d′ c c′ : List ℕ} (did : Did)
+      (does : (l : List ℕ) (μ : Floo.Machine) → Rep (σ .machine) s e d c l μ
+      → Answer (λ r. Rep r s′ e′ d′ c′ l) (Rep (σ .machine) s′ e′ d′ c′ l μ) did (fitted (lent s e d c l) f μ)) where
+    token-ends : (l : List ℕ) (μ : Floo.Machine) → Rep (σ .machine) s e d c l μ → Ends script σ s s′ e e′ d d′ c c′ l l μ start next command did
+    unfolding fitted
+    token-ends l μ R =
+        let limits = lent s e d c l in
+        let v = tokenMove (tokenValue script μ next t) in
+        record {
+          move = v;
+          is = subst (λ n. steps.step limits script (stateOf σ μ) ≡ moved limits (stateOf σ μ) n (offsetAfter n (tokenValue script μ next t)) v) (sym begins)
+              (token-step limits script (stateOf σ μ) (exec-empty R none) (subst (λ n. Lexes script n t next) begins L))
+              ∙ ap (λ n. moved limits (stateOf σ μ) start n v) (after μ);
+          inside = L .inside;
+          named = λ x q. name μ;
+          answer = subst (λ q. Answer (λ r. Rep r s′ e′ d′ c′ l) (Rep (σ .machine) s′ e′ d′ c′ l μ) did (q >>= roomFor limits μ)) (sym (result μ)) (does l μ R);
+        }
+
+    token-does : {r : Stepped} → r ≡ endedBy σ start next command did → StepsToken script σ s s′ e e′ d d′ c c′ r
+    token-does q = subst (StepsToken script σ s s′ e e′ d d′ c c′) (sym q) (record { steps = λ l μ R. ends-step did (token-ends l μ R) })
+
+  -- A fault.
+  module _ {s e d c : List ℕ} where
+    fault-ends : {x : Error} → ((l : List ℕ) (μ : Floo.Machine) → Rep (σ .machine) s e d c l μ
+        → (v : Move) × (v .command ≡ []) × (v .result ≡ fault x) × (n : ℕ) × (steps.step (lent s e d c l) script (stateOf σ μ) ≡ moved (lent s e d c l) (stateOf σ μ) start n v))
+        → {r : Stepped}
+        → r ≡ endedBy σ start start command.Nothing (Fail x)
+        → StepsToken script σ s s e e d d c c r
+    unfolding moved _>>=_ commandText
+    fault-ends {x} h q = subst (StepsToken script σ s s e e d d c c) (sym q) (record {
+      steps = λ l μ R.
+          let w = h l μ R in (
+            w .4 ∙ ended-fault (stateOf σ μ) start (w .3) (w .0 .command) (ap (λ y. y >>= roomFor (lent s e d c l) μ) (w .2))
+                ∙ ap (λ t. steps.fails x t (record { machine = μ; next = σ .next; at = start; steps = σ .steps + 1 })) (w .1),
+            R,
+            tt,
+          );
+    })
+
+    pub lex-fault : {answer : Lexed} → LexedAt script start answer → {x : Error} → answer ≡ lexed.Fault x → {y : Error} → y ≡ faultOf answer → {r : Stepped}
+        → r ≡ endedBy σ start start command.Nothing (Fail y)
+        → StepsToken script σ s s e e d d c c r
+    unfolding silent
+    lex-fault k {x} g {y} is q =
+        let w : lex (drop start script) ≡ fault x = subst (LexedAt script start) g k in
+        let same : y ≡ x = is ∙ ap faultOf g in
+        fault-ends (λ l μ R. (
+          silent (fault y),
+          refl,
+          refl,
+          start,
+          subst (λ n. steps.step (lent s e d c l) script (stateOf σ μ) ≡ moved (lent s e d c l) (stateOf σ μ) n n (silent (fault y))) (sym begins)
+              (fault-step (lent s e d c l) script (stateOf σ μ) (exec-empty R none) (subst (λ n. lex (drop n script) ≡ fault y) begins (w ∙ ap fault (sym same)))),
+        )) q
+
+    pub close-fault : {next : ℕ} → BraceToken script start Token.closeBrace next → {r : Stepped} → r ≡ endedBy σ start start command.Nothing (Fail SyntaxError) → StepsToken script σ s s e e d d c c r
+    unfolding tokenMove tokenValue offsetAfter silent
+    close-fault {next} B q =
+        fault-ends (λ l μ R. (
+          silent (fault SyntaxError),
+          refl,
+          refl,
+          start,
+          subst (λ n. steps.step (lent s e d c l) script (stateOf σ μ) ≡ moved (lent s e d c l) (stateOf σ μ) n n (silent (fault SyntaxError))) (sym begins)
+              (token-step (lent s e d c l) script (stateOf σ μ) (exec-empty R none) (subst (λ n. Lexes script n Token.closeBrace next) begins (B .token))),
+        )) q
+
+    pub end-fault : {next : ℕ} → EndToken script start next → {r : Stepped} → r ≡ endedBy σ start start command.Nothing (Fail SyntaxError) → StepsToken script σ s s e e d d c c r
+    unfolding tokenMove tokenValue offsetAfter silent
+    end-fault {next} E q =
+        fault-ends (λ l μ R. (
+          silent (fault SyntaxError),
+          refl,
+          refl,
+          start,
+          subst (λ n. steps.step (lent s e d c l) script (stateOf σ μ) ≡ moved (lent s e d c l) (stateOf σ μ) n n (silent (fault SyntaxError))) (sym begins)
+              (end-step (lent s e d c l) script (stateOf σ μ) (exec-empty R none) (subst (λ n. lex (drop n script) ≡ lexeme Token.end 0) begins (E .lexes))),
+        )) q
+
+  -- ---- tokens that are taken
+
+  pub integer-does : {next w : ℕ} → Lexes script start (Token.integer w) next → {s s′ e d c : List ℕ} (did : Did) → DoesStack (integerTaken w) (σ .machine) s s′ did → {r : Stepped}
+      → r ≡ endedBy σ start next command.Nothing did
+      → StepsToken script σ s s′ e e d d c c r
+  unfolding tokenMove tokenValue taken offsetAfter commandOf commandText
+  integer-does {next} {w} L {s} {s′} {e} {d} {c} did D =
+      token-does (Token.integer w) L (integerTaken w) command.Nothing (λ μ. integer-move script μ next w) (λ μ. refl) (λ μ. (refl, tt)) did
+      (λ l μ R. kept-answer (λ r. Rep r s′ e d c l) (s′ ≡ s) (Rep (σ .machine) s′ e d c l μ) did (fitted (lent s e d c l) (integerTaken w) μ)
+      (λ q. subst (λ x. Rep (σ .machine) x e d c l μ) (sym q) R) (D .does e d c l μ R))
+
+  pub string-does : {next at size : ℕ} → StringToken script start at size next → {s s′ e d c c′ : List ℕ} (did : Did) → DoesString script at (σ .machine) s s′ c c′ did → {r : Stepped}
+      → r ≡ endedBy σ start next command.Nothing did
+      → StepsToken script σ s s′ e e d d c c′ r
+  unfolding tokenMove tokenValue taken offsetAfter commandOf commandText
+  string-does {next} T {s} {s′} {e} {d} {c} {c′} did D =
+      let bs = T .bytes in
+      token-does (Token.string bs) (T .token) (stringTaken bs) command.Nothing (λ μ. string-move script μ next bs) (λ μ. refl) (λ μ. (refl, tt)) did
+      (λ l μ R. kept-answer (λ r. Rep r s′ e d c′ l) ((s′ ≡ s) × (c′ ≡ c)) (Rep (σ .machine) s′ e d c′ l μ) did (fitted (lent s e d c l) (stringTaken bs) μ)
+      (λ q. subst (λ x. Rep (σ .machine) x e d c′ l μ) (sym (q .0)) (subst (λ x. Rep (σ .machine) s e d x l μ) (sym (q .1)) R))
+      (D .does bs next (T .own) .does e d l μ R))
+
+  pub literal-does : {next at size : ℕ} → NameToken script start false 1 at size next → {s s′ e d d′ c : List ℕ} (did : Did)
+      → DoesNames (literalTaken (take (at + size - at) (drop at script))) (σ .machine) s s′ d d′ did
+      → {r : Stepped}
+      → r ≡ endedBy σ start next command.Nothing did
+      → StepsToken script σ s s′ e e d d′ c c r
+  unfolding tokenMove tokenValue taken offsetAfter commandOf commandText
+  literal-does {next} {at} {size} T {s} {s′} {e} {d} {d′} {c} did D =
+      let n = take size (drop at script) in
+      let part : at + size - at ≡ size = omega arith in
+      token-does (Token.name false n) (T .token) (literalTaken n) command.Nothing (λ μ. literal-move script μ next n) (λ μ. refl) (λ μ. (refl, tt)) did
+      (λ l μ R. kept-answer (λ r. Rep r s′ e d′ c l) ((s′ ≡ s) × (d′ ≡ d)) (Rep (σ .machine) s′ e d′ c l μ) did (fitted (lent s e d c l) (literalTaken n) μ)
+      (λ q. subst (λ x. Rep (σ .machine) x e d′ c l μ) (sym (q .0)) (subst (λ x. Rep (σ .machine) s e x c l μ) (sym (q .1)) R))
+      (subst (λ k. DoesNames (literalTaken (take k (drop at script))) (σ .machine) s s′ d d′ did) part D .does e c l μ R))
+
+  pub executable-does : {next at size : ℕ} → NameToken script start true 0 at size next → {s e e′ d c c′ : List ℕ} (did : Did)
+      → DoesBinding (executableTaken (take (at + size - at) (drop at script))) (σ .machine) e e′ d c c′ did
+      → {r : Stepped}
+      → r ≡ endedBy σ start next (command.Token at size) did
+      → StepsToken script σ s s e e′ d d c c′ r
+  unfolding tokenMove tokenValue taken offsetAfter commandOf commandText
+  executable-does {next} {at} {size} T {s} {e} {e′} {d} {c} {c′} did D =
+      let n = take size (drop at script) in
+      let part : at + size - at ≡ size = omega arith in
+      token-does (Token.name true n) (T .token) (executableTaken n) (command.Token at size) (λ μ. executable-move script μ next n) (λ μ. refl)
+      (λ μ. (refl, (omega (arith, T .ends, T .token .inside), T .few))) did
+      (λ l μ R. kept-answer (λ r. Rep r s e′ d c′ l) ((e′ ≡ e) × (c′ ≡ c)) (Rep (σ .machine) s e′ d c′ l μ) did (fitted (lent s e d c l) (executableTaken n) μ)
+      (λ q. subst (λ x. Rep (σ .machine) s x d c′ l μ) (sym (q .0)) (subst (λ x. Rep (σ .machine) s e d x l μ) (sym (q .1)) R))
+      (subst (λ k. DoesBinding (executableTaken (take k (drop at script))) (σ .machine) e e′ d c c′ did) part D .does s l μ R))
+
+-- ---- a brace group
+
+module _ (script : List ℕ) (σ : State) (none : σ .machine .frames ≡ 0) (start : ℕ) (begins : start ≡ skip script (σ .next)) (next : ℕ) (B : BraceToken script start Token.openBrace next)
+    (s s′ e d d′ c c′ : List ℕ) where
+  opens-step : {l : List ℕ} {μ : Floo.Machine} → Rep (σ .machine) s e d c l μ
+      → steps.step (lent s e d c l) script (stateOf σ μ)
+      ≡ moved (lent s e d c l) (stateOf σ μ) start (offsetAfter start (groupRead script next μ)) (tokenMove (groupRead script next μ))
+  unfolding tokenValue groupRead
+  opens-step {l} {μ} R =
+      subst (λ n. steps.step (lent s e d c l) script (stateOf σ μ) ≡ moved (lent s e d c l) (stateOf σ μ) n (offsetAfter n (groupRead script next μ)) (tokenMove (groupRead script next μ))) (sym begins)
+      (token-step (lent s e d c l) script (stateOf σ μ) (exec-empty R none) (subst (λ n. Lexes script n Token.openBrace next) begins (B .token)))
+
+  group-steps : (answer : Grouped) (l : List ℕ) (μ : Floo.Machine)
+      → Rep (σ .machine) s e d c l μ
+      → GroupedAs script next (σ .machine) s s′ e d d′ c c′ l μ answer
+      → SteppedAs script σ s s′ e e d d′ c c′ l l μ (groupedBy σ start answer)
+  unfolding moved tokenMove offsetAfter groupTaken taken commandText commandOf
+  group-steps (grouped.Done r after) l μ R G =
+      let limits = lent s e d c l in
+      let x = taken (array true (made μ)) (G .0) after in
+      let room : tokenMove x .result >>= roomFor limits μ ≡ ok (push (array true (made μ)) (G .0)) = ap (λ q. tokenMove q .result >>= roomFor limits μ) (sym (G .1)) ∙ G .2 in (
+        push (array true (made μ)) (G .0),
+        opens-step R ∙ ap (λ q. moved limits (stateOf σ μ) start (offsetAfter start q) (tokenMove q)) (G .1) ∙ ended-ok (stateOf σ μ) start after [] room,
+        G .3,
+        G .4,
+      )
+  group-steps (grouped.Fail x) l μ R G =
+      let q = groupRead script next μ in (
+        opens-step R
+            ∙ ended-fault (stateOf σ μ) start (offsetAfter start q) (tokenMove q .command) (G .0)
+            ∙ ap (λ t. steps.fails x t (record { machine = μ; next = σ .next; at = start; steps = σ .steps + 1 })) (G .1),
+        subst (λ y. Rep (σ .machine) y e d′ c′ l μ) (sym (G .2)) (subst (λ y. Rep (σ .machine) s e d′ y l μ) (sym (G .3)) (G .4)),
+        tt,
+      )
+
+pub group-does : {script : List ℕ} {σ : State} → σ .machine .frames ≡ 0
+    → {start : ℕ} → start ≡ skip script (σ .next)
+    → {next : ℕ} → BraceToken script start Token.openBrace next
+    → {s s′ e d d′ c c′ : List ℕ} (answer : Grouped)
+    → TakesGroup script next (σ .machine) s s′ d d′ c c′ answer
+    → {r : Stepped}
+    → r ≡ groupedBy σ start answer
+    → StepsToken script σ s s′ e e d d′ c c′ r
+group-does {script} {σ} none {start} begins {next} B {s} {s′} {e} {d} {d′} {c} {c′} answer T q =
+    subst (StepsToken script σ s s′ e e d d′ c c′) (sym q)
+    (record { steps = λ l μ R. group-steps script σ none start begins next B s s′ e d d′ c c′ answer l μ R (T .takes e l μ R) })

@@ -1,0 +1,71 @@
+-- A step of the runner against the definition's.
+-- Assumes nothing.
+use mathlib.Core.Path.{_≡_}
+use mathlib.Core.List.{List}
+use Prim.Native.Nat.{ℕ, _+_, _≤_, _<_}
+use lib.ListN.{length, drop}
+use Rattle.semantics.specs.Machine as Floo
+use Rattle.semantics.specs.Steps as steps
+use Rattle.ending.specs.Endings.{commandText, IsCommand}
+use Rattle.ending.specs.declared.Command.{Command}
+use Rattle.ending.specs.declared.Command.the-variants.{Nothing}
+use Rattle.machine.specs.Places.{keys}
+use Rattle.machine.specs.Rep.{Rep}
+use Rattle.machine.specs.Room.{lent}
+use Rattle.machine.specs.declared.Did.{Did}
+use Rattle.machine.specs.declared.Did.the-variants as did
+use Rattle.group_taking.specs.declared.Grouped.{Grouped}
+use Rattle.group_taking.specs.declared.Grouped.the-variants as grouped
+use Rattle.step.specs.declared.State.{State}
+use Rattle.step.specs.declared.Stepped.{Stepped}
+use Rattle.step.specs.declared.Stepped.the-variants.{Goes, Fails}
+
+-- The state of the definition, with this machine.
+abbrev pub stateOf : State → Floo.Machine → steps.State
+stateOf σ μ = record { machine = μ; next = σ .next; at = σ .at; steps = σ .steps }
+
+-- ---- what a step answers
+
+-- The state after it; or the error, the command, and the state before it with the step counted and `at` set.
+abbrev pub SteppedAs : List ℕ → State → List ℕ → List ℕ → List ℕ → List ℕ → List ℕ → List ℕ → List ℕ → List ℕ → List ℕ → List ℕ → Floo.Machine → Stepped → Type 0
+SteppedAs script σ s s′ e e′ d d′ c c′ l l′ μ (Goes τ) =
+    (ν : Floo.Machine) × (steps.step (lent s e d c l) script (stateOf σ μ) ≡ steps.goes (stateOf τ ν))
+    × Rep (τ .machine) s′ e′ d′ c′ l′ ν × (τ .next ≤ length script)
+SteppedAs script σ s s′ e e′ d d′ c c′ l l′ μ (Fails x command τ) =
+    (steps.step (lent s e d c l) script (stateOf σ μ) ≡ steps.fails x (commandText script (keys μ) command) (stateOf τ μ))
+    × Rep (τ .machine) s′ e′ d′ c′ l′ μ × IsCommand script (keys μ) command
+
+-- The log past what is written is as before.
+abbrev pub LogLeft : List ℕ → List ℕ → Stepped → Type 0
+LogLeft l l′ (Goes τ) = drop (τ .machine .written) l′ ≡ drop (τ .machine .written) l
+LogLeft l l′ (Fails x command τ) = l′ ≡ l
+
+pub record Steps (script : List ℕ) (σ : State) (s s′ e e′ d d′ c c′ l l′ : List ℕ) (r : Stepped) : Type 0 where
+  pub steps : (μ : Floo.Machine) → Rep (σ .machine) s e d c l μ → SteppedAs script σ s s′ e e′ d d′ c c′ l l′ μ r
+  pub left : LogLeft l l′ r
+
+-- A step that takes a token: it does not touch the log.
+pub record StepsToken (script : List ℕ) (σ : State) (s s′ e e′ d d′ c c′ : List ℕ) (r : Stepped) : Type 0 where
+  pub steps : (l : List ℕ) (μ : Floo.Machine) → Rep (σ .machine) s e d c l μ → SteppedAs script σ s s′ e e′ d d′ c c′ l l μ r
+
+-- ---- what is asked
+
+-- The script and the counts are as setup has them, and the words stand for some machine.
+pub record Ready (script : List ℕ) (σ : State) (s e d c l : List ℕ) : Type 0 where
+  pub short : length script ≤ 32768
+  pub inside : σ .next ≤ length script
+  pub few : σ .steps < 1000000
+  pub machine : (μ : Floo.Machine) × Rep (σ .machine) s e d c l μ
+
+abbrev pub ReadyToken : List ℕ → State → List ℕ → List ℕ → List ℕ → List ℕ → Type 0
+ReadyToken script σ s e d c = (l : List ℕ) × Ready script σ s e d c l × (σ .machine .frames ≡ 0)
+
+-- ---- the step's end
+
+abbrev pub endedBy : State → ℕ → ℕ → Command → Did → Stepped
+endedBy σ at next command (did.Ok r) = Goes (record { machine = r; next = next; at = at; steps = σ .steps + 1 })
+endedBy σ at next command (did.Fail e) = Fails e command (record { machine = σ .machine; next = σ .next; at = at; steps = σ .steps + 1 })
+
+abbrev pub groupedBy : State → ℕ → Grouped → Stepped
+groupedBy σ at (grouped.Done r next) = Goes (record { machine = r; next = next; at = at; steps = σ .steps + 1 })
+groupedBy σ at (grouped.Fail e) = Fails e Nothing (record { machine = σ .machine; next = σ .next; at = at; steps = σ .steps + 1 })

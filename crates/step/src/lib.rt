@@ -1,0 +1,148 @@
+// One step of a run: the topmost execution slot acts, or the next token of the script is taken. The answer is the definition's step, errors and their order,
+// the count of steps and the offsets included; where it fails, the words stand for what they stood for.
+ghost use mathlib.Core.Path.{_≡_};
+ghost use Prim.Native.Nat.{_<_};
+ghost use Rattle.step.specs.Stepping.{Ready, ReadyToken, Steps, StepsToken, endedBy, groupedBy};
+use ending::Command;
+use group_taking::Grouped;
+use machine::Did;
+use machine::Machine;
+use semantics::Error;
+use token::Lexed;
+use token::Token;
+
+// The state between two steps: the machine, the offset of the script's bytes that are left, the offset of the token last taken, and the steps made.
+pub struct State {
+    pub machine: Machine,
+    pub next: usize,
+    pub at: usize,
+    pub steps: u32,
+}
+
+pub enum Stepped {
+    Goes(State),
+    Fails(Error, Command, State),
+}
+
+impl State {
+    // One step.
+    // Rules out: a failing step that is not counted; the offset moved past a token that failed.
+    pub fn step(
+        self,
+        script: &[u8],
+        stack: &mut [u32],
+        exec: &mut [u32],
+        dict: &mut [u32],
+        cells: &mut [u32],
+        log: &mut [u8],
+    ) -> Stepped
+        requires { ⌜ Ready (now script) self (now stack) (now exec) (now dict) (now cells) (now log) ⌝ }
+        ensures { λ r. ⌜ Steps (now (script .entry)) self (now (stack .entry)) (now (stack .exit)) (now (exec .entry)) (now (exec .exit)) (now (dict .entry)) (now (dict .exit)) (now (cells .entry)) (now (cells .exit)) (now (log .entry)) (now (log .exit)) r ⌝ }
+    {
+        let m = self.machine;
+        if m.frames == 0 {
+            return self.take(script, stack, exec, dict, cells);
+        }
+        match acting::act(m, stack, exec, dict, cells, log) {
+            Did::Ok(r) => self.ended(self.at, self.next, Command::Nothing, Did::Ok(r)),
+            // no word has changed: the command is where it was
+            Did::Fail(e) => {
+                let failed = commands::command(m, exec, cells);
+                self.ended(self.at, self.next, failed, Did::Fail(e))
+            }
+        }
+    }
+
+    // With no execution slot the next token is taken.
+    fn take(
+        self,
+        script: &[u8],
+        stack: &mut [u32],
+        exec: &mut [u32],
+        dict: &mut [u32],
+        cells: &mut [u32],
+    ) -> Stepped
+        requires { ⌜ ReadyToken (now script) self (now stack) (now exec) (now dict) (now cells) ⌝ }
+        ensures { λ r. ⌜ StepsToken (now (script .entry)) self (now (stack .entry)) (now (stack .exit)) (now (exec .entry)) (now (exec .exit)) (now (dict .entry)) (now (dict .exit)) (now (cells .entry)) (now (cells .exit)) r ⌝ }
+    {
+        let start = token::skip(script, self.next);
+        let lexed = token::token_at(script, start);
+        let Lexed::Token(read, next) = lexed else {
+            return self.ended(
+                start,
+                start,
+                Command::Nothing,
+                Did::Fail(token::fault_of(lexed)),
+            );
+        };
+        let m = self.machine;
+        match read {
+            Token::Integer(w) => self.ended(
+                start,
+                next,
+                Command::Nothing,
+                taking::take_integer(m, stack, w),
+            ),
+            Token::String(at, size) => {
+                let did = taking::take_string(m, stack, cells, script, at, size);
+                self.ended(start, next, Command::Nothing, did)
+            }
+            Token::ExecutableName(at, size) => {
+                let did = taking::take_executable(m, exec, dict, cells, &script[at..at + size]);
+                self.ended(start, next, Command::Token(at, size), did)
+            }
+            Token::LiteralName(at, size) => {
+                let did = taking::take_literal(m, stack, dict, &script[at..at + size]);
+                self.ended(start, next, Command::Nothing, did)
+            }
+            Token::OpenBrace => {
+                let grouped = group_taking::take_group(m, stack, dict, cells, script, next);
+                self.grouped(start, grouped)
+            }
+            Token::CloseBrace => self.ended(
+                start,
+                next,
+                Command::Nothing,
+                Did::Fail(Error::SyntaxError),
+            ),
+            Token::End => self.ended(start, next, Command::Nothing, Did::Fail(Error::SyntaxError)),
+        }
+    }
+
+    // The state after a step: the token at `at` has been taken, and the bytes from `next` on are left; or the state before it, with the step counted and `at` set.
+    fn ended(self, at: usize, next: usize, command: Command, did: Did) -> Stepped
+        requires { ⌜ self .steps < 1000000 ⌝ }
+        ensures { λ r. ⌜ r ≡ endedBy self at next command did ⌝ }
+    {
+        let m = self.machine;
+        match did {
+            Did::Ok(r) => Stepped::Goes(State {
+                machine: r,
+                next: next,
+                at: at,
+                steps: self.steps + 1,
+            }),
+            Did::Fail(e) => Stepped::Fails(
+                e,
+                command,
+                State {
+                    machine: m,
+                    next: self.next,
+                    at: at,
+                    steps: self.steps + 1,
+                },
+            ),
+        }
+    }
+
+    // The same of a brace group.
+    fn grouped(self, at: usize, answer: Grouped) -> Stepped
+        requires { ⌜ self .steps < 1000000 ⌝ }
+        ensures { λ r. ⌜ r ≡ groupedBy self at answer ⌝ }
+    {
+        match answer {
+            Grouped::Done(r, next) => self.ended(at, next, Command::Nothing, Did::Ok(r)),
+            Grouped::Fail(e) => self.ended(at, at, Command::Nothing, Did::Fail(e)),
+        }
+    }
+}
