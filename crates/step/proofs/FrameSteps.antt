@@ -71,7 +71,7 @@ acts : (script : List ℕ) (σ : State) {s e d c l : List ℕ} {μ : Floo.Machin
     → steps.step (lent s e d c l) script (stateOf σ μ) ≡ steps.moved (lent s e d c l) (stateOf σ μ) (σ .at) (σ .next) (resume (topFrame μ) (frameDropped μ))
 acts script σ {s} {e} {d} {c} {l} {μ} some R = frame-step (lent s e d c l) script (stateOf σ μ) (μ .exec) refl (omega (arith, some, frames-length (R .frames)))
 
-module _ {script : List ℕ} {σ : State} {s s′ e e′ d d′ c c′ l l′ : List ℕ} (some : 1 ≤ σ .machine .frames) (inside : σ .next ≤ length script) {did : Did}
+module _ {script : List ℕ} {σ : State} {s s′ e e′ d d′ c c′ l l′ : List ℕ} (some : 1 ≤ σ .machine .frames) (inside : σ .next ≤ length script) (within : σ .at ≤ length script) {did : Did}
     (D : DoesAll resumed (σ .machine) s s′ e e′ d d′ c c′ l l′ did) where
   pub acted : {q : Machine} → did ≡ Ok q → {r : Stepped} → r ≡ endedBy σ (σ .at) (σ .next) command.Nothing (Ok q) → Steps script σ s s′ e e′ d d′ c c′ l l′ r
   unfolding fitted resumed
@@ -83,6 +83,7 @@ module _ {script : List ℕ} {σ : State} {s s′ e e′ d d′ c c′ l l′ : 
           move = resume (topFrame μ) (frameDropped μ);
           is = acts script σ some R;
           inside = inside;
+          within = within;
           named = λ x u. never u;
           answer = D′ .does μ R;
         });
@@ -104,6 +105,7 @@ module _ {script : List ℕ} {σ : State} {s s′ e e′ d d′ c c′ l l′ : 
               move = resume (topFrame μ) (frameDropped μ);
               is = acts script σ some R;
               inside = inside;
+              within = within;
               named = λ y u. (sym (N .0), N .1);
               answer = (D′ .does μ R .0, there);
             });

@@ -51,6 +51,7 @@ pub record Ends (script : List ℕ) (σ : State) (s s′ e e′ d d′ c c′ l 
   pub move : Move
   pub is : steps.step (lent s e d c l) script (stateOf σ μ) ≡ moved (lent s e d c l) (stateOf σ μ) at next move
   pub inside : next ≤ length script
+  pub within : at ≤ length script
   pub named : (x : Error) → did ≡ Fail x → (move .command ≡ commandText script (keys μ) command) × IsCommand script (keys μ) command
   pub answer : Answer (λ r. Rep r s′ e′ d′ c′ l′) (Rep (σ .machine) s′ e′ d′ c′ l′ μ) did (move .result >>= roomFor (lent s e d c l) μ)
 
@@ -61,13 +62,14 @@ pub ends-step : {script : List ℕ} {σ : State} {s s′ e e′ d d′ c c′ l 
 unfolding moved
 ends-step {σ = σ} {μ = μ} {at = at} {next = next} (Ok r) E =
     let A = E .answer in
-    (A .0, E .is ∙ ended-ok (stateOf σ μ) at next (E .move .command) (A .1), A .2, E .inside)
+    (A .0, E .is ∙ ended-ok (stateOf σ μ) at next (E .move .command) (A .1), A .2, E .inside, E .within)
 ends-step {σ = σ} {μ = μ} {at = at} {next = next} (Fail x) E =
     let A = E .answer in (
       E .is ∙ ended-fault (stateOf σ μ) at next (E .move .command) (A .0)
           ∙ ap (λ t. steps.fails x t (record { machine = μ; next = σ .next; at = at; steps = σ .steps + 1 })) (E .named x refl .0),
       A .1,
       E .named x refl .1,
+      E .within,
     )
 
 -- The answer of what kept the words where it failed.

@@ -3,9 +3,9 @@
 use mathlib.Core.Path.{_≡_, refl, sym, ap, _∙_, subst}
 use mathlib.Core.Bool.{true, false}
 use mathlib.Core.List.{List, []}
-use Prim.Native.Nat.{ℕ, _+_, _-_}
+use Prim.Native.Nat.{ℕ, _+_, _-_, _≤_}
 use native.Mathlib.Omega.{arith}
-use lib.ListN.{take, drop}
+use lib.ListN.{length, take, drop}
 use Rattle.semantics.specs.Values.{Value, Result, ok, fault, _>>=_, array, Object}
 use Rattle.semantics.specs.Tokens.{Token, lex, lexeme}
 use Rattle.semantics.specs.Machine as Floo
@@ -61,7 +61,7 @@ token-is script start k {t} {next} g h = subst (TokenAt script start next) h (su
 
 -- ---- from a promise to the step
 
-module _ {script : List ℕ} {σ : State} (none : σ .machine .frames ≡ 0) {start : ℕ} (begins : start ≡ skip script (σ .next)) where
+module _ {script : List ℕ} {σ : State} (none : σ .machine .frames ≡ 0) {start : ℕ} (begins : start ≡ skip script (σ .next)) (low : start ≤ length script) where
   -- What is done is what the definition makes of the token.
   module _ {next : ℕ} (t : Token) (L : Lexes script start t next) (f : Floo.Machine → Result Floo.Machine) (command : Command)
       (result : (μ : Floo.Machine) → tokenMove (tokenValue script μ next t) .result ≡ f μ)
@@ -81,6 +81,7 @@ module _ {script : List ℕ} {σ : State} (none : σ .machine .frames ≡ 0) {st
               (token-step limits script (stateOf σ μ) (exec-empty R none) (subst (λ n. Lexes script n t next) begins L))
               ∙ ap (λ n. moved limits (stateOf σ μ) start n v) (after μ);
           inside = L .inside;
+          within = low;
           named = λ x q. name μ;
           answer = subst (λ q. Answer (λ r. Rep r s′ e′ d′ c′ l) (Rep (σ .machine) s′ e′ d′ c′ l μ) did (q >>= roomFor limits μ)) (sym (result μ)) (does l μ R);
         }
@@ -103,6 +104,7 @@ module _ {script : List ℕ} {σ : State} (none : σ .machine .frames ≡ 0) {st
                 ∙ ap (λ t. steps.fails x t (record { machine = μ; next = σ .next; at = start; steps = σ .steps + 1 })) (w .1),
             R,
             tt,
+            low,
           );
     })
 
@@ -199,7 +201,7 @@ module _ {script : List ℕ} {σ : State} (none : σ .machine .frames ≡ 0) {st
 
 -- ---- a brace group
 
-module _ (script : List ℕ) (σ : State) (none : σ .machine .frames ≡ 0) (start : ℕ) (begins : start ≡ skip script (σ .next)) (next : ℕ) (B : BraceToken script start Token.openBrace next)
+module _ (script : List ℕ) (σ : State) (none : σ .machine .frames ≡ 0) (start : ℕ) (begins : start ≡ skip script (σ .next)) (low : start ≤ length script) (next : ℕ) (B : BraceToken script start Token.openBrace next)
     (s s′ e d d′ c c′ : List ℕ) where
   opens-step : {l : List ℕ} {μ : Floo.Machine} → Rep (σ .machine) s e d c l μ
       → steps.step (lent s e d c l) script (stateOf σ μ)
@@ -222,6 +224,7 @@ module _ (script : List ℕ) (σ : State) (none : σ .machine .frames ≡ 0) (st
         opens-step R ∙ ap (λ q. moved limits (stateOf σ μ) start (offsetAfter start q) (tokenMove q)) (G .1) ∙ ended-ok (stateOf σ μ) start after [] room,
         G .3,
         G .4,
+        low,
       )
   group-steps (grouped.Fail x) l μ R G =
       let q = groupRead script next μ in (
@@ -230,16 +233,18 @@ module _ (script : List ℕ) (σ : State) (none : σ .machine .frames ≡ 0) (st
             ∙ ap (λ t. steps.fails x t (record { machine = μ; next = σ .next; at = start; steps = σ .steps + 1 })) (G .1),
         subst (λ y. Rep (σ .machine) y e d′ c′ l μ) (sym (G .2)) (subst (λ y. Rep (σ .machine) s e d′ y l μ) (sym (G .3)) (G .4)),
         tt,
+        low,
       )
 
 pub group-does : {script : List ℕ} {σ : State} → σ .machine .frames ≡ 0
     → {start : ℕ} → start ≡ skip script (σ .next)
+    → start ≤ length script
     → {next : ℕ} → BraceToken script start Token.openBrace next
     → {s s′ e d d′ c c′ : List ℕ} (answer : Grouped)
     → TakesGroup script next (σ .machine) s s′ d d′ c c′ answer
     → {r : Stepped}
     → r ≡ groupedBy σ start answer
     → StepsToken script σ s s′ e e d d′ c c′ r
-group-does {script} {σ} none {start} begins {next} B {s} {s′} {e} {d} {d′} {c} {c′} answer T q =
+group-does {script} {σ} none {start} begins low {next} B {s} {s′} {e} {d} {d′} {c} {c′} answer T q =
     subst (StepsToken script σ s s′ e e d d′ c c′) (sym q)
-    (record { steps = λ l μ R. group-steps script σ none start begins next B s s′ e d d′ c c′ answer l μ R (T .takes e l μ R) })
+    (record { steps = λ l μ R. group-steps script σ none start begins low next B s s′ e d d′ c c′ answer l μ R (T .takes e l μ R) })

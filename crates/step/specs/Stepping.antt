@@ -30,10 +30,10 @@ stateOf σ μ = record { machine = μ; next = σ .next; at = σ .at; steps = σ 
 abbrev pub SteppedAs : List ℕ → State → List ℕ → List ℕ → List ℕ → List ℕ → List ℕ → List ℕ → List ℕ → List ℕ → List ℕ → List ℕ → Floo.Machine → Stepped → Type 0
 SteppedAs script σ s s′ e e′ d d′ c c′ l l′ μ (Goes τ) =
     (ν : Floo.Machine) × (steps.step (lent s e d c l) script (stateOf σ μ) ≡ steps.goes (stateOf τ ν))
-    × Rep (τ .machine) s′ e′ d′ c′ l′ ν × (τ .next ≤ length script)
+    × Rep (τ .machine) s′ e′ d′ c′ l′ ν × (τ .next ≤ length script) × (τ .at ≤ length script)
 SteppedAs script σ s s′ e e′ d d′ c c′ l l′ μ (Fails x command τ) =
     (steps.step (lent s e d c l) script (stateOf σ μ) ≡ steps.fails x (commandText script (keys μ) command) (stateOf τ μ))
-    × Rep (τ .machine) s′ e′ d′ c′ l′ μ × IsCommand script (keys μ) command
+    × Rep (τ .machine) s′ e′ d′ c′ l′ μ × IsCommand script (keys μ) command × (τ .at ≤ length script)
 
 -- The log past what is written is as before.
 abbrev pub LogLeft : List ℕ → List ℕ → Stepped → Type 0
@@ -54,6 +54,7 @@ pub record StepsToken (script : List ℕ) (σ : State) (s s′ e e′ d d′ c c
 pub record Ready (script : List ℕ) (σ : State) (s e d c l : List ℕ) : Type 0 where
   pub short : length script ≤ 32768
   pub inside : σ .next ≤ length script
+  pub within : σ .at ≤ length script
   pub few : σ .steps < 1000000
   pub machine : (μ : Floo.Machine) × Rep (σ .machine) s e d c l μ
 

@@ -1,3 +1,4 @@
+use mathlib.Core.Path.{_∙_}
 use native.Mathlib.Omega.{arith}
 use Rattle.taking.proofs.Naming.{part-short}
 use Rattle.step.proofs.TokenSteps.{token-is, lex-fault, close-fault, end-fault, integer-does, string-does, literal-does, executable-does, group-does}
@@ -26,7 +27,7 @@ ended-requires : tie.Need-ended-requires
 ended-requires c κs = c .before .before .before .before .before .before .before .before .before .before .pre .1 .few
 
 returns : tie.Need-returns
-returns c = lex-fault (c .before .before .before .before .before .before .before .before .before .before .before .pre .2) (c .before .before .before .before .before .skip .ensures .0) (c .before .before .before .before .token-at .ensures) (c .before .before .enum-told .given .1) (c .before .fault-of .ensures) (c .ended .ensures)
+returns c = lex-fault (c .before .before .before .before .before .before .before .before .before .before .before .pre .2) (c .before .before .before .before .before .skip .ensures .0) (c .before .before .before .before .before .skip .ensures .1) (c .before .before .before .before .token-at .ensures) (c .before .before .enum-told .given .1) (c .before .fault-of .ensures) (c .ended .ensures)
 
 enum-known-read : tie.Need-enum-known-read
 enum-known-read c = c .match2 .keys1
@@ -113,7 +114,7 @@ same-length : tie.Need-same-length
 same-length c = search needs
 
 returns-2 : tie.Need-returns-2
-returns-2 c = integer-does (c .before .before .before .before .before .before .before .before .before .before .before .before .before .before .before .before .before .before .before .pre .2) (c .before .before .before .before .before .before .before .before .before .before .before .before .before .skip .ensures .0) (token-is (c .before .before .before .before .before .before .before .before .before .before .before .before .before .before .before .before .before .before .before .args .script .now) (c .before .before .before .before .before .before .before .before .before .before .before .before .before .skip .result) (c .before .before .before .before .before .before .before .before .before .before .before .before .token-at .ensures) (c .before .before .before .before .before .before .before .before .before .before .lexed .given .1) (c .before .before .before .before .before .before .read .given .1)) _ (c .before .before .before .take-integer .ensures) (c .ended2 .ensures)
+returns-2 c = integer-does (c .before .before .before .before .before .before .before .before .before .before .before .before .before .before .before .before .before .before .before .pre .2) (c .before .before .before .before .before .before .before .before .before .before .before .before .before .skip .ensures .0) (c .before .before .before .before .before .before .before .before .before .before .before .before .before .skip .ensures .1) (token-is (c .before .before .before .before .before .before .before .before .before .before .before .before .before .before .before .before .before .before .before .args .script .now) (c .before .before .before .before .before .before .before .before .before .before .before .before .before .skip .result) (c .before .before .before .before .before .before .before .before .before .before .before .before .token-at .ensures) (c .before .before .before .before .before .before .before .before .before .before .lexed .given .1) (c .before .before .before .before .before .before .read .given .1)) _ (c .before .before .before .take-integer .ensures) (c .ended2 .ensures)
 
 same-length-2 : tie.Need-same-length-2
 same-length-2 c = search needs
@@ -122,7 +123,7 @@ same-length-3 : tie.Need-same-length-3
 same-length-3 c = search needs
 
 returns-3 : tie.Need-returns-3
-returns-3 c = string-does (c .before .before .before .before .before .before .before .before .before .before .before .before .before .before .before .before .before .before .before .before .before .before .pre .2) (c .before .before .before .before .before .before .before .before .before .before .before .before .before .before .before .before .skip .ensures .0) (token-is (c .before .before .before .before .before .before .before .before .before .before .before .before .before .before .before .before .before .before .before .before .before .before .args .script .now) (c .before .before .before .before .before .before .before .before .before .before .before .before .before .before .before .before .skip .result) (c .before .before .before .before .before .before .before .before .before .before .before .before .before .before .before .token-at .ensures) (c .before .before .before .before .before .before .before .before .before .before .before .before .before .lexed .given .1) (c .before .before .before .before .before .before .before .before .before .read2 .given .1)) _ (c .before .before .before .before .before .take-string .ensures) (c .ended3 .ensures)
+returns-3 c = string-does (c .before .before .before .before .before .before .before .before .before .before .before .before .before .before .before .before .before .before .before .before .before .before .pre .2) (c .before .before .before .before .before .before .before .before .before .before .before .before .before .before .before .before .skip .ensures .0) (c .before .before .before .before .before .before .before .before .before .before .before .before .before .before .before .before .skip .ensures .1) (token-is (c .before .before .before .before .before .before .before .before .before .before .before .before .before .before .before .before .before .before .before .before .before .before .args .script .now) (c .before .before .before .before .before .before .before .before .before .before .before .before .before .before .before .before .skip .result) (c .before .before .before .before .before .before .before .before .before .before .before .before .before .before .before .token-at .ensures) (c .before .before .before .before .before .before .before .before .before .before .before .before .before .lexed .given .1) (c .before .before .before .before .before .before .before .before .before .read2 .given .1)) _ (c .before .before .before .before .before .take-string .ensures) (c .ended3 .ensures)
 
 same-length-4 : tie.Need-same-length-4
 same-length-4 c = search needs
@@ -134,7 +135,7 @@ same-length-6 : tie.Need-same-length-6
 same-length-6 c = search needs
 
 returns-4 : tie.Need-returns-4
-returns-4 c = executable-does (c .before .before .before .before .before .before .before .before .before .before .before .before .before .before .before .before .before .before .before .before .before .before .before .before .pre .2) (c .before .before .before .before .before .before .before .before .before .before .before .before .before .before .before .before .before .before .skip .ensures .0) (token-is (c .before .before .before .before .before .before .before .before .before .before .before .before .before .before .before .before .before .before .before .before .before .before .before .before .args .script .now) (c .before .before .before .before .before .before .before .before .before .before .before .before .before .before .before .before .before .before .skip .result) (c .before .before .before .before .before .before .before .before .before .before .before .before .before .before .before .before .before .token-at .ensures) (c .before .before .before .before .before .before .before .before .before .before .before .before .before .before .before .lexed .given .1) (c .before .before .before .before .before .before .before .before .before .before .before .read3 .given .1)) _ (c .before .before .before .before .before .take-executable .ensures) (c .ended4 .ensures)
+returns-4 c = executable-does (c .before .before .before .before .before .before .before .before .before .before .before .before .before .before .before .before .before .before .before .before .before .before .before .before .pre .2) (c .before .before .before .before .before .before .before .before .before .before .before .before .before .before .before .before .before .before .skip .ensures .0) (c .before .before .before .before .before .before .before .before .before .before .before .before .before .before .before .before .before .before .skip .ensures .1) (token-is (c .before .before .before .before .before .before .before .before .before .before .before .before .before .before .before .before .before .before .before .before .before .before .before .before .args .script .now) (c .before .before .before .before .before .before .before .before .before .before .before .before .before .before .before .before .before .before .skip .result) (c .before .before .before .before .before .before .before .before .before .before .before .before .before .before .before .before .before .token-at .ensures) (c .before .before .before .before .before .before .before .before .before .before .before .before .before .before .before .lexed .given .1) (c .before .before .before .before .before .before .before .before .before .before .before .read3 .given .1)) _ (c .before .before .before .before .before .take-executable .ensures) (c .ended4 .ensures)
 
 same-length-7 : tie.Need-same-length-7
 same-length-7 c = search needs
@@ -143,7 +144,7 @@ same-length-8 : tie.Need-same-length-8
 same-length-8 c = search needs
 
 returns-5 : tie.Need-returns-5
-returns-5 c = literal-does (c .before .before .before .before .before .before .before .before .before .before .before .before .before .before .before .before .before .before .before .before .before .before .before .pre .2) (c .before .before .before .before .before .before .before .before .before .before .before .before .before .before .before .before .before .skip .ensures .0) (token-is (c .before .before .before .before .before .before .before .before .before .before .before .before .before .before .before .before .before .before .before .before .before .before .before .args .script .now) (c .before .before .before .before .before .before .before .before .before .before .before .before .before .before .before .before .before .skip .result) (c .before .before .before .before .before .before .before .before .before .before .before .before .before .before .before .before .token-at .ensures) (c .before .before .before .before .before .before .before .before .before .before .before .before .before .before .lexed .given .1) (c .before .before .before .before .before .before .before .before .before .before .read4 .given .1)) _ (c .before .before .before .before .before .take-literal .ensures) (c .ended5 .ensures)
+returns-5 c = literal-does (c .before .before .before .before .before .before .before .before .before .before .before .before .before .before .before .before .before .before .before .before .before .before .before .pre .2) (c .before .before .before .before .before .before .before .before .before .before .before .before .before .before .before .before .before .skip .ensures .0) (c .before .before .before .before .before .before .before .before .before .before .before .before .before .before .before .before .before .skip .ensures .1) (token-is (c .before .before .before .before .before .before .before .before .before .before .before .before .before .before .before .before .before .before .before .before .before .before .before .args .script .now) (c .before .before .before .before .before .before .before .before .before .before .before .before .before .before .before .before .before .skip .result) (c .before .before .before .before .before .before .before .before .before .before .before .before .before .before .before .before .token-at .ensures) (c .before .before .before .before .before .before .before .before .before .before .before .before .before .before .lexed .given .1) (c .before .before .before .before .before .before .before .before .before .before .read4 .given .1)) _ (c .before .before .before .before .before .take-literal .ensures) (c .ended5 .ensures)
 
 same-length-9 : tie.Need-same-length-9
 same-length-9 c = search needs
@@ -155,13 +156,13 @@ same-length-11 : tie.Need-same-length-11
 same-length-11 c = search needs
 
 returns-6 : tie.Need-returns-6
-returns-6 c = group-does (c .before .before .before .before .before .before .before .before .before .before .before .before .before .before .before .before .before .before .before .before .before .before .before .before .pre .2) (c .before .before .before .before .before .before .before .before .before .before .before .before .before .before .before .before .before .before .skip .ensures .0) (token-is (c .before .before .before .before .before .before .before .before .before .before .before .before .before .before .before .before .before .before .before .before .before .before .before .before .args .script .now) (c .before .before .before .before .before .before .before .before .before .before .before .before .before .before .before .before .before .before .skip .result) (c .before .before .before .before .before .before .before .before .before .before .before .before .before .before .before .before .before .token-at .ensures) (c .before .before .before .before .before .before .before .before .before .before .before .before .before .before .before .lexed .given .1) (c .before .before .before .before .before .before .before .before .before .before .before .enum-told2 .given .1)) _ (c .before .before .before .before .before .before .before .take-group .ensures) (c .grouped .ensures)
+returns-6 c = group-does (c .before .before .before .before .before .before .before .before .before .before .before .before .before .before .before .before .before .before .before .before .before .before .before .before .pre .2) (c .before .before .before .before .before .before .before .before .before .before .before .before .before .before .before .before .before .before .skip .ensures .0) (c .before .before .before .before .before .before .before .before .before .before .before .before .before .before .before .before .before .before .skip .ensures .1) (token-is (c .before .before .before .before .before .before .before .before .before .before .before .before .before .before .before .before .before .before .before .before .before .before .before .before .args .script .now) (c .before .before .before .before .before .before .before .before .before .before .before .before .before .before .before .before .before .before .skip .result) (c .before .before .before .before .before .before .before .before .before .before .before .before .before .before .before .before .before .token-at .ensures) (c .before .before .before .before .before .before .before .before .before .before .before .before .before .before .before .lexed .given .1) (c .before .before .before .before .before .before .before .before .before .before .before .enum-told2 .given .1)) _ (c .before .before .before .before .before .before .before .take-group .ensures) (c .grouped .ensures)
 
 returns-7 : tie.Need-returns-7
-returns-7 c = close-fault (c .before .before .before .before .before .before .before .before .before .before .before .before .before .before .pre .2) (c .before .before .before .before .before .before .before .before .skip .ensures .0) (token-is (c .before .before .before .before .before .before .before .before .before .before .before .before .before .before .args .script .now) (c .before .before .before .before .before .before .before .before .skip .result) (c .before .before .before .before .before .before .before .token-at .ensures) (c .before .before .before .before .before .lexed .given .1) (c .before .enum-told3 .given .1)) (c .ended6 .ensures)
+returns-7 c = close-fault (c .before .before .before .before .before .before .before .before .before .before .before .before .before .before .pre .2) (c .before .before .before .before .before .before .before .before .skip .ensures .0) (c .before .before .before .before .before .before .before .before .skip .ensures .1) (token-is (c .before .before .before .before .before .before .before .before .before .before .before .before .before .before .args .script .now) (c .before .before .before .before .before .before .before .before .skip .result) (c .before .before .before .before .before .before .before .token-at .ensures) (c .before .before .before .before .before .lexed .given .1) (c .before .enum-told3 .given .1)) (c .ended6 .ensures)
 
 returns-8 : tie.Need-returns-8
-returns-8 c = end-fault (c .before .before .before .before .before .before .before .before .before .before .before .before .before .before .pre .2) (c .before .before .before .before .before .before .before .before .skip .ensures .0) (token-is (c .before .before .before .before .before .before .before .before .before .before .before .before .before .before .args .script .now) (c .before .before .before .before .before .before .before .before .skip .result) (c .before .before .before .before .before .before .before .token-at .ensures) (c .before .before .before .before .before .lexed .given .1) (c .before .enum-told4 .given .1)) (c .ended7 .ensures)
+returns-8 c = end-fault (c .before .before .before .before .before .before .before .before .before .before .before .before .before .before .pre .2) (c .before .before .before .before .before .before .before .before .skip .ensures .0) (c .before .before .before .before .before .before .before .before .skip .ensures .1) (token-is (c .before .before .before .before .before .before .before .before .before .before .before .before .before .before .args .script .now) (c .before .before .before .before .before .before .before .before .skip .result) (c .before .before .before .before .before .before .before .token-at .ensures) (c .before .before .before .before .before .lexed .given .1) (c .before .enum-told4 .given .1)) (c .ended7 .ensures)
 
 pub take-spec : {M : Type 1} → statement M
 take-spec =
