@@ -1,0 +1,100 @@
+-- The whole list of a run's steps (01, Room): "Demand 3 is a single claim about a run's whole list of steps, not one for each step. The list begins at that
+-- start; each step gets what the last one left."
+-- Assumes nothing.
+use mathlib.Core.Path.{_≡_}
+use mathlib.Core.Bool.{Bool}
+use mathlib.Core.List.{List, [], _∷_, _++_}
+use Prim.Native.Nat.{ℕ, _≤_}
+use lib.ListN.{length, drop}
+use Rattle.semantics.specs.Machine as Floo
+use Rattle.semantics.specs.Steps as steps
+use Rattle.semantics.specs.Steps.{Limits, run, initial, isFinished}
+use Rattle.ending.specs.Endings.{endingOf, IsEnding}
+use Rattle.ending.specs.declared.Ending.{Ending}
+use Rattle.machine.specs.Places.{keys}
+use Rattle.machine.specs.Rep.{Rep}
+use Rattle.machine.specs.Room.{lent}
+use Rattle.machine.specs.declared.Machine.{Machine}
+use Rattle.exactness.specs.Shown.{Snapshot, Shows}
+use Rattle.exactness.specs.Traces.{trace, Along}
+use Rattle.step.specs.Stepping.{stateOf, Steps}
+use Rattle.step.specs.declared.State.{State}
+use Rattle.step.specs.declared.Stepped.{Stepped}
+use Rattle.step.specs.declared.Stepped.the-variants.{Goes, Fails}
+
+-- ---- moments
+
+-- The runner between two steps: its state, and the words and bytes of the lent buffers.
+pub record Moment : Type 0 where
+  pub state : State
+  pub stack : List ℕ
+  pub exec : List ℕ
+  pub dict : List ℕ
+  pub cells : List ℕ
+  pub log : List ℕ
+
+abbrev pub snapshot : Moment → Snapshot
+snapshot x = record { machine = x .state .machine; stack = x .stack; exec = x .exec; dict = x .dict; cells = x .cells; log = x .log }
+
+abbrev pub limitsOf : Moment → Limits
+limitsOf x = lent (x .stack) (x .exec) (x .dict) (x .cells) (x .log)
+
+-- The state that a step left.
+abbrev pub leftBy : Stepped → State
+leftBy (Goes τ) = τ
+leftBy (Fails e command τ) = τ
+
+-- A step of the runner leads from x to y.
+pub record Leads (script : List ℕ) (x y : Moment) : Type 0 where
+  pub answer : Stepped
+  pub steps : Steps script (x .state) (x .stack) (y .stack) (x .exec) (y .exec) (x .dict) (y .dict) (x .cells) (y .cells) (x .log) (y .log) answer
+  pub left : leftBy answer ≡ y .state
+
+-- The list of moments from the first to the last: each step gets what the last one left.
+pub data Chain (script : List ℕ) (first : Moment) : List Moment → Moment → Type 0 where
+  start : Chain script first (first ∷ []) first
+  then : {xs : List Moment} {x y : Moment} → Chain script first xs x → Leads script x y → Chain script first (xs ++ (y ∷ [])) y
+
+-- A moment is exact for a state of the definition: the same offsets and count of steps, and the words show what is held.
+pub record Exactly (x : Moment) (σ : steps.State) : Type 0 where
+  pub next : x .state .next ≡ σ .next
+  pub at : x .state .at ≡ σ .at
+  pub steps : x .state .steps ≡ σ .steps
+  pub shows : Shows (σ .machine) (snapshot x)
+
+-- The moments of a run from the start on, for as many states of the definition's run, each exact.
+pub record History (script : List ℕ) (fuel : ℕ) (first last : Moment) : Type 0 where
+  pub moments : List Moment
+  pub chain : Chain script first moments last
+  pub exact : Along Exactly moments (trace (limitsOf first) script fuel initial)
+
+-- ---- the run
+
+-- The state at the start.
+abbrev pub begun : Machine → State
+begun m = record { machine = m; next = 0; at = 0; steps = 0 }
+
+abbrev pub moment : State → List ℕ → List ℕ → List ℕ → List ℕ → List ℕ → Moment
+moment σ s e d c l = record { state = σ; stack = s; exec = e; dict = d; cells = c; log = l }
+
+pub record Begun (script : List ℕ) (fuel : ℕ) (m : Machine) (s e d c l : List ℕ) : Type 0 where
+  pub short : length script ≤ 32768
+  pub fueled : fuel ≤ 1000000
+  pub rep : Rep m s e d c l (initial .machine)
+
+-- How the run ended: the definition's run, the words that stand for its last machine, its history, and the log past what is written, as it was.
+pub record Ends (script : List ℕ) (fuel : ℕ) (m : Machine) (s s′ e e′ d d′ c c′ l l′ : List ℕ) (τ : State) (ending : Ending) : Type 0 where
+  pub machine : Floo.Machine
+  pub rep : Rep (τ .machine) s′ e′ d′ c′ l′ machine
+  pub named : IsEnding script (keys machine) ending
+  pub runs : run (lent s e d c l) script fuel initial ≡ record { ending = endingOf script (keys machine) ending; final = stateOf τ machine }
+  pub within : τ .at ≤ length script
+  pub last : State
+  pub same : (last .machine ≡ τ .machine) × (last .steps ≡ τ .steps)
+  pub history : History script fuel (moment (begun m) s e d c l) (moment last s′ e′ d′ c′ l′)
+  pub rest : drop (τ .machine .written) l′ ≡ drop (τ .machine .written) l
+
+-- ---- the end
+
+pub record Finished (script : List ℕ) (st : State) (r : Bool) : Type 0 where
+  pub says : (μ : Floo.Machine) → length (μ .exec) ≡ st .machine .frames → r ≡ isFinished script (stateOf st μ)
