@@ -6,12 +6,15 @@ use Prim.Native.Nat.{ℕ, _+_, _-_, _*_, _/_, _≤_, _<_}
 use native.Mathlib.Omega.{arith}
 use lib.ListN.{length, take, drop}
 use lib.Seq.{length-take-le, length-front, take-at, drop-at}
-use Rattle.semantics.specs.Steps.{Run, run, initial}
+use Rattle.semantics.specs.Steps.{Limits, Run, run, initial}
 use Rattle.semantics.specs.Outcome.{outcome}
 use Rattle.semantics.specs.Setup.{limits, refusal}
 use Rattle.semantics.specs.RunLaws.{run-steps}
 use Rattle.text.specs.Writing.{Written}
 use Rattle.setup.proofs.Accepting.{accepted}
+use Rattle.exactness.proofs.Lists.{along-length}
+use Rattle.exactness.proofs.Tracing.{trace-length}
+use Rattle.run_loop.specs.History.{limitsOf}
 use Rattle.runner.specs.Promise.{lentOf, theRun, whole, past, Runs, Ready, CarriesOut}
 use Rattle.runner.specs.declared.Answer.the-variants.{Refused, Ran}
 use Rattle.runner.specs.declared.Report.{Report}
@@ -69,15 +72,19 @@ module _ (script : List ℕ) (fuel : ℕ) (s e d c l o : List ℕ) where
         outcome = omega (arith, long-s, A .outcomeBytes);
       }
 
-  -- The run is the same, for it goes by slots.
-  run-same : theRun script fuel (lentOf (whole 2 s) (whole 8 e) (whole 12 d) (whole 4 c) l o) ≡ theRun script fuel (lentOf s e d c l o)
+  -- The room is the same, for it goes by slots,
+  room-same : limits (lentOf (whole 2 s) (whole 8 e) (whole 12 d) (whole 4 c) l o) ≡ limits (lentOf s e d c l o)
   unfolding limits
-  run-same =
+  room-same =
       let a : length (whole 2 s) / 2 ≡ length s / 2 = omega (arith, long-s) in
       let b : length (whole 8 e) / 8 ≡ length e / 8 = omega (arith, long-e) in
       let f : length (whole 12 d) / 12 ≡ length d / 12 = omega (arith, long-d) in
       let g : length (whole 4 c) / 4 ≡ length c / 4 = omega (arith, long-c) in
       rw (a, b, f, g) refl
+
+  -- and so is the run.
+  run-same : theRun script fuel (lentOf (whole 2 s) (whole 8 e) (whole 12 d) (whole 4 c) l o) ≡ theRun script fuel (lentOf s e d c l o)
+  run-same = ap (λ (x : Limits). run x script fuel initial) room-same
 
   pub answered : {n : ℕ} → n ≡ refusal script fuel (lentOf s e d c l o) → (0 < n → ⊥)
       → {ys ye yd yc l′ o′ : List ℕ}
@@ -97,6 +104,9 @@ module _ (script : List ℕ) (fuel : ℕ) (s e d c l o : List ℕ) where
       let D = whole-is 12 d yd kd (omega arith) in
       let Z = whole-is 4 c yc kc (omega arith) in
       let steps : r .steps ≡ theRun script fuel (lentOf s e d c l o) .final .steps = C .steps ∙ ap (λ (x : Run). x .final .steps) run-same in
+      let room = C .room ∙ room-same in
+      let many : length (C .history .moments) ≡ run (limitsOf (C .first)) script fuel initial .final .steps + 1 =
+      along-length (C .history .exact) ∙ omega (arith, trace-length (limitsOf (C .first)) script fuel initial) in
       record {
         answers = (
           sym q ∙ zero,
@@ -114,6 +124,8 @@ module _ (script : List ℕ) (fuel : ℕ) (s e d c l o : List ℕ) where
               holds = (H .0 ∙ sym S, H .1 ∙ sym E, H .2 ∙ sym D, H .3 ∙ sym Z, H .4);
               history = C .history;
             };
+            room = room;
+            counted = many ∙ ap (λ (x : Limits). run x script fuel initial .final .steps + 1) room ∙ ap (λ n. n + 1) (sym steps);
           },
         );
       }

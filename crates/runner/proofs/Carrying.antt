@@ -8,7 +8,7 @@ use lib.ListN.{length, getD, take, drop, length-drop, take-append-drop}
 use lib.Seq.{length-take-le, getD-drop, ext-getD}
 use Rattle.semantics.specs.Machine as Floo
 use Rattle.semantics.specs.Steps as steps
-use Rattle.semantics.specs.Steps.{Run, run, initial}
+use Rattle.semantics.specs.Steps.{Limits, Run, run, initial}
 use Rattle.semantics.specs.Outcome.{outcome}
 use Rattle.semantics.specs.Setup.{limits}
 use Rattle.semantics.specs.ObjectOperators.{pasted}
@@ -63,11 +63,12 @@ module _ {script : List ℕ} {fuel : ℕ} {s e d c l o : List ℕ} (G : Ready sc
       ends = A .named;
     }
 
-    run-is : theRun script fuel (lentOf s e d c l o) ≡ record { ending = endingOf script (keys (A .machine)) ending; final = stateOf τ (A .machine) }
+    room-is : lent s e d₁ c l ≡ limits (lentOf s e d c l o)
     unfolding limits lent
-    run-is =
-        ap (λ n. run (record { stackSlots = length s / 2; execSlots = length e / 8; dictionarySlots = n / 12; cellCount = length c / 4; logBytes = length l }) script fuel initial) (sym long)
-        ∙ A .runs
+    room-is = ap (λ n. record { stackSlots = length s / 2; execSlots = length e / 8; dictionarySlots = n / 12; cellCount = length c / 4; logBytes = length l }) long
+
+    run-is : theRun script fuel (lentOf s e d c l o) ≡ record { ending = endingOf script (keys (A .machine)) ending; final = stateOf τ (A .machine) }
+    run-is = ap (λ (x : Limits). run x script fuel initial) (sym room-is) ∙ A .runs
 
     pub carried : {o′ : List ℕ} {n : ℕ} → WritesOutcome script (τ .machine) ending (τ .at) (τ .steps) s′ d′ c′ o o′ n
         → CarriesOut script fuel s s′ e e′ d d′ c c′ l l′ o o′ (record { steps = τ .steps; log = τ .machine .written; outcome = n })
@@ -82,4 +83,5 @@ module _ {script : List ℕ} {fuel : ℕ} {s e d c l o : List ℕ} (G : Ready sc
       names = (λ i low. same-from d₁ d i long (λ j le. B .kept j (omega (arith, low, le))), long);
       holds = (refl, refl, refl, refl, refl);
       history = A .history;
+      room = room-is;
     }

@@ -8,7 +8,7 @@ use Rattle.semantics.specs.Steps.{Run, run, initial}
 use Rattle.semantics.specs.Outcome.{outcome}
 use Rattle.semantics.specs.Setup.{Lent, limits, refusal}
 use Rattle.text.specs.Writing.{Written}
-use Rattle.run_loop.specs.History.{Moment, History}
+use Rattle.run_loop.specs.History.{Moment, limitsOf, History}
 use Rattle.runner.specs.declared.Answer.{Answer}
 use Rattle.runner.specs.declared.Answer.the-variants.{Refused, Ran}
 use Rattle.runner.specs.declared.Report.{Report}
@@ -45,6 +45,9 @@ pub record RunIs (script : List ℕ) (fuel : ℕ) (s s′ e e′ d d′ c c′ l
   pub outcome : Written 0 (outcome (theRun script fuel (lentOf s e d c l o))) o o′ (r .outcome)
   pub unused : (past 2 s′ ≡ past 2 s) × (past 8 e′ ≡ past 8 e) × (past 12 d′ ≡ past 12 d) × (past 4 c′ ≡ past 4 c)
   pub recorded : Recorded script fuel s s′ e e′ d d′ c c′ l l′
+  -- the history is of this run: its room is what is lent, and it has a moment more than there are steps
+  pub room : limitsOf (recorded .first) ≡ limits (lentOf s e d c l o)
+  pub counted : length (recorded .history .moments) ≡ r .steps + 1
 
 -- The whole answer: a refusal, where no lent word or byte has changed, or the run.
 abbrev pub AnswerIs : List ℕ → ℕ → List ℕ → List ℕ → List ℕ → List ℕ → List ℕ → List ℕ → List ℕ → List ℕ → List ℕ → List ℕ → List ℕ → List ℕ → Answer → Type 0
@@ -80,3 +83,4 @@ pub record CarriesOut (script : List ℕ) (fuel : ℕ) (s s′ e e′ d d′ c c
   pub names : ((i : ℕ) → 58 * 12 ≤ i → drop i (first .dict) ≡ drop i d) × (length (first .dict) ≡ length d)
   pub holds : (last .stack ≡ s′) × (last .exec ≡ e′) × (last .dict ≡ d′) × (last .cells ≡ c′) × (last .log ≡ l′)
   pub history : History script fuel first last
+  pub room : limitsOf first ≡ limits (lentOf s e d c l o)
