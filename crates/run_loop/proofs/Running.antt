@@ -39,7 +39,7 @@ use Rattle.run_loop.specs.History.{Moment, moment, begun, limitsOf, left
 -- ---- one moment
 
 exactly : {σ : State} {s e d c l : List ℕ} {μ : Floo.Machine} → Rep (σ .machine) s e d c l μ → Exactly (moment σ s e d c l) (stateOf σ μ)
-exactly R = record { next = refl; at = refl; steps = refl; shows = shows R }
+exactly R = record { next = refl; at = refl; steps = refl; stands = R; shows = shows R }
 
 logged-length : {m : Machine} {s e d c l : List ℕ} {μ : Floo.Machine} → Rep m s e d c l μ → length (μ .log) ≡ m .written
 logged-length {m} {l = l} R = ap length (sym (R .logged)) ∙ length-take-le (m .written) l (R .log-room)

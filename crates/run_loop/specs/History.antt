@@ -55,11 +55,12 @@ pub data Chain (script : List ℕ) (first : Moment) : List Moment → Moment →
   start : Chain script first (first ∷ []) first
   then : {xs : List Moment} {x y : Moment} → Chain script first xs x → Leads script x y → Chain script first (xs ++ (y ∷ [])) y
 
--- A moment is exact for a state of the definition: the same offsets and count of steps, and the words show what is held.
+-- A moment is exact for a state of the definition: the same offsets and count of steps, words that stand for its machine, and that show what is held.
 pub record Exactly (x : Moment) (σ : steps.State) : Type 0 where
   pub next : x .state .next ≡ σ .next
   pub at : x .state .at ≡ σ .at
   pub steps : x .state .steps ≡ σ .steps
+  pub stands : Rep (x .state .machine) (x .stack) (x .exec) (x .dict) (x .cells) (x .log) (σ .machine)
   pub shows : Shows (σ .machine) (snapshot x)
 
 -- The moments of a run from the start on, for as many states of the definition's run, each exact.

@@ -1,10 +1,10 @@
+-- `construct` meets its contract: null gives way to a new array, which becomes executable and is filled along its chain (`constructed`).
+-- Assumes nothing.
 use lib.ListN.{length-set}
 use mathlib.Core.Path.{_∙_}
 use native.Mathlib.Omega.{arith}
 use Rattle.taking.proofs.Texts.{null-there, words-free, words-depth}
 use Rattle.group_taking.proofs.Constructing.{first-there, ready-group, constructed}
--- `construct` meets its contract.
--- Assumes nothing.
 use Rattle.group_taking.proofs.construct.Statement.{statement}
 use Rattle.group_taking.proofs.construct.Tie as tie
 

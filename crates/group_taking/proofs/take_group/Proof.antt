@@ -1,8 +1,8 @@
+-- `take_group` meets its contract: the group's fault, no room in the definition's order, or the procedure.
+-- Assumes nothing.
 use native.Mathlib.Omega.{arith}
 use Rattle.taking.proofs.Flattening.{parsed-flat}
 use Rattle.group_taking.proofs.Rooming.{group-fault, group-full, group-over, group-none, group-ready, group-done, judged-good}
--- `take_group` meets its contract.
--- Assumes nothing.
 use borrow.Author.Needs.{needs}
 use Rattle.group_taking.proofs.take_group.Statement.{statement}
 use Rattle.group_taking.proofs.take_group.Tie as tie

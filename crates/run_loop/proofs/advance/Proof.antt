@@ -1,9 +1,9 @@
+-- `advance` meets its contract: the loop keeps `Running`, and each way out is a law of it. The measure is the fuel that is left.
+-- Assumes nothing.
 use mathlib.Core.Path.{_∙_}
 use native.Mathlib.Omega.{arith}
 use Rattle.run_loop.specs.History.{moment, begun}
 use Rattle.run_loop.proofs.Running.{Running, begin, ready, end-finished, end-spent, end-stopped, go-on, end-failed}
--- `advance` meets its contract.
--- Assumes nothing.
 use borrow.Author.Needs.{needs}
 use Rattle.run_loop.proofs.advance.Statement.{statement}
 use Rattle.run_loop.proofs.advance.Tie as tie

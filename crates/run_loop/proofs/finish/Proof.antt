@@ -1,6 +1,6 @@
-use mathlib.Core.Path.{refl}
 -- `finish` meets its contract.
 -- Assumes nothing.
+use mathlib.Core.Path.{refl}
 use Rattle.run_loop.proofs.finish.Statement.{statement}
 use Rattle.run_loop.proofs.finish.Tie as tie
 

@@ -1,6 +1,6 @@
-use Rattle.run_loop.proofs.Running.{finished-by, unfinished}
--- `is_finished` meets its contract.
+-- `is_finished` meets its contract: as the definition asks it.
 -- Assumes nothing.
+use Rattle.run_loop.proofs.Running.{finished-by, unfinished}
 use Rattle.run_loop.proofs.is_finished.Statement.{statement}
 use Rattle.run_loop.proofs.is_finished.Tie as tie
 

@@ -1,8 +1,8 @@
+-- `carry_out` meets its contract: the start, the steps and the outcome (`carried`).
+-- Assumes nothing.
 use mathlib.Core.Path.{_∙_}
 use native.Mathlib.Omega.{arith}
 use Rattle.runner.proofs.Carrying.{begins, writes, carried}
--- `carry_out` meets its contract.
--- Assumes nothing.
 use Rattle.runner.proofs.carry_out.Statement.{statement}
 use Rattle.runner.proofs.carry_out.Tie as tie
 

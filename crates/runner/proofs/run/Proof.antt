@@ -1,9 +1,9 @@
+-- `run` meets its contract: a refusal, or the run with whole slots (`answered`).
+-- Assumes nothing.
 use mathlib.Core.Path.{sym}
 use lib.Seq.{length-take-le}
 use native.Mathlib.Omega.{arith}
 use Rattle.runner.proofs.Answering.{refused, ready, answered}
--- `run` meets its contract.
--- Assumes nothing.
 use borrow.Author.Needs.{needs}
 use Rattle.runner.proofs.run.Statement.{statement}
 use Rattle.runner.proofs.run.Tie as tie

@@ -1,8 +1,8 @@
+-- `ended` meets its contract: by whether it was done or failed.
+-- Assumes nothing.
 use Rattle.step.specs.Stepping.{endedBy}
 use mathlib.Core.Path.{sym, ap}
 use native.Mathlib.Omega.{arith}
--- `ended` meets its contract.
--- Assumes nothing.
 use Rattle.step.proofs.State.ended.Statement.{statement}
 use Rattle.step.proofs.State.ended.Tie as tie
 

@@ -1,7 +1,7 @@
+-- `grouped` meets its contract: a group's end is a step's end.
+-- Assumes nothing.
 use Rattle.step.specs.Stepping.{groupedBy}
 use mathlib.Core.Path.{sym, ap, _∙_}
--- `grouped` meets its contract.
--- Assumes nothing.
 use Rattle.step.proofs.State.grouped.Statement.{statement}
 use Rattle.step.proofs.State.grouped.Tie as tie
 

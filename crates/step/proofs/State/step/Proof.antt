@@ -1,7 +1,7 @@
+-- `step` meets its contract: a token where there is no execution slot, else the topmost slot; where that fails, its command is still there.
+-- Assumes nothing.
 use native.Mathlib.Omega.{arith}
 use Rattle.step.proofs.FrameSteps.{token-steps, command-there, acted, failing}
--- `step` meets its contract.
--- Assumes nothing.
 use borrow.Author.Needs.{needs}
 use Rattle.step.proofs.State.step.Statement.{statement}
 use Rattle.step.proofs.State.step.Tie as tie

@@ -1,9 +1,9 @@
+-- `take` meets its contract: by the token that is read, a law for each.
+-- Assumes nothing.
 use mathlib.Core.Path.{_∙_}
 use native.Mathlib.Omega.{arith}
 use Rattle.taking.proofs.Naming.{part-short}
 use Rattle.step.proofs.TokenSteps.{token-is, lex-fault, close-fault, end-fault, integer-does, string-does, literal-does, executable-does, group-does}
--- `take` meets its contract.
--- Assumes nothing.
 use borrow.Author.Needs.{needs}
 use Rattle.step.proofs.State.take.Statement.{statement}
 use Rattle.step.proofs.State.take.Tie as tie
