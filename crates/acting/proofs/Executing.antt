@@ -8,13 +8,14 @@ use mathlib.Core.Option.{some}
 use Prim.Native.Nat.{ℕ, suc, _+_, _-_, _*_, _/_, _≤_, _<_}
 use native.Mathlib.Omega.{arith}
 use lib.ListN.{length, getD, getElem?}
-use Rattle.semantics.specs.Values.{Value, operator, name, Object, Result}
+use Rattle.semantics.specs.Values.{Value, operator, name, Object, Result, null}
 use Rattle.semantics.specs.Machine as Floo
 use Rattle.semantics.specs.Machine.{Frame, pending, running, withExec, elementsOf, object}
 use Rattle.semantics.specs.Held.{ofValue}
 use Rattle.semantics.specs.Operators.{perform, _is_}
 use Rattle.semantics.specs.Steps.{resume, execute, treat, isProcedure}
 use Rattle.semantics.specs.declared.Error.{Error}
+use Rattle.semantics.specs.ListLaws.{an-element, getD-known}
 use Rattle.heap.specs.Word.{word}
 use Rattle.heap.specs.Shape.{Ghost, cells}
 use Rattle.store.specs.Rep.{titles, element, objectAt}
@@ -35,8 +36,8 @@ use Rattle.taking.specs.Effects.{executableTaken}
 use Rattle.taking.specs.Promises.{Bindings, NamedBindings, DoesBinding, DoesNamed}
 use Rattle.turns.specs.Turns.{resumed}
 use Rattle.turns.proofs.Resuming.{top-is, dropped-is, resumed-is, reset-is}
-use Rattle.turns.proofs.Procedures.{is-pending, an-element}
-use Rattle.commands.proofs.Values.{getD-known, operator-number}
+use Rattle.turns.proofs.Procedures.{is-pending}
+use Rattle.commands.proofs.Values.{operator-number}
 use Rattle.acting.proofs.Via.{via, roots-dropped, roots-moved}
 
 -- ---- the answer of what stands for the step
@@ -199,7 +200,7 @@ module _ {m : Machine} {s e d c l : List ℕ} {μ : Floo.Machine} (R : Rep m s e
       let run = runs (place .0) (place .1) (place .2) (slot R k h .words) in
       let vs = elementsOf (objectAt (μ .store) (place .0)) in
       resumed-is μ split
-      ∙ rw (an-element vs (place .1) (omega (arith, run .left, left))) (ap (treat value) (reset-is μ split (running (place .0) (suc (place .1)))))
+      ∙ rw (an-element vs (place .1) null (omega (arith, run .left, left))) (ap (treat value) (reset-is μ split (running (place .0) (suc (place .1)))))
 
   -- The same test of room.
   moved-fits : (f : Floo.Machine → Result Floo.Machine) → treat value moved ≡ f moved → fitted (lent s e d c l) resumed μ ≡ fitted (lent s e d c l) f moved

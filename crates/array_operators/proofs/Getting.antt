@@ -2,8 +2,7 @@
 -- Assumes nothing.
 use mathlib.Core.Path.{_≡_, refl, sym, ap, _∙_, subst}
 use mathlib.Core.List.{List, [], _∷_}
-use mathlib.Core.Option.{none, some}
-use Prim.Native.Nat.{ℕ, zero, suc, _^_, _≤_, _<_}
+use Prim.Native.Nat.{ℕ, zero, _^_, _≤_, _<_}
 use native.Mathlib.Omega.{arith}
 use borrow.Author.Tests.{le-leb, lt-leb}
 use lib.ListN.{length, getD, set, drop, getElem?, List·getD-eq-default}
@@ -17,6 +16,7 @@ use Rattle.semantics.specs.Operators.{perform}
 use Rattle.semantics.specs.ObjectOperators.{lengthOf, got}
 use Rattle.semantics.specs.declared.Error.{Error}
 use Rattle.semantics.specs.declared.Error.the-variants.{StackUnderflow, TypeCheck, RangeCheck}
+use Rattle.semantics.specs.ListLaws.{no-element, an-element}
 use Rattle.word.proofs.Counts.{count-low, count-high}
 use Rattle.machine.specs.Rep.{Rep, MovesHeap}
 use Rattle.machine.specs.Room.{DoesHeap}
@@ -30,10 +30,10 @@ use Rattle.machine.proofs.Outcomes.{stack-depth, fails-heap, moves-heap, then-h
 use Rattle.machine.proofs.Pops.{pushes-heap}
 use Rattle.elements.specs.Elements.{HasArray, HasString, ItemTag, ArraySize, StringSize, ByteOf, elementCopied}
 use Rattle.elements.proofs.Arrays.{item-id}
-use Rattle.elements.proofs.Tags.{tag-no-object}
+use Rattle.elements.proofs.Tags.{tag-no-object, array-of, string-of}
 use Rattle.array_operators.specs.Items.{IntIs, ItemInt, IntegerItem, ArrayItem, StringItem, ItemLength, popped}
 use Rattle.array_operators.proofs.Named.{getting, length-under, length-on, get-under, get-on}
-use Rattle.array_operators.proofs.Objects.{tag-object, array-of, string-of, whole-array, whole-string}
+use Rattle.array_operators.proofs.Objects.{tag-object, whole-array, whole-string}
 
 -- ---- length
 
@@ -123,16 +123,6 @@ module _ {m : Machine} {s c : List ℕ} where
 
 -- ---- an element
 
-no-element : (l : List Value) (n : ℕ) → length l ≤ n → getElem? l n ≡ none
-no-element [] n h = refl
-no-element (x ∷ l) zero h = absurd (omega arith)
-no-element (x ∷ l) (suc n) h = no-element l n (omega arith)
-
-element : (l : List Value) (n : ℕ) → n < length l → getElem? l n ≡ some (getD l n null)
-element [] n h = absurd (omega arith)
-element (x ∷ l) zero h = refl
-element (x ∷ l) (suc n) h = element l n (omega arith)
-
 -- The second item is replaced, and the first one goes.
 second-set : (l : List Value) (v : Value) → 2 ≤ length l → drop 1 (set l 1 v) ≡ v ∷ drop 2 l
 second-set [] v h = absurd (omega arith)
@@ -172,7 +162,7 @@ module _ {m : Machine} {s c : List ℕ} {n : ℕ} (deep : 2 ≤ m .depth) (low :
           let few : n < length vs = omega (arith, h, Z .says e d l μ R (a .executable) (a .id) (a .item)) in
           let deep : 2 ≤ length (μ .stack) = omega (arith, stack-depth R) in
           from-array e d l μ R a
-          ∙ ap (λ o. given o RangeCheck >>= λ v. ok (push v (popped 2 μ))) (element vs n few)
+          ∙ ap (λ o. given o RangeCheck >>= λ v. ok (push v (popped 2 μ))) (an-element vs n null few)
           ∙ sym (ap (λ i. ok (withStack (drop 1 (set (μ .stack) 1 (getD (elementsOf (object μ i)) n null))) μ)) (item-id a)
           ∙ ap (λ (z : List Value). ok (withStack z μ)) (second-set (μ .stack) (getD vs n null) deep)))
 

@@ -7,6 +7,7 @@ use Prim.Native.Nat.{_≤_, _<_}
 use native.Mathlib.Omega.{arith}
 use lib.ListN.{length, getD, take, drop, replicate}
 use lib.Dec.{leb}
+use lib.Seq.{drop-cons}
 use Rattle.semantics.specs.Text.{bytes, textual}
 use Rattle.semantics.specs.Values.{Value, integer, null, string, array, elements, text, Result, ok, fault, _>>=_, check, int, arrayId, objectId, count}
 use Rattle.semantics.specs.Machine.{Machine, withStack, push, pop1, pop2, pop3, object, elementsOf, change}
@@ -14,8 +15,7 @@ use Rattle.semantics.specs.Operators.{perform, find, table, _is_}
 use Rattle.semantics.specs.ObjectOperators as Floo
 use Rattle.semantics.specs.ObjectOperators.{pushNew, lengthOf, got, putInto, size, aboveMark}
 use Rattle.semantics.specs.declared.Error.the-variants.{StackUnderflow}
-use Rattle.machine.proofs.Operands.{pop1-some, pop2-some}
-use Rattle.machine.proofs.Outcomes.{pop1-under, pop2-under}
+use Rattle.machine.proofs.Operands.{pop1-some, pop2-some, pop1-under, pop2-under}
 use Rattle.machine.proofs.Pops.{pop3-under, pop3-some}
 use Rattle.array_operators.specs.Items.{onLength, popped}
 
@@ -23,11 +23,7 @@ use Rattle.array_operators.specs.Items.{onLength, popped}
 
 module _ (l : List Value) where
   pub front1 : 1 ≤ length l → l ≡ getD l 0 null ∷ drop 1 l
-  front1 = by l
-    where
-      by : (l : List Value) → 1 ≤ length l → l ≡ getD l 0 null ∷ drop 1 l
-      by [] h = absurd (omega arith)
-      by (x ∷ s) h = refl
+  front1 h = drop-cons l 0 null (omega (arith, h))
 
   front2 : 2 ≤ length l → l ≡ getD l 0 null ∷ getD l 1 null ∷ drop 2 l
   front2 = by l

@@ -22,7 +22,7 @@ use Rattle.machine.proofs.Operands.{stands-no-integer}
 use Rattle.elements.specs.Elements.{tagOf, HasArray, HasString, HasElement, SomewhereThat, ItemTag, ArraySize}
 use Rattle.elements.proofs.Arrays.{array-item}
 use Rattle.elements.proofs.Strings.{string-item}
-use Rattle.elements.proofs.Tags.{tag-array, tag-string}
+use Rattle.elements.proofs.Tags.{array-of, string-of}
 use Rattle.strings.specs.Strings.{CurrentSize}
 use Rattle.array_operators.specs.Items.{ItemInt, IntegerItem, ArrayItem, StringItem, ItemLength}
 
@@ -83,16 +83,6 @@ pub array-tag : {i t : ℕ} {m : Machine} {s : List ℕ} → ItemTag i m s t →
 array-tag {t = t} T high n = (t, omega (arith, high, n), T)
 
 module _ {m : Machine} {s e d c l : List ℕ} {μ : Floo.Machine} (R : Rep m s e d c l μ) {i : ℕ} where
-  pub array-of : ArrayItem i m s → HasArray i μ
-  array-of A =
-      let x = tag-array (getD (μ .stack) i null) (omega (arith, A .1, A .2 .says e d c l μ R)) in
-      record { executable = x .0; id = x .1; item = x .2 }
-
-  pub string-of : StringItem i m s → HasString i μ
-  string-of T =
-      let x = tag-string (getD (μ .stack) i null) (sym (T .says e d c l μ R)) in
-      record { id = x .0; item = x .1 }
-
   module _ (deep : i < m .depth) where
     place : m .depth ≡ m .depth - suc i + suc i
     place = omega (arith, deep)
@@ -115,12 +105,6 @@ module _ {m : Machine} {s e d c l : List ℕ} {μ : Floo.Machine} (R : Rep m s e
         subst (λ id. objectAt (μ .store) id ≡ text (bytesOf (objectAt (μ .store) id))) (A .stands) (A .whole)
 
 module _ {i : ℕ} {m : Machine} {s c : List ℕ} where
-  pub array-there : ArrayItem i m s → Somewhere m s c → SomewhereThat (HasArray i) m s c
-  array-there A (e, d, l, μ, R) = (e, d, l, μ, R, array-of R A)
-
-  pub string-there : StringItem i m s → Somewhere m s c → SomewhereThat (HasString i) m s c
-  string-there T (e, d, l, μ, R) = (e, d, l, μ, R, string-of R T)
-
   pub element-there : {n q : ℕ} → ArrayItem i m s → Somewhere m s c → ArraySize i m s c n → q < n → SomewhereThat (HasElement i q) m s c
   element-there {q = q} A (e, d, l, μ, R) Z h =
       let a = array-of R A in

@@ -31,10 +31,10 @@ use Rattle.machine.proofs.Outcomes.{stack-depth, fails-heap, moves-heap, then-h
 use Rattle.elements.specs.Elements.{itemId, HasArray, HasString, SomewhereThat, ItemTag, ArraySize, StringSize, elementPut, bytePut}
 use Rattle.elements.proofs.Arrays.{item-id}
 use Rattle.elements.proofs.Strings.{string-id, string-too}
-use Rattle.elements.proofs.Tags.{tag-no-object}
+use Rattle.elements.proofs.Tags.{tag-no-object, array-of, string-of}
 use Rattle.array_operators.specs.Items.{IntIs, ItemInt, IntegerItem, ArrayItem, StringItem, popped}
 use Rattle.array_operators.proofs.Named.{putting, put-under, put-on}
-use Rattle.array_operators.proofs.Objects.{tag-object, array-of, string-of, whole-array, whole-string}
+use Rattle.array_operators.proofs.Objects.{tag-object, whole-array, whole-string}
 
 -- ---- what the definition does
 

@@ -23,10 +23,10 @@ use Rattle.machine.specs.declared.Did.the-variants.{Ok, Fail}
 use Rattle.machine.proofs.Outcomes.{stack-depth, fails-heap, moves-heap, over-heap, then-heap, stack-heap}
 use Rattle.elements.specs.Elements.{itemId, SomewhereThat, ItemTag, ArraySize}
 use Rattle.elements.proofs.Arrays.{item-id}
-use Rattle.elements.proofs.Tags.{tag-no-array}
+use Rattle.elements.proofs.Tags.{tag-no-array, array-of}
 use Rattle.array_operators.specs.Items.{ArrayItem, HasFirst, popped, spreadOut, itemsPut}
 use Rattle.array_operators.proofs.Named.{aload-under, aload-on, astore-under, astore-on}
-use Rattle.array_operators.proofs.Objects.{array-of, whole-array}
+use Rattle.array_operators.proofs.Objects.{whole-array}
 
 -- The array on top has all its elements.
 pub first-there : {m : Machine} {s c : List ℕ} {i n : ℕ} → ArrayItem i m s → ArraySize i m s c n → Somewhere m s c → SomewhereThat (HasFirst i n) m s c

@@ -7,10 +7,11 @@ use Prim.Native.Nat.{ℕ, zero, suc, _+_, _-_, _*_, _≤_}
 use native.Mathlib.Omega.{arith}
 use lib.ListN.{getD}
 use Rattle.semantics.specs.Words.{signed}
-use Rattle.semantics.specs.Values.{Value, Object}
+use Rattle.semantics.specs.Values.{Value, Object, null}
 use Rattle.semantics.specs.Machine as Floo
 use Rattle.semantics.specs.Machine.{Frame, pending, running, repeating, counting, withExec, elementsOf, object}
 use Rattle.semantics.specs.Steps.{resume, silent, beyond, commandOf}
+use Rattle.semantics.specs.ListLaws.{no-element, an-element}
 use Rattle.heap.specs.Word.{word}
 use Rattle.heap.specs.Shape.{Ghost}
 use Rattle.store.specs.Rep.{objectAt, element, Stands}
@@ -21,7 +22,7 @@ use Rattle.frames.specs.Moves.{topFrame, frameDropped}
 use Rattle.frames.proofs.Tops.{slot}
 use Rattle.frames.proofs.Running.{run-at, top-runs, element-words}
 use Rattle.turns.proofs.Resuming.{top-is}
-use Rattle.turns.proofs.Procedures.{is-pending, no-element, an-element}
+use Rattle.turns.proofs.Procedures.{is-pending}
 use Rattle.ending.specs.Endings.{commandText, IsCommand}
 use Rattle.ending.specs.declared.Command.{Command}
 use Rattle.ending.specs.declared.Command.the-variants.{Nothing}
@@ -79,7 +80,7 @@ module _ {m : Machine} {s e d c l : List ℕ} {μ : Floo.Machine} (R : Rep m s e
     unfolding resume object frameDropped withExec
     element-handed left =
         ap (λ f. resume f (frameDropped μ) .command) is
-        ∙ rw (an-element (elementsOf (objectAt (μ .store) i)) j (omega (arith, top-runs R k h i j is .left, left))) refl
+        ∙ rw (an-element (elementsOf (objectAt (μ .store) i)) j null (omega (arith, top-runs R k h i j is .left, left))) refl
 
 -- ---- what is promised
 

@@ -1,41 +1,26 @@
--- The command that a value is, by its tag, and what is at a place of a list.
+-- The command that a value is, by its tag.
 -- Assumes nothing.
 use mathlib.Core.Path.{_≡_, refl, sym, ap, _∙_, subst}
 use mathlib.Core.Bool.{Bool, true}
-use mathlib.Core.List.{List, [], _∷_}
+use mathlib.Core.List.{List, []}
 use mathlib.Core.Option.{some}
-use Prim.Native.Nat.{ℕ, zero, suc, _<_}
-use native.Mathlib.Omega.{arith}
-use lib.ListN.{length, getD, getElem?}
+use Prim.Native.Nat.{ℕ, _<_}
+use lib.ListN.{getElem?}
 use Rattle.semantics.specs.Values.{Value}
 use Rattle.semantics.specs.Printing.{nameText}
-use Rattle.semantics.specs.Operators.{table, _is_}
 use Rattle.semantics.specs.Steps.{commandOf}
+use Rattle.semantics.specs.ListLaws.{getD-known, inside-list}
 use Rattle.store.specs.Rep.{Stands, a-null, an-integer, a-boolean, a-mark, an-operator, a-literal, an-executable, a-string, an-array, a-procedure, titles}
-use Rattle.store.proofs.Standing.{is-operator, is-executable}
+use Rattle.store.proofs.Standing.{is-operator, is-executable, titles-count}
 use Rattle.ending.specs.Endings.{commandText}
 use Rattle.ending.specs.declared.Command.the-variants.{Nothing, Operator, Name}
 use Rattle.commands.specs.Commands.{CommandIs}
 
--- ---- what is at a place
-
-pub getD-known : {A : Type 0} (l : List A) (i : ℕ) (d : A) {x : A} → getElem? l i ≡ some x → getD l i d ≡ x
-getD-known [] i d q = let z : _≡_ {A = ℕ} 0 1 = cc in absurd (omega arith)
-getD-known (y ∷ l) zero d q = cc
-getD-known (y ∷ l) (suc i) d q = getD-known l i d q
-
-pub inside-list : {A : Type 0} (l : List A) (i : ℕ) {x : A} → getElem? l i ≡ some x → i < length l
-inside-list [] i q = let z : _≡_ {A = ℕ} 0 1 = cc in absurd (omega arith)
-inside-list (y ∷ l) zero q = omega arith
-inside-list (y ∷ l) (suc i) q = let h = inside-list l i q in omega arith
-
-pub few-titles : length titles ≡ 54
-unfolding titles table _is_
-few-titles = refl
+-- ---- the operators by their numbers
 
 -- An operator's number is one of 54.
 pub operator-number : {o : List ℕ} (p : ℕ) → getElem? titles p ≡ some o → p < 54
-operator-number p q = subst (λ n. p < n) few-titles (inside-list titles p q)
+operator-number p q = subst (λ n. p < n) titles-count (inside-list titles p q)
 
 -- ---- the command by the tag
 

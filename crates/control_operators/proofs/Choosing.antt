@@ -17,7 +17,6 @@ use Rattle.semantics.specs.declared.Error.{Error}
 use Rattle.semantics.specs.declared.Error.the-variants.{StackUnderflow, TypeCheck, ExecStackOverflow}
 use Rattle.store.specs.Rep.{bit}
 use Rattle.store.proofs.Standing.{is-boolean}
-use Rattle.machine.specs.Places.{Nameless}
 use Rattle.machine.specs.Moves.{dropped}
 use Rattle.machine.specs.Rep.{Rep, IsIn, MovesHeap}
 use Rattle.machine.specs.Room.{lent}
@@ -25,19 +24,16 @@ use Rattle.machine.specs.declared.Machine.{Machine}
 use Rattle.machine.specs.declared.Did.the-variants.{Ok, Fail}
 use Rattle.machine.proofs.Items.{items-length}
 use Rattle.machine.proofs.Rooms.{frames-length, fitted-fails}
-use Rattle.machine.proofs.Operands.{Top, top, pop2-some, upper, lower, both}
+use Rattle.machine.proofs.Operands.{Top, top, pop2-some, upper, lower, both, pop2-under}
 use Rattle.frames.specs.Moves as Moves
 use Rattle.frames.specs.Moves.{Enters, entered}
 use Rattle.control_operators.specs.Promises.{DoesFrames, Forgets}
-use Rattle.machine.proofs.Outcomes.{pop2-under}
 use Rattle.machine.proofs.Pops.{pop3-under, pop3-some}
+use Rattle.machine.proofs.Naming.{boolean-nameless}
 use Rattle.control_operators.proofs.Popping.{stands-no-boolean}
 use Rattle.control_operators.proofs.Promising.{fit-full, fit-ok}
 use Rattle.control_operators.proofs.Named.{if-is, ifelse-is}
 use Rattle.control_operators.proofs.Entering.{Into}
-
-pub boolean-nameless : {b : Bool} → Nameless (boolean b)
-boolean-nameless = record { none = λ t. t }
 
 bit-false : (b : Bool) → bit b ≡ 0 → b ≡ false
 bit-false true e = absurd (omega arith)

@@ -22,19 +22,15 @@ use Rattle.machine.specs.Room.{lent}
 use Rattle.machine.specs.declared.Machine.{Machine}
 use Rattle.machine.specs.declared.Did.the-variants.{Ok, Fail}
 use Rattle.machine.proofs.Items.{items-length, items-below}
-use Rattle.machine.proofs.Operands.{Top, top, pop1-some, pop2-some, stands-no-integer, upper, lower, both}
+use Rattle.machine.proofs.Operands.{Top, top, pop1-some, pop2-some, stands-no-integer, upper, lower, both, pop1-under, pop2-under}
 use Rattle.machine.proofs.Stacking.{atDepth, restack}
 use Rattle.frames.specs.Moves.{Shaped, Enters, entered}
 use Rattle.control_operators.specs.Promises.{DoesSlots, Forgets}
-use Rattle.machine.proofs.Outcomes.{pop1-under, pop2-under}
 use Rattle.machine.proofs.Rooms.{fitted-fails}
 use Rattle.word.proofs.Counts.{count-low, count-high}
 use Rattle.control_operators.proofs.Popping.{pop4-short, pop4-some}
 use Rattle.control_operators.proofs.Promising.{fit-full, fit-ok}
 use Rattle.control_operators.proofs.Named.{entering, repeat-is, for-is}
-
-pub integer-nameless : {w : ℕ} → Nameless (integer w)
-integer-nameless = record { none = λ t. t }
 
 -- ---- items that name no object go
 

@@ -25,13 +25,14 @@ use Rattle.machine.specs.declared.Machine.{Machine}
 use Rattle.machine.specs.declared.Did.{Did}
 use Rattle.machine.specs.declared.Did.the-variants.{Ok, Fail}
 use Rattle.machine.proofs.Copying.{word-of}
-use Rattle.machine.proofs.Operands.{pop2-some}
-use Rattle.machine.proofs.Outcomes.{KeepsStore, stack-depth, fails-heap, moves-heap, then-heap, elsewhere, two-items, pop2-under}
+use Rattle.machine.proofs.Operands.{pop2-some, pop2-under}
+use Rattle.machine.proofs.Outcomes.{KeepsStore, stack-depth, fails-heap, moves-heap, then-heap, elsewhere, two-items}
 use Rattle.elements.specs.Elements.{tagOf, named, itemId, HasString, ItemTag, StringSize, SomewhereThat, bytePut}
 use Rattle.elements.proofs.Strings.{string-id}
-use Rattle.elements.proofs.Tags.{tag-string, string-tagged}
+use Rattle.elements.proofs.Tags.{tag-string, string-tagged, tag-no-string}
 use Rattle.strings.specs.Strings.{HasBytes, Copies, CurrentSize, pasted, bytesCopied, bytesFilled}
 use Rattle.strings.proofs.Parts.{Part, part-too, put-changed}
+use Rattle.strings.proofs.Prefixes.{current-few}
 use Rattle.conversions.specs.Texts.{SomewhereNamed, DoesNamedHeap, converted, ended, Known, TextOf}
 use Rattle.conversions.proofs.Putting.{somewhere}
 
@@ -65,27 +66,7 @@ take-current (b ∷ l) = by (eqb b 0) (take-current l)
     by true r = refl
     by false r = ap (λ (u : List ℕ). b ∷ u) r
 
-current-few : (l : List ℕ) → length (current l) ≤ length l
-unfolding current
-current-few [] = omega arith
-current-few (b ∷ l) = by (eqb b 0) (current-few l)
-  where
-    by : (t : Bool) → length (current l) ≤ length l → length {A = ℕ} (elim t [ true ↦ [] | false ↦ b ∷ current l ]) ≤ suc (length l)
-    by true r = omega arith
-    by false r = omega arith
-
 -- ---- the definition's cvs
-
-tag-no-string : (v : Value) → (tagOf v ≡ 8 → ⊥) → stringId v ≡ fault TypeCheck
-unfolding tagOf stringId
-tag-no-string null n = refl
-tag-no-string (integer w) n = refl
-tag-no-string (boolean b) n = refl
-tag-no-string mark n = refl
-tag-no-string (operator o) n = refl
-tag-no-string (name x k) n = refl
-tag-no-string (string i) n = absurd (n refl)
-tag-no-string (array x i) n = refl
 
 -- What is left to do with a text, after the pops.
 abbrev after : List ℕ → Value → Floo.Machine → Result Floo.Machine

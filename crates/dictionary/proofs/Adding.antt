@@ -7,19 +7,17 @@ use mathlib.Core.Logic.{_⊎_, inl, inr, ⊎-elim}
 use mathlib.Core.Option.{none, some}
 use Prim.Native.Nat.{ℕ, zero, suc, _+_, _*_, _/_, _%_, _≤_, _<_}
 use native.Mathlib.Omega.{arith}
-use lib.ListN.{length, getD, take, set, getElem?, length-append, length-map, length-take, length-set}
+use lib.ListN.{length, getD, take, set, getElem?, length-append, length-take, length-set}
 use lib.Seq.{getD-set-same, getD-set-other}
 use Rattle.semantics.specs.Values.{Value}
 use Rattle.semantics.specs.Machine as Floo
 use Rattle.semantics.specs.Machine.{Slot, withDictionary, intern}
-use Rattle.semantics.specs.ListLaws.{All, nil, cons}
-use Rattle.semantics.specs.NameLaws.{operator-count}
-use Rattle.semantics.specs.Operators.{Entry, table}
+use Rattle.semantics.specs.ListLaws.{All, nil, cons, some-one, none-some}
 use Rattle.store.specs.Rep as Store
-use Rattle.store.specs.Rep.{Names, Stands, byteOf, titles}
+use Rattle.store.specs.Rep.{Names, Stands, byteOf}
 use Rattle.store.proofs.Fresh.{rep-keys}
 use Rattle.store.proofs.Rooting.{rep-alike}
-use Rattle.store.proofs.Standing.{stands-keys}
+use Rattle.store.proofs.Standing.{stands-keys, titles-count}
 use Rattle.machine.specs.Places.{frameValue, bindingAt, bound, rootIn, roots, rootCount, keys, texts, Distinct}
 use Rattle.machine.specs.Rep as Words
 use Rattle.machine.specs.Rep.{Rep, Stored, Is, IsIn, Bound, Slots, SlotIs}
@@ -28,7 +26,7 @@ use Rattle.machine.proofs.Carrying.{Reached, items-map, slots-map, frames-map}
 use Rattle.dictionary.specs.Names.{slotOf, Kept, Adds}
 use Rattle.dictionary.specs.Packing.{Spells}
 use Rattle.dictionary.proofs.Slots.{slots-frame, slots-more}
-use Rattle.dictionary.proofs.Dictionaries.{keysOf, Absent, absent, slotted-absent, no-key, some-one, none-some}
+use Rattle.dictionary.proofs.Dictionaries.{keysOf, Absent, absent, slotted-absent, no-key}
 
 -- ---- words past the names
 
@@ -128,10 +126,6 @@ all-any f (a ∷ l) = cons (f a) (all-any f l)
 
 anything : (v : Value) → Reached (λ i. Unit {0}) v
 anything v = record { reach = λ i n. tt }
-
-titles-count : length titles ≡ 54
-unfolding titles
-titles-count = length-map table (λ (e : Entry). e .title) ∙ operator-count
 
 module _ {m : Machine} {s e d c l : List ℕ} {μ : Floo.Machine} (R : Rep m s e d c l μ) (n : List ℕ) (short : length n ≤ 31) (new : slotOf n (μ .dictionary) ≡ m .names)
     (room : 12 * m .names + 12 ≤ length d) {d′ : List ℕ} (W : Slotted (m .names) n d d′) where

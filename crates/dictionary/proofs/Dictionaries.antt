@@ -1,43 +1,21 @@
 -- The definition's dictionary by slots, where no name has two: what is looked up, assigned and added is at the name's slot.
 -- Assumes nothing.
-use mathlib.Core.Path.{_≡_, refl, sym, ap, _∙_, subst}
+use mathlib.Core.Path.{_≡_, refl, sym, ap, _∙_}
 use mathlib.Core.Bool.{Bool, true, false}
 use mathlib.Core.List.{List, [], _∷_, _++_, map}
 use mathlib.Core.Option.{Option, some, none}
 use Prim.Native.Nat.{ℕ, zero, suc, _<_}
 use native.Mathlib.Omega.{arith}
 use lib.ListN.{length, set, getElem?}
-use lib.Dec.{T, eqb, eqb→eq}
-use borrow.Author.Tests.{eq-eqb}
 use Rattle.semantics.specs.Text.{same}
 use Rattle.semantics.specs.Values.{Value}
 use Rattle.semantics.specs.Machine.{Slot, lookup, assign, slotted}
+use Rattle.semantics.specs.ListLaws.{some-one, none-some}
+use Rattle.semantics.specs.SameLaws.{same-refl, same-equal}
 use Rattle.machine.specs.Places.{Distinct}
 use Rattle.dictionary.specs.Names.{slotOf}
 
 -- ---- the same bytes
-
-pub same-refl : (n : List ℕ) → same n n ≡ true
-unfolding same
-same-refl [] = refl
-same-refl (a ∷ n) = rw (eq-eqb a a refl, same) (same-refl n)
-
-pub same-equal : (n k : List ℕ) → same n k ≡ true → n ≡ k
-unfolding same
-same-equal [] [] e = refl
-same-equal [] (b ∷ k) e =
-    let z : _≡_ {A = ℕ} 0 1 = cc in
-    absurd (omega arith)
-same-equal (a ∷ n) [] e =
-    let z : _≡_ {A = ℕ} 0 1 = cc in
-    absurd (omega arith)
-same-equal (a ∷ n) (b ∷ k) e = by (eqb a b) refl (same-equal n k) e
-  where
-    by : (t : Bool) → eqb a b ≡ t → (same n k ≡ true → n ≡ k) → elim t [ true ↦ same n k | false ↦ false ] ≡ true → a ∷ n ≡ b ∷ k
-    by true q r e = let tails = r e in let heads = eqb→eq a b (subst T (sym q) tt) in cc (heads, tails)
-    by false q r e =
-        let z : _≡_ {A = ℕ} 0 1 = cc in
-        absurd (omega arith)
 
 pub data Compared (n k : List ℕ) (t : Bool) : Type 0 where
   yes : t ≡ true → n ≡ k → Compared n k t
@@ -69,14 +47,6 @@ pub data Sits (n : List ℕ) : List Slot → ℕ → Slot → Type 0 where
 pub data Absent (n : List ℕ) : List Slot → Type 0 where
   nil : Absent n []
   cons : {s : Slot} {d : List Slot} → same n (s .key) ≡ false → (n ≡ s .key → ⊥) → Absent n d → Absent n (s ∷ d)
-
-pub some-one : {A : Type 0} {a b : A} → some a ≡ some b → a ≡ b
-some-one e = cc
-
-pub none-some : {A : Type 0} {a : A} → none ≡ some a → ⊥
-none-some e =
-    let z : _≡_ {A = ℕ} 0 1 = cc in
-    absurd (omega arith)
 
 module _ (n : List ℕ) where
   pub sits : (d : List Slot) (i : ℕ) → Distinct (keysOf d) → getElem? (keysOf d) i ≡ some n → (s : Slot) × Sits n d i s
@@ -116,23 +86,6 @@ module _ (n : List ℕ) where
   pub keys-set : {d : List Slot} {i : ℕ} {s : Slot} (o : Option Value) → Sits n d i s → keysOf (set d i (record { key = n; binding = o })) ≡ keysOf d
   keys-set o (here {d = d} q e) = ap (λ x. x ∷ keysOf d) (sym e)
   keys-set o (there {t = t} q r) = ap (λ x. t .key ∷ x) (keys-set o r)
-
-  -- A name that has a slot is there.
-  pub slot-key : (d : List Slot) → slotOf n d < length d → getElem? (keysOf d) (slotOf n d) ≡ some n
-  unfolding slotOf
-  slot-key [] low = absurd (omega arith)
-  slot-key (s ∷ d) low = step (compare n (s .key)) (slot-key d) low
-    where
-      step : Compared n (s .key) (same n (s .key))
-          → (slotOf n d < length d → getElem? (keysOf d) (slotOf n d) ≡ some n)
-          → slotOf n (s ∷ d) < suc (length d)
-          → getElem? (keysOf (s ∷ d)) (slotOf n (s ∷ d)) ≡ some n
-      step (yes q same-name) r l =
-          let z : slotOf n (s ∷ d) ≡ 0 = rw (q, slotOf) refl in
-          rw z (ap some (sym same-name))
-      step (no q other) r l =
-          let z : slotOf n (s ∷ d) ≡ suc (slotOf n d) = rw (q, slotOf) refl in
-          rw z (r (omega (arith, z, l)))
 
   -- ---- a name with no slot
 

@@ -13,6 +13,7 @@ use lib.Seq.{getD-set-same, getD-set-other}
 use Rattle.semantics.specs.Values.{Value, null, name}
 use Rattle.semantics.specs.Machine as Floo
 use Rattle.semantics.specs.Machine.{Slot, withStack, withExec, withDictionary, lookup, assign}
+use Rattle.semantics.specs.ListLaws.{none-some}
 use Rattle.store.specs.Rep.{byteOf, a-literal}
 use Rattle.heap.specs.Shape.{target}
 use Rattle.heap.specs.Upd.{upd}
@@ -29,7 +30,7 @@ use Rattle.machine.proofs.Rerooting.{withDepths, placed, rerooted-all}
 use Rattle.machine.proofs.Roots.{binding-root}
 use Rattle.dictionary.specs.Names.{slotOf}
 use Rattle.dictionary.proofs.Slots.{slot-at, slots-set}
-use Rattle.dictionary.proofs.Dictionaries.{none-some, Sits, sits, slot-sits, lookup-sits, assign-sits, element-sits, keys-set}
+use Rattle.dictionary.proofs.Dictionaries.{Sits, sits, slot-sits, lookup-sits, assign-sits, element-sits, keys-set}
 
 -- ---- one binding changes
 

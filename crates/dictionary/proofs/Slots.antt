@@ -8,9 +8,9 @@ use native.Mathlib.Omega.{arith}
 use lib.ListN.{length, getD, set, getElem?}
 use Rattle.semantics.specs.Values.{Value}
 use Rattle.semantics.specs.Machine.{Slot}
+use Rattle.semantics.specs.ListLaws.{some-one, none-some}
 use Rattle.store.specs.Rep.{byteOf}
 use Rattle.machine.specs.Rep.{Bound, SlotIs, Slots, end, slot}
-use Rattle.dictionary.proofs.Dictionaries.{some-one, none-some}
 
 module _ {Is : Value → ℕ → ℕ → Type 0} where
   -- The words of a slot where they are the same.

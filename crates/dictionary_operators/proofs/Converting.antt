@@ -27,8 +27,8 @@ use Rattle.machine.specs.declared.Machine.{Machine}
 use Rattle.machine.specs.declared.Did.{Did}
 use Rattle.machine.specs.declared.Did.the-variants.{Ok, Fail}
 use Rattle.machine.proofs.Copying.{word-of}
-use Rattle.machine.proofs.Operands.{pop1-some}
-use Rattle.machine.proofs.Outcomes.{stack-depth, first-item, pop1-under}
+use Rattle.machine.proofs.Operands.{pop1-some, pop1-under}
+use Rattle.machine.proofs.Outcomes.{stack-depth, first-item}
 use Rattle.elements.specs.Elements.{HasString, HasByte, SomewhereThat, ByteOf}
 use Rattle.elements.proofs.Tags.{string-tagged}
 use Rattle.strings.specs.Strings.{HasBytes, CurrentSize}

@@ -22,8 +22,8 @@ use Rattle.machine.specs.Rep.{Rep}
 use Rattle.machine.specs.declared.Machine.{Machine}
 use Rattle.machine.specs.declared.Did.the-variants.{Ok, Fail}
 use Rattle.machine.proofs.Copying.{word-of}
-use Rattle.machine.proofs.Operands.{pop1-some}
-use Rattle.machine.proofs.Outcomes.{stack-depth, first-item, pop1-under}
+use Rattle.machine.proofs.Operands.{pop1-some, pop1-under}
+use Rattle.machine.proofs.Outcomes.{stack-depth, first-item}
 use Rattle.elements.specs.Elements.{HasArray, SomewhereThat, ArraySize}
 use Rattle.elements.proofs.Arrays.{array-item}
 use Rattle.dictionary_operators.specs.Promises.{Represented, DoesDictionary}

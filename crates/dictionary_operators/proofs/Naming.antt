@@ -22,8 +22,8 @@ use Rattle.machine.specs.Rep.{Rep, Bound, unbound, bound}
 use Rattle.machine.specs.Moves.{dropped}
 use Rattle.machine.specs.declared.Machine.{Machine}
 use Rattle.machine.proofs.Copying.{word-of}
-use Rattle.machine.proofs.Operands.{pop1-some, pop2-some}
-use Rattle.machine.proofs.Outcomes.{stack-depth, first-item, two-items, pop1-under, pop2-under}
+use Rattle.machine.proofs.Operands.{pop1-some, pop2-some, pop1-under, pop2-under}
+use Rattle.machine.proofs.Outcomes.{stack-depth, first-item, two-items}
 use Rattle.dictionary.proofs.Rebinding.{binding-at}
 
 pub def-is : (μ : Floo.Machine) → perform (bytes "def") μ ≡ def μ

@@ -26,7 +26,7 @@ use Rattle.machine.specs.Places.{rootCount, roots, keys}
 use Rattle.machine.specs.Rep.{Rep, World, Stored, Is, IsIn, MovesHeap}
 use Rattle.machine.specs.declared.Machine.{Machine}
 use Rattle.machine.proofs.Copying.{word-of}
-use Rattle.elements.specs.Elements.{named, itemId, HasString, HasByte, HasCell, IsString, PutsByte, bytePut, byteSet}
+use Rattle.elements.specs.Elements.{named, itemId, HasString, HasByte, HasCell, IsString, PutsByte, bytePut, byteSet, StringSize, SomewhereThat}
 use Rattle.elements.proofs.Arrays.{Found}
 use Rattle.machine.proofs.Rehousing.{roots-store, restored-in}
 
@@ -238,3 +238,11 @@ module _ {m : Machine} {st e d c l : List ℕ} {μ : Floo.Machine} (R : Rep m st
 
   pub byte-moves : (v : ℕ) {c′ : List ℕ} → PutsByte (getD st (2 * k + 1) 0) q v c c′ → MovesHeap (bytePut i q v) m m st st c c′
   byte-moves v P = record { moves = λ e d l μ R′. byte-rep R′ i k q h (byte-too R i k q h b R′) v P }
+
+-- Below the maximum there is a byte.
+pub has-byte : {i q : ℕ} {m : Machine} {s c : List ℕ} {most : ℕ}
+    → StringSize i m s c most
+    → SomewhereThat (HasString i) m s c
+    → q < most
+    → SomewhereThat (HasByte i q) m s c
+has-byte Z (e, d, l, μ, R, a) h = (e, d, l, μ, R, record { string = a; inside = omega (arith, h, Z .says e d l μ R (a .id) (a .item)) })

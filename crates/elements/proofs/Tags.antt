@@ -1,21 +1,21 @@
 -- What the tag of an item says of it, in the words that the primitives on elements and bytes ask for.
 -- Assumes nothing.
-use mathlib.Core.Path.{_≡_, refl}
+use mathlib.Core.Path.{_≡_, refl, sym}
 use mathlib.Core.Bool.{Bool, true, false}
 use mathlib.Core.List.{List}
 use Prim.Native.Nat.{ℕ, suc, _+_, _*_, _≤_, _<_}
 use native.Mathlib.Omega.{arith}
 use lib.ListN.{getD}
-use Rattle.semantics.specs.Values.{Value, integer, boolean, null, mark, operator, name, string, array, fault, objectId, arrayId}
+use Rattle.semantics.specs.Values.{Value, integer, boolean, null, mark, operator, name, string, array, fault, objectId, arrayId, stringId}
 use Rattle.semantics.specs.declared.Error.the-variants.{TypeCheck}
 use Rattle.semantics.specs.Machine as Floo
 use Rattle.store.specs.Rep.{Stands, a-null, an-integer, a-boolean, a-mark, an-operator, a-literal, an-executable, a-string, an-array, a-procedure}
 use Rattle.store.proofs.Standing.{is-string, is-array, is-procedure}
 use Rattle.machine.specs.Places.{Nameless}
-use Rattle.machine.specs.Rep.{Rep}
+use Rattle.machine.specs.Rep.{Rep, Somewhere}
 use Rattle.machine.specs.declared.Machine.{Machine}
 use Rattle.machine.proofs.Copying.{word-of}
-use Rattle.elements.specs.Elements.{tagOf, HasArray, HasString, HasPlain}
+use Rattle.elements.specs.Elements.{tagOf, HasArray, HasString, HasPlain, ItemTag, SomewhereThat}
 
 pub stands-nameless : {keys : List (List ℕ)} {texts : List Bool} {ρ : ℕ → ℕ} {v : Value} {t p : ℕ} → Stands keys texts ρ v t p → t < 8 → Nameless v
 stands-nameless a-null l = record { none = λ t. t }
@@ -103,6 +103,17 @@ tag-no-object (string i) q = absurd (omega arith)
 tag-no-object (array false i) q = absurd (omega arith)
 tag-no-object (array true i) q = absurd (omega arith)
 
+pub tag-no-string : (v : Value) → (tagOf v ≡ 8 → ⊥) → stringId v ≡ fault TypeCheck
+unfolding tagOf stringId
+tag-no-string null n = refl
+tag-no-string (integer w) n = refl
+tag-no-string (boolean b) n = refl
+tag-no-string mark n = refl
+tag-no-string (operator o) n = refl
+tag-no-string (name x k) n = refl
+tag-no-string (string i) n = absurd (n refl)
+tag-no-string (array x i) n = refl
+
 pub tag-no-array : (v : Value) → tagOf v < 9 → arrayId v ≡ fault TypeCheck
 unfolding tagOf arrayId
 tag-no-array null q = refl
@@ -114,3 +125,23 @@ tag-no-array (name x n) q = refl
 tag-no-array (string i) q = refl
 tag-no-array (array false i) q = absurd (omega arith)
 tag-no-array (array true i) q = absurd (omega arith)
+
+-- ---- an item that is an array or a string
+
+module _ {m : Machine} {s e d c l : List ℕ} {μ : Floo.Machine} (R : Rep m s e d c l μ) {i : ℕ} where
+  pub array-of : ((t : ℕ) × (9 ≤ t) × ItemTag i m s t) → HasArray i μ
+  array-of A =
+      let x = tag-array (getD (μ .stack) i null) (omega (arith, A .1, A .2 .says e d c l μ R)) in
+      record { executable = x .0; id = x .1; item = x .2 }
+
+  pub string-of : ItemTag i m s 8 → HasString i μ
+  string-of T =
+      let x = tag-string (getD (μ .stack) i null) (sym (T .says e d c l μ R)) in
+      record { id = x .0; item = x .1 }
+
+module _ {i : ℕ} {m : Machine} {s c : List ℕ} where
+  pub array-there : ((t : ℕ) × (9 ≤ t) × ItemTag i m s t) → Somewhere m s c → SomewhereThat (HasArray i) m s c
+  array-there A (e, d, l, μ, R) = (e, d, l, μ, R, array-of R A)
+
+  pub string-there : ItemTag i m s 8 → Somewhere m s c → SomewhereThat (HasString i) m s c
+  string-there T (e, d, l, μ, R) = (e, d, l, μ, R, string-of R T)

@@ -1,18 +1,10 @@
 -- The bytes of a word by division, and a byte that is set without overflow: arithmetic at each of the four places.
 -- Assumes nothing.
 use mathlib.Core.Path.{_≡_}
-use Prim.Native.Nat.{ℕ, zero, suc, _+_, _-_, _*_, _/_, _%_, _^_, _<_, _≤_}
+use Prim.Native.Nat.{ℕ, _+_, _-_, _*_, _/_, _%_, _^_, _<_, _≤_}
 use native.Mathlib.Omega.{arith}
 use Rattle.store.specs.Rep.{byteOf, withByte}
-use Rattle.store.proofs.Bytes.{with-fits}
-
--- What holds of the four places holds of each.
-four : (P : ℕ → Type 0) → P 0 → P 1 → P 2 → P 3 → (j : ℕ) → j < 4 → P j
-four P a b c d zero l = a
-four P a b c d (suc zero) l = b
-four P a b c d (suc (suc zero)) l = c
-four P a b c d (suc (suc (suc zero))) l = d
-four P a b c d (suc (suc (suc (suc j)))) l = absurd (omega arith)
+use Rattle.store.proofs.Bytes.{with-fits, four}
 
 pub unit-some : (j : ℕ) → j < 4 → 0 < 2 ^ (8 * j)
 unit-some = four (λ j. 0 < 2 ^ (8 * j)) (omega arith) (omega arith) (omega arith) (omega arith)

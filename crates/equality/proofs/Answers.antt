@@ -20,8 +20,8 @@ use Rattle.machine.specs.Operands.{Pushes, a-boolean}
 use Rattle.machine.specs.Room.{DoesHeap}
 use Rattle.machine.specs.declared.Machine.{Machine}
 use Rattle.machine.specs.declared.Did.the-variants.{Ok, Fail}
-use Rattle.machine.proofs.Operands.{pop2-some}
-use Rattle.machine.proofs.Outcomes.{stack-depth, two-items, pop2-under, fails-heap, moves-heap, KeepsStore}
+use Rattle.machine.proofs.Operands.{pop2-some, pop2-under}
+use Rattle.machine.proofs.Outcomes.{stack-depth, two-items, fails-heap, moves-heap, KeepsStore}
 use Rattle.equality.specs.Comparing.{Compares, answered}
 
 pub eq-is : (μ : Floo.Machine) → perform (bytes "eq") μ ≡ equality (λ b. b) μ

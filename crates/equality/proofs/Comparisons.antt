@@ -3,9 +3,9 @@
 use mathlib.Core.Path.{_≡_, refl, sym, ap, _∙_, subst}
 use mathlib.Core.Bool.{Bool, true, false}
 use mathlib.Core.List.{List, [], _∷_}
-use Prim.Native.Nat.{ℕ, zero, suc, _+_, _-_, _*_, _≤_, _<_}
+use Prim.Native.Nat.{ℕ, zero, suc, _+_, _-_, _*_, _≤_}
 use native.Mathlib.Omega.{arith}
-use borrow.Author.Tests.{eq-eqb, ne-eqb}
+use borrow.Author.Tests.{ne-eqb}
 use mathlib.Core.Logic.{⊎-elim}
 use lib.Dec.{eqb}
 use lib.ListN.{getD, drop, List·getD-eq-default}
@@ -14,12 +14,13 @@ use Rattle.semantics.specs.Values.{Value, null, string, current}
 use Rattle.semantics.specs.Machine as Floo
 use Rattle.semantics.specs.Machine.{withStack, object, bytesOf}
 use Rattle.semantics.specs.NumberOperators.{key}
+use Rattle.semantics.specs.SameLaws.{heads-differ, heads-agree}
 use Rattle.heap.proofs.Upds.{same?}
 use Rattle.machine.specs.Rep.{Rep, IsIn, Somewhere}
 use Rattle.machine.specs.Moves.{tagAs}
 use Rattle.machine.specs.declared.Machine.{Machine}
 use Rattle.machine.proofs.Copying.{word-of}
-use Rattle.elements.specs.Elements.{HasString, HasByte, SomewhereThat, StringSize, ByteOf}
+use Rattle.elements.specs.Elements.{HasString, SomewhereThat, StringSize, ByteOf}
 use Rattle.equality.specs.Comparing.{Compares, HasStrings, SameBytes}
 use Rattle.equality.proofs.Keys.{kinds-differ, words-agree, both-null, both-mark, both-strings, words-differ}
 
@@ -41,14 +42,6 @@ current-goes (b ∷ l) (suc q) n = current-goes l q n
 -- Whether two strings are the same depends on the bytes from byte q on alone.
 abbrev Agree : List ℕ → List ℕ → ℕ → Type 0
 Agree k l q = same (current k) (current l) ≡ same (current (drop q k)) (current (drop q l))
-
-heads-differ : {a b : ℕ} (k l : List ℕ) → (a ≡ b → ⊥) → same (a ∷ k) (b ∷ l) ≡ false
-unfolding same
-heads-differ {a} {b} k l n = rw (ne-eqb a b n, same) refl
-
-heads-agree : {a b : ℕ} (k l : List ℕ) → a ≡ b → same (a ∷ k) (b ∷ l) ≡ same k l
-unfolding same
-heads-agree {a} {b} k l e = rw (eq-eqb a b e, same) refl
 
 module _ (k l : List ℕ) (q : ℕ) where
   bytes-differ : (getD k q 0 ≡ getD l q 0 → ⊥) → same (current (drop q k)) (current (drop q l)) ≡ false
@@ -134,9 +127,6 @@ module _ {m : Machine} {s c : List ℕ} {q : ℕ} (A : Agreed m s c q) where
 -- ---- a byte or zero
 
 module _ {i q : ℕ} {m : Machine} {s c : List ℕ} {most : ℕ} (Z : StringSize i m s c most) where
-  pub has-byte : SomewhereThat (HasString i) m s c → q < most → SomewhereThat (HasByte i q) m s c
-  has-byte (e, d, l, μ, R, a) h = (e, d, l, μ, R, record { string = a; inside = omega (arith, h, Z .says e d l μ R (a .id) (a .item)) })
-
   pub past-end : most ≤ q → ByteOf i q m s c 0
   past-end h = record { says = λ e d l μ R id x. sym (List·getD-eq-default (bytesOf (object μ id)) 0 {n = q} (omega (arith, h, Z .says e d l μ R id x))) }
 

@@ -2,24 +2,23 @@
 -- two words of a value say.
 -- Assumes nothing.
 use mathlib.Core.Path.{_≡_, refl, sym, ap, _∙_, subst}
-use mathlib.Core.Bool.{Bool, true, false, not, _&&_}
+use mathlib.Core.Bool.{Bool, true, false, not}
 use mathlib.Core.List.{List, [], _∷_, map}
 use mathlib.Core.Logic.{⊎-elim}
 use mathlib.Core.Option.{some}
 use Prim.Native.Nat.{ℕ, zero, suc}
 use native.Mathlib.Omega.{arith}
-use borrow.Author.Tests.{eq-eqb, ne-eqb}
+use borrow.Author.Tests.{ne-eqb}
 use lib.ListN.{getD, getElem?}
-use lib.Dec.{eqb, eqb→eq}
 use Rattle.semantics.specs.Text.{same}
 use Rattle.semantics.specs.Values.{Value, operator, string, current}
 use Rattle.semantics.specs.Machine as Floo
 use Rattle.semantics.specs.Machine.{object, bytesOf}
 use Rattle.semantics.specs.NumberOperators.{key}
 use Rattle.semantics.specs.Operators.{Entry, table}
-use Rattle.semantics.specs.ListLaws.{every}
-use Rattle.semantics.specs.NameLaws.{different, operators-differ}
-use Rattle.semantics.specs.ResultLaws.{choose}
+use Rattle.semantics.specs.ListLaws.{getD-known}
+use Rattle.semantics.specs.NameLaws.{operators-differ}
+use Rattle.semantics.specs.SameLaws.{same-refl, same-equal}
 use Rattle.heap.specs.Chain.{live}
 use Rattle.heap.specs.Shape.{Ghost}
 use Rattle.heap.specs.Assign.{Alives}
@@ -28,24 +27,9 @@ use Rattle.machine.specs.Places.{Distinct}
 use Rattle.heap.proofs.Upds.{same?}
 use Rattle.store.proofs.Standing.{is-string}
 use Rattle.machine.specs.Moves.{tagAs}
+use Rattle.machine.proofs.Distinct.{distinct}
 
 -- ---- the same bytes
-
-pub same-refl : (l : List ℕ) → same l l ≡ true
-unfolding same
-same-refl [] = refl
-same-refl (a ∷ l) = rw (eq-eqb a a refl, same) (same-refl l)
-
-same-eq : (k l : List ℕ) → same k l ≡ true → k ≡ l
-unfolding same
-same-eq [] [] e = refl
-same-eq [] (b ∷ l) e = let z : _≡_ {A = ℕ} 0 1 = cc in absurd (omega arith)
-same-eq (a ∷ k) [] e = let z : _≡_ {A = ℕ} 0 1 = cc in absurd (omega arith)
-same-eq (a ∷ k) (b ∷ l) e =
-    choose (λ x. x ≡ true → _≡_ {A = List ℕ} (a ∷ k) (b ∷ l)) (eqb a b) (same k l) false
-    (λ t q. let h = eqb→eq a b t in let r = same-eq k l q in cc (h, r))
-    (λ t q. let z : _≡_ {A = ℕ} 0 1 = cc in absurd (omega arith))
-    e
 
 pub same-true : {k l : List ℕ} → k ≡ l → same k l ≡ true
 same-true {k} e = ap (same k) (sym e) ∙ same-refl k
@@ -54,62 +38,16 @@ pub same-false : (k l : List ℕ) → (k ≡ l → ⊥) → same k l ≡ false
 same-false k l n = by (same k l) refl
   where
     by : (b : Bool) → same k l ≡ b → b ≡ false
-    by true e = absurd (n (same-eq k l e))
+    by true e = absurd (n (same-equal k l e))
     by false e = refl
 
 -- ---- no operator has two names
-
-at-every : (p : List ℕ → Bool) (ts : List (List ℕ)) (j : ℕ) (t : List ℕ) → every p ts ≡ true → getElem? ts j ≡ some t → p t ≡ true
-at-every p [] j t e h = let z : _≡_ {A = ℕ} 0 1 = cc in absurd (omega arith)
-at-every p (u ∷ ts) zero t e h = let q : u ≡ t = cc in subst (λ x. p x ≡ true) q (first (p u) e)
-  where
-    first : (b : Bool) → (b && every p ts) ≡ true → b ≡ true
-    first true x = refl
-    first false x = x
-at-every p (u ∷ ts) (suc j) t e h = at-every p ts j t (rest (p u) e) h
-  where
-    rest : (b : Bool) → (b && every p ts) ≡ true → every p ts ≡ true
-    rest true x = x
-    rest false x = let z : _≡_ {A = ℕ} 0 1 = cc in absurd (omega arith)
-
-apart : (t : List ℕ) → not (same t t) ≡ true → ⊥
-apart t e = let z : _≡_ {A = Bool} true false = sym e ∙ ap not (same-refl t) in let y : _≡_ {A = ℕ} 0 1 = cc in omega arith
-
-distinct : (ts : List (List ℕ)) → different ts ≡ true → Distinct ts
-distinct [] e i j n h k = let z : _≡_ {A = ℕ} 0 1 = cc in absurd (omega arith)
-distinct (t ∷ ts) e zero zero n h k = refl
-distinct (t ∷ ts) e zero (suc j) n h k = absurd (apart t (subst (λ x. not (same t x) ≡ true) (sym q) (at-every (λ u. not (same t u)) ts j n (front (every (λ u. not (same t u)) ts) e) k)))
-  where
-    q : t ≡ n
-    q = cc
-
-    front : (b : Bool) → (b && different ts) ≡ true → b ≡ true
-    front true x = refl
-    front false x = x
-distinct (t ∷ ts) e (suc i) zero n h k = absurd (apart t (subst (λ x. not (same t x) ≡ true) (sym q) (at-every (λ u. not (same t u)) ts i n (front (every (λ u. not (same t u)) ts) e) h)))
-  where
-    q : t ≡ n
-    q = cc
-
-    front : (b : Bool) → (b && different ts) ≡ true → b ≡ true
-    front true x = refl
-    front false x = x
-distinct (t ∷ ts) e (suc i) (suc j) n h k = ap suc (distinct ts (back (every (λ u. not (same t u)) ts) e) i j n h k)
-  where
-    back : (b : Bool) → (b && different ts) ≡ true → different ts ≡ true
-    back true x = x
-    back false x = let z : _≡_ {A = ℕ} 0 1 = cc in absurd (omega arith)
 
 pub titles-distinct : Distinct titles
 unfolding titles
 titles-distinct = distinct (map (λ (e : Entry). e .title) table) operators-differ
 
 -- ---- keys by kind and payload
-
-element-at : {A : Type 0} (l : List A) (q : ℕ) (a d : A) → getElem? l q ≡ some a → a ≡ getD l q d
-element-at [] q a d e = let z : _≡_ {A = ℕ} 0 1 = cc in absurd (omega arith)
-element-at (x ∷ l) zero a d e = cc
-element-at (x ∷ l) (suc q) a d e = element-at l q a d e
 
 -- The kind, from the head of a key.
 abbrev kindAt : ℕ → ℕ
@@ -140,9 +78,9 @@ module _ (τ : Floo.Machine) (keys : List (List ℕ)) (ρ : ℕ → ℕ) where
   key-from (a-boolean {b = true}) = refl
   key-from (a-boolean {b = false}) = refl
   key-from a-mark = refl
-  key-from (an-operator {o = o} {q = q} e) = ap (λ (l : List ℕ). 4 ∷ l) (element-at titles q o [] e)
-  key-from (a-literal {n = n} {q = q} e) = ap (λ (l : List ℕ). 5 ∷ l) (element-at keys q n [] e)
-  key-from (an-executable {n = n} {q = q} e) = ap (λ (l : List ℕ). 5 ∷ l) (element-at keys q n [] e)
+  key-from (an-operator {o = o} {q = q} e) = ap (λ (l : List ℕ). 4 ∷ l) (sym (getD-known titles q [] e))
+  key-from (a-literal {n = n} {q = q} e) = ap (λ (l : List ℕ). 5 ∷ l) (sym (getD-known keys q [] e))
+  key-from (an-executable {n = n} {q = q} e) = ap (λ (l : List ℕ). 5 ∷ l) (sym (getD-known keys q [] e))
   key-from (a-string r e) = ap (λ i. 6 ∷ current (bytesOf (object τ i))) (sym r)
   key-from (an-array r e) = ap (λ i. 7 ∷ i ∷ []) (sym r)
   key-from (a-procedure r e) = ap (λ i. 7 ∷ i ∷ []) (sym r)

@@ -1,15 +1,14 @@
 -- The root places name each object as often as the definition's roots list it: the places are summed by region, and each region has the values of one list.
 -- Assumes nothing.
 use mathlib.Core.Path.{_≡_, refl, sym, ap, _∙_}
-use mathlib.Core.List.{List, [], _∷_, _++_}
-use mathlib.Core.Option.{Option, none, some}
+use mathlib.Core.List.{List, [], _∷_, _++_, map}
 use Prim.Native.Nat.{ℕ, zero, suc, _+_, _*_, _/_, _%_, _≤_}
 use native.Mathlib.Nat.{zero-add}
 use native.Mathlib.Omega.{arith}
 use lib.ListN.{length}
 use Rattle.semantics.specs.Values.{Value, null}
-use Rattle.semantics.specs.Machine.{Machine, Frame, pending, running, looping, repeating, counting, Slot}
-use Rattle.semantics.specs.Held.{ofValue, ofFrame, ofBinding, gather, sumOf}
+use Rattle.semantics.specs.Machine.{Machine, Slot}
+use Rattle.semantics.specs.Held.{ofValue, sumOf}
 use Rattle.semantics.specs.Held as Held
 use Rattle.heap.specs.Upd.{total}
 use Rattle.heap.specs.Reading as Reading
@@ -18,9 +17,10 @@ use Rattle.heap.proofs.Upds.{total-same, total-upd}
 use Rattle.heap.proofs.Bodies.{total-none}
 use Rattle.heap.proofs.Listing.{sum-from}
 use Rattle.store.specs.Matching.{times}
-use Rattle.store.proofs.Counting.{AsOften}
-use Rattle.machine.specs.Places.{fromEnd, frameValue, bound, bindingAt, rootIn, roots, rootCount}
+use Rattle.store.proofs.Counting.{AsOften, times-gather}
+use Rattle.machine.specs.Places.{fromEnd, frameValue, bindingAt, rootIn, roots, rootCount}
 use Rattle.machine.proofs.Roots.{stack-root, exec-root, binding-root, at-end}
+use Rattle.machine.proofs.Rooted.{bindings, rootValues, listed, map-self}
 
 -- ---- the places, by region
 
@@ -43,6 +43,11 @@ fourth-none μ j =
 
 -- ---- the values of a list
 
+sum-append : {A : Type 0} (f : A → ℕ) (a b : List A) → sumOf f (a ++ b) ≡ sumOf f a + sumOf f b
+unfolding sumOf
+sum-append f [] b = omega arith
+sum-append f (x ∷ a) b = omega (arith, sum-append f a b)
+
 module _ (i : ℕ) where
   -- How often a value names i: once or never.
   often : Value → ℕ
@@ -52,7 +57,8 @@ module _ (i : ℕ) where
   unfolding often ofValue sumOf
   null-never = refl
 
-  ends-sum : {A : Type 0} (f : A → Value) (l : List A) (n : ℕ) → length l ≤ n → total (λ j. often (fromEnd f l j)) n ≡ sumOf (λ a. often (f a)) l
+  -- A list by its places from the end,
+  ends-sum : {A : Type 0} (f : A → Value) (l : List A) (n : ℕ) → length l ≤ n → total (λ j. often (fromEnd f l j)) n ≡ sumOf often (map f l)
   unfolding fromEnd sumOf
   ends-sum f [] n le = total-none (λ j. often null) n (λ x b. null-never)
   ends-sum f (a ∷ l) n le = omega (
@@ -63,9 +69,8 @@ module _ (i : ℕ) where
     ends-sum f l n (omega arith),
   )
 
-  -- The slots from number k on.
-  slots-sum : (d : List Slot) (v : ℕ → Value) (k n : ℕ) → ((j : ℕ) → v (k + j) ≡ bindingAt d j) → length d ≤ n
-      → Reading.sumOf (λ j. often (v j)) (from k n) ≡ sumOf (λ s. often (bound (s .binding))) d
+  -- and the bindings from slot k on.
+  slots-sum : (d : List Slot) (v : ℕ → Value) (k n : ℕ) → ((j : ℕ) → v (k + j) ≡ bindingAt d j) → length d ≤ n → Reading.sumOf (λ j. often (v j)) (from k n) ≡ sumOf often (bindings d)
   unfolding bindingAt Reading.sumOf from sumOf
   slots-sum [] v k zero same le = refl
   slots-sum [] v k (suc n) same le =
@@ -76,42 +81,16 @@ module _ (i : ℕ) where
       let here : k + 0 ≡ k = omega arith in
       omega (arith, ap often (ap v (sym here) ∙ same 0), slots-sum d v (suc k) n (λ j. let e : suc k + j ≡ k + suc j = omega arith in ap v e ∙ same (suc j)) (omega arith))
 
-  bindings-sum : (d : List Slot) (n : ℕ) → length d ≤ n → total (λ j. often (bindingAt d j)) n ≡ sumOf (λ s. often (bound (s .binding))) d
+  bindings-sum : (d : List Slot) (n : ℕ) → length d ≤ n → total (λ j. often (bindingAt d j)) n ≡ sumOf often (bindings d)
   bindings-sum d n le =
       total-same (λ j. often (bindingAt d (0 + j))) (λ j. often (bindingAt d j)) n (λ j b. ap (λ x. often (bindingAt d x)) (sym (zero-add j)))
       ∙ sym (sum-from (λ j. often (bindingAt d j)) 0 n)
       ∙ slots-sum d (bindingAt d) 0 n (λ j. ap (bindingAt d) (zero-add j)) le
 
-  -- ---- the roots that the definition lists
-
-  times-append : (a b : List ℕ) → times i (a ++ b) ≡ times i a + times i b
-  unfolding sumOf
-  times-append [] b = omega arith
-  times-append (x ∷ a) b = omega (arith, times-append a b)
-
-  times-gather : {A : Type 0} (g : A → List ℕ) (f : A → Value) → ((a : A) → g a ≡ ofValue (f a)) → (l : List A) → times i (gather g l) ≡ sumOf (λ a. often (f a)) l
-  unfolding often gather sumOf
-  times-gather g f e [] = refl
-  times-gather g f e (a ∷ l) = omega (arith, times-append (g a) (gather g l), ap (times i) (e a), times-gather g f e l)
-
-frame-names : (f : Frame) → ofFrame f ≡ ofValue (frameValue f)
-unfolding ofFrame ofValue
-frame-names (pending v) = refl
-frame-names (running i k) = refl
-frame-names (looping b) = refl
-frame-names (repeating n b) = refl
-frame-names (counting n i f b) = refl
-
-binding-names : (b : Option Value) → ofBinding b ≡ ofValue (bound b)
-unfolding ofBinding ofValue
-binding-names none = refl
-binding-names (some v) = refl
-
 -- ---- the law
 
 module _ (μ : Machine) (n : ℕ) (stack : length (μ .stack) ≤ n) (exec : length (μ .exec) ≤ n) (dictionary : length (μ .dictionary) ≤ n) where
-  places-sum : (i : ℕ) → total (λ r. often i (roots μ r)) (4 * n)
-      ≡ sumOf (often i) (μ .stack) + sumOf (λ s. often i (bound (s .binding))) (μ .dictionary) + sumOf (λ f. often i (frameValue f)) (μ .exec)
+  places-sum : (i : ℕ) → total (λ r. often i (roots μ r)) (4 * n) ≡ sumOf (often i) (μ .stack) + sumOf (often i) (bindings (μ .dictionary)) + sumOf (often i) (map frameValue (μ .exec))
   places-sum i = omega (
     arith,
     by-four (λ r. often i (roots μ r)) n,
@@ -120,25 +99,18 @@ module _ (μ : Machine) (n : ℕ) (stack : length (μ .stack) ≤ n) (exec : len
     total-same (λ j. often i (bindingAt (μ .dictionary) j)) (λ j. often i (roots μ (4 * j + 2))) n (λ j b. ap (often i) (binding-root μ j)),
     total-none (λ j. often i (roots μ (4 * j + 3))) n (λ j b. ap (often i) (fourth-none μ j) ∙ null-never i),
     ends-sum i (λ v. v) (μ .stack) n stack,
+    ap (sumOf (often i)) (map-self (μ .stack)),
     ends-sum i frameValue (μ .exec) n exec,
     bindings-sum i (μ .dictionary) n dictionary,
   )
 
-  roots-sum : (i : ℕ) → times i (Held.roots μ)
-      ≡ sumOf (often i) (μ .stack) + sumOf (λ s. often i (bound (s .binding))) (μ .dictionary) + sumOf (λ f. often i (frameValue f)) (μ .exec)
-  unfolding Held.roots
-  roots-sum i =
-      let a = gather ofValue (μ .stack) in
-      let b = gather (λ (s : Slot). ofBinding (s .binding)) (μ .dictionary) in
-      let c = gather ofFrame (μ .exec) in
-      omega (
-        arith,
-        times-append i (a ++ b) c,
-        times-append i a b,
-        times-gather i ofValue (λ v. v) (λ v. refl) (μ .stack),
-        times-gather i (λ (s : Slot). ofBinding (s .binding)) (λ s. bound (s .binding)) (λ s. binding-names (s .binding)) (μ .dictionary),
-        times-gather i ofFrame frameValue frame-names (μ .exec),
-      )
+  roots-sum : (i : ℕ) → times i (Held.roots μ) ≡ sumOf (often i) (μ .stack) + sumOf (often i) (bindings (μ .dictionary)) + sumOf (often i) (map frameValue (μ .exec))
+  unfolding often
+  roots-sum i = ap (times i) (listed μ) ∙ times-gather i ofValue (rootValues μ) ∙ omega (
+    arith,
+    sum-append (λ v. times i (ofValue v)) (μ .stack ++ bindings (μ .dictionary)) (map frameValue (μ .exec)),
+    sum-append (λ v. times i (ofValue v)) (μ .stack) (bindings (μ .dictionary)),
+  )
 
 pub as-often : (μ : Machine) → length (μ .stack) ≤ 512 → length (μ .exec) ≤ 512 → length (μ .dictionary) ≤ 512 → AsOften μ rootCount (roots μ)
 unfolding often

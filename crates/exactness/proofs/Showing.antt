@@ -27,11 +27,12 @@ use Rattle.store.proofs.Counting.{AsOften}
 use Rattle.store.proofs.Rooming.{lists-room}
 use Rattle.store.proofs.Exactness as Exactness
 use Rattle.machine.specs.Places.{frameValue, bound, roots, rootCount}
-use Rattle.machine.specs.Rep.{Rep, IsIn, FrameIs, a-pending, a-running, a-looping, a-repeating, a-counting, Frames, frame, Bound, unbound, Slots, end, slot}
+use Rattle.machine.specs.Rep.{Rep, IsIn, Frames, frame, Bound, unbound, Slots, end, slot}
 use Rattle.machine.specs.declared.Machine.{Machine}
 use Rattle.machine.proofs.Items.{items-length, item-at}
 use Rattle.machine.proofs.Rooms.{frames-length}
-use Rattle.machine.proofs.Rooted.{rooted}
+use Rattle.machine.proofs.Rooted.{rooted, bindings}
+use Rattle.frames.proofs.Tops.{frame-value}
 use Rattle.exactness.specs.Shown.{Snapshot, WordsName, NoOther, Corresponds, Shows}
 use Rattle.exactness.proofs.Lists.{getD-reverse, getD-in}
 use Rattle.exactness.proofs.Often.{as-often}
@@ -43,24 +44,14 @@ words-at : (P : ℕ → ℕ → Type 0) (words : List ℕ) {a b a′ b′ : ℕ}
 words-at P words p q x = rw (p, q) x
 
 module _ {Is : Value → ℕ → ℕ → Type 0} {g : Ghost} {store : List Object} where
-  frame-is : {f : Floo.Frame} {k t p a b c : ℕ} → FrameIs Is g store f k t p a b c → Is (frameValue f) t p
-  frame-is (a-pending v) = v
-  frame-is (a-running v e n) = v
-  frame-is (a-looping v) = v
-  frame-is (a-repeating v) = v
-  frame-is (a-counting v) = v
-
   -- Slot i from the top, of k + 1 + i, has the words of place k.
   frame-at : {words : List ℕ} {n : ℕ} {fs : List Floo.Frame} → Frames Is g store words n fs → (i k : ℕ) → n ≡ k + suc i
       → Is (getD (map frameValue fs) i null) (getD words (8 * k + 1) 0) (getD words (8 * k + 2) 0)
   frame-at Frames.bottom i k e = absurd (omega arith)
   frame-at {words} (frame {n = n} {f = f} h r) zero k e =
       let q : n ≡ k = omega arith in
-      subst (λ x. Is (frameValue f) (getD words (8 * x + 1) 0) (getD words (8 * x + 2) 0)) q (frame-is h)
+      subst (λ x. Is (frameValue f) (getD words (8 * x + 1) 0) (getD words (8 * x + 2) 0)) q (frame-value h)
   frame-at (frame h r) (suc i) k e = frame-at r i k (omega arith)
-
-abbrev bindings : List Floo.Slot → List Value
-bindings d = map (λ (s : Floo.Slot). bound (s .binding)) d
 
 -- The slots from number k on.
 binding-at : {Is : Value → ℕ → ℕ → Type 0} (P : Value → ℕ → ℕ → Type 0) → ((b : Option Value) (t p : ℕ) → Bound Is b t p → P (bound b) t p)

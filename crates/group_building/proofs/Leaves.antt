@@ -22,12 +22,12 @@ use Rattle.elements.specs.Elements.{freeCells}
 use Rattle.elements.proofs.Making.{few-cells}
 use Rattle.strings.specs.Strings.{FillsAt, FilledAt}
 use Rattle.dictionary.specs.Names.{slotOf, Finds}
-use Rattle.dictionary.proofs.Dictionaries.{slot-key}
 use Rattle.token.specs.declared.Token as scanned
 use Rattle.token.specs.declared.Token.the-variants as read
 use Rattle.groups.specs.Nodes.{leafObjects}
 use Rattle.construction.specs.Growth.{Grown, SameBut, SetsPlain, SetsString, stringSet}
 use Rattle.construction.proofs.Holding.{array-low, element-inside, made-new, grown-same, grown-trans}
+use Rattle.dictionary.proofs.Lookups.{found-key}
 use Rattle.group_building.specs.Building.{leafSet, LeafAt, LeafIs, PutsLeaf, nameTag, PutsName}
 
 pub same-but : (m : Machine) → SameBut m m
@@ -63,7 +63,7 @@ puts-name {d} {n} {tag} {c} {r} {m} {cs} {cs′} F P size =
       puts = λ {s} {e} {l} {h} {k} {id} {q} {μ} {x} A is.
           let slot : r ≡ slotOf n (μ .dictionary) = F .says s e cs l μ (A .rep) in
           let there : getElem? (keys μ) r ≡ some n =
-          subst (λ j. getElem? (keys μ) j ≡ some n) (sym slot) (slot-key n (μ .dictionary) (head (A .known))) in
+          subst (λ j. getElem? (keys μ) j ≡ some n) (sym slot) (found-key n (μ .dictionary) (head (A .known))) in
           P .sets (A .rep) h k id q (A .cell) (A .empty) (name x n) (subst (λ t. Stands (keys μ) (texts μ) (A .rep .world .ρ) (name x n) t r) (sym is) (name-stands x there));
       long = size;
     }

@@ -2,21 +2,20 @@
 -- Assumes nothing.
 use Prim.Native.Nat.{ℕ, suc, _+_, _≤_, _<_}
 use mathlib.Core.Path.{_≡_, refl, sym, ap, _∙_}
-use mathlib.Core.Bool.{Bool, true, false}
+use mathlib.Core.Bool.{false}
 use mathlib.Core.List.{List}
 use mathlib.Core.Logic.{_⊎_, inl, inr, ⊎-elim}
 use native.Mathlib.Omega.{arith}
 use lib.ListN.{length}
 use lib.Dec.{eqb}
 use Rattle.heap.specs.Word.{word, Put}
-use Rattle.heap.specs.Upd.{pick}
 use Rattle.heap.specs.Chain.{live, on}
 use Rattle.heap.specs.Shape.{Ghost, Shape, Counts, Full, isHead, isBody, is, target, firstObject}
 use Rattle.heap.specs.Assign.{aimed, Stored}
 use Rattle.heap.specs.declared.Lists.{Lists}
 use Rattle.heap.proofs.Upds.{same?, at-upd, total-upd, total-bound}
 use Rattle.heap.proofs.Chains.{chains-nxt, live-on, on-list}
-use Rattle.heap.proofs.Shapes.{inside}
+use Rattle.heap.proofs.Shapes.{inside, not-header, one-at-most}
 use Rattle.heap.proofs.Pops.{body-head}
 use Rattle.heap.proofs.Parts.{object, no-object}
 use Rattle.heap.proofs.Falls.{is-same, is-other, true-false, body-object}
@@ -68,10 +67,6 @@ module _ (g : Ghost) (e p tag pay : ℕ) (m m₁ m₂ : List ℕ) (S : Shape g e
   no-head : isHead (g .own c) ≡ false
   no-head = ap isHead oc ∙ body-head a
 
-  -- c has no body
-  not-header : (d b j : ℕ) → g .own d ≡ on (b + 2) j → b ≡ c → ⊥
-  not-header d b j q r = omega (arith, S .chains .above d (b + 2) j q, ap (λ z. g .size (z + 2)) r, rw no-head at (S .header c))
-
   c-p : c < p
   c-p = omega (arith, inside S c oc refl .0, C .places .0)
 
@@ -101,8 +96,8 @@ module _ (g : Ghost) (e p tag pay : ℕ) (m m₁ m₂ : List ℕ) (S : Shape g e
     some = λ h l. rw (same h 2 (omega arith) (λ _. inl refl)) (C .some h l);
     body = λ d b j q. at-upd (λ t. t ≡ target (word m₂ b 0) (word m₂ d 0) (word m₂ d 1)) (g .aim) c (target 0 tag pay) d
         (λ r. let ba : b ≡ a = omega (arith, on-list (sym q ∙ ap (g .own) r ∙ oc)) in
-        rw (ba, r, same a 0 (omega arith) (λ s. absurd (not-header c a k oc s)), w, P₂ .there c 0 (omega arith) (λ s t. omega arith), P₁ .here, P₂ .here))
-        (λ r. rw (same b 0 (omega arith) (λ s. absurd (not-header d b j q s)), same d 0 (omega arith) (λ s. absurd (r s)), same d 1 (omega arith) (λ s. absurd (r s))) (C .body d b j q));
+        rw (ba, r, same a 0 (omega arith) (λ s. absurd (not-header S c no-head c a k oc s)), w, P₂ .there c 0 (omega arith) (λ s t. omega arith), P₁ .here, P₂ .here))
+        (λ r. rw (same b 0 (omega arith) (λ s. absurd (not-header S c no-head d b j q s)), same d 0 (omega arith) (λ s. absurd (r s)), same d 1 (omega arith) (λ s. absurd (r s))) (C .body d b j q));
     other = λ d l f. at-upd (λ t. t ≡ 0) (g .aim) c (target 0 tag pay) d (λ r. absurd (true-false (sym (body-object a k) ∙ ap isBody (sym oc) ∙ ap (λ z. isBody (g .own z)) (sym r) ∙ f)))
         (λ r. C .other d (rw long at l) f);
   }
@@ -123,11 +118,7 @@ swaps {g} {p} {tag} {pay} {c} {k} {s} {m} {m₁} {m₂} a F oc w P₁ P₂ =
 
 -- no count is above the number of places
 pub count-le : {g : Ghost} {p : ℕ} {m : List ℕ} → Counts g p 0 m → (h : ℕ) → g .own h ≡ live → word m h 2 ≤ 65536
-count-le {g} {p} C h l = omega (arith, C .count h l, is-other h 0 (λ q. omega arith), C .places .1, total-bound (λ x. is h (g .aim x)) p (λ x. le-one (eqb (g .aim x) (suc h))))
-  where
-    le-one : (b : Bool) → pick {X = ℕ} b 1 0 ≤ 1
-    le-one true = omega arith
-    le-one false = omega arith
+count-le {g} {p} C h l = omega (arith, C .count h l, is-other h 0 (λ q. omega arith), C .places .1, total-bound (λ x. is h (g .aim x)) p (λ x. one-at-most (eqb (g .aim x) (suc h))))
 
 pub stored : {m m₀ m₁ m₂ : List ℕ} {c tag pay : ℕ} → length m₀ ≡ length m → ((x u : ℕ) → u < 4 → (u ≡ 2 → ⊥) → word m₀ x u ≡ word m x u) → Put m₀ c 0 tag m₁ → Put m₁ c 1 pay m₂ → Stored m c tag pay m₂
 stored n h P Q = record {

@@ -2,22 +2,22 @@
 -- Assumes nothing.
 use Prim.Native.Nat.{ℕ, zero, suc, _+_, _-_, _≤_, _<_}
 use mathlib.Core.Path.{_≡_, refl, sym, ap, _∙_}
-use mathlib.Core.Bool.{Bool, true, false}
+use mathlib.Core.Bool.{false}
 use mathlib.Core.List.{List}
 use mathlib.Core.Logic.{_⊎_, inl, inr, ⊎-elim}
 use native.Mathlib.Omega.{arith}
 use lib.ListN.{length}
 use lib.Dec.{eqb}
 use Rattle.heap.specs.Word.{word, Put}
-use Rattle.heap.specs.Upd.{pick, upd, total}
+use Rattle.heap.specs.Upd.{upd, total}
 use Rattle.heap.specs.Chain.{Owner, live, out, on}
 use Rattle.heap.specs.Shape.{Ghost, Shape, Skip, Counts, Full, NoOut, OnlyOut, Header, cells, isHead, isBody, isFresh, isOn, is, target, pushed, headerMark}
 use Rattle.heap.specs.Grow.{Grows, Took, Filled}
 use Rattle.heap.specs.declared.Lists.{Lists}
-use Rattle.heap.proofs.Upds.{upd-same, upd-at, upd-other, same?, at-upd, upd-keeps, total-same}
+use Rattle.heap.proofs.Upds.{upd-same, upd-at, upd-other, same?, at-upd, upd-keeps, total-same, pick-zero}
 use Rattle.heap.proofs.Chains.{push, out-on, out-live, live-on, on-list, on-rank, no-out}
 use Rattle.heap.proofs.Skips.{skips-aside, plain-aside}
-use Rattle.heap.proofs.Shapes.{inside, header-of, push-counted}
+use Rattle.heap.proofs.Shapes.{inside, header-of, push-counted, not-header, bare}
 use Rattle.heap.proofs.Pops.{body-head}
 use Rattle.heap.proofs.Falls.{is-same, is-other, true-false, body-object}
 use Rattle.heap.proofs.Walks.{skip-plain}
@@ -26,24 +26,12 @@ use Rattle.heap.proofs.Growing.{grows-trans}
 
 target-null : (kind pay : ℕ) → target kind 0 pay ≡ 0
 unfolding target
-target-null kind pay = go (eqb kind 0)
-  where
-    go : (b : Bool) → pick {X = ℕ} b 0 0 ≡ 0
-    go true = refl
-    go false = refl
+target-null kind pay = pick-zero (eqb kind 0)
 
 pub total-none : (f : ℕ → ℕ) (n : ℕ) → ((x : ℕ) → x < n → f x ≡ 0) → total f n ≡ 0
 unfolding total
 total-none f zero h = refl
 total-none f (suc n) h = omega (arith, total-none f n (λ x l. h x (omega arith)), h n (omega arith))
-
--- what is out has no body
-module _ {g : Ghost} {e : ℕ} {m : List ℕ} (S : Shape g e m) (c : ℕ) (oc : g .own c ≡ out) where
-  bare : g .size (c + 2) ≡ 0
-  bare = rw (ap isHead oc) at (S .header c)
-
-  not-header : (d a k : ℕ) → g .own d ≡ on (a + 2) k → a ≡ c → ⊥
-  not-header d a k q r = omega (arith, S .chains .above d (a + 2) k q, ap (λ z. g .size (z + 2)) r, bare)
 
 module _ (g : Ghost) (e p hand : ℕ) (m m′ : List ℕ) (S : Shape g e m) (C : Counts g p hand m) (h c : ℕ) (lh : g .own h ≡ live) (oc : g .own c ≡ out) (long : length m′ ≡ length m)
     (c0 : word m′ c 0 ≡ 0) (c1 : word m′ c 1 ≡ 0) (c2 : word m′ c 2 ≡ g .top (h + 2))
@@ -78,7 +66,7 @@ module _ (g : Ghost) (e p hand : ℕ) (m m′ : List ℕ) (S : Shape g e m) (C :
         (λ (q : x ≡ h). rw (q, stays h lh out-live .0, upd-same (g .size) (h + 2) (suc (g .size (h + 2))), upd-same (g .top) (h + 2) c) (h1, h3))
         (λ (q : x ≡ h → ⊥). rw (upd-other (g .size) (h + 2) (suc (g .size (h + 2))) (x + 2) (λ r. q (omega arith)), upd-other (g .top) (h + 2) c (x + 2) (λ r. q (omega arith)))
         (at-upd (λ w. Header (isHead w) (g .size (x + 2)) (g .top (x + 2)) (word m′ x 1) (word m′ x 3)) (g .own) c v x
-        (λ r. rw (body-head h, r) (bare S c oc))
+        (λ r. rw (body-head h, r) (bare S c (ap isHead oc)))
         (λ r. rw (same x 1 (omega arith) r (λ s. absurd (q s)), same x 3 (omega arith) r (λ s. absurd (q s))) (S .header x))))
         (same? x h);
     counted = rw long (push-counted (g .own) (g .size) (cells m) c (h + 2) (g .size (h + 2)) (inside S c oc refl .0) (λ t. ap (isOn t) oc) (S .counted));
@@ -101,7 +89,7 @@ module _ (g : Ghost) (e p hand : ℕ) (m m′ : List ℕ) (S : Shape g e m) (C :
     body = λ d a k. at-upd (λ w. w ≡ on (a + 2) k → g .aim d ≡ target (word m′ a 0) (word m′ d 0) (word m′ d 1)) (g .own) c v d
         (λ r q. rw (r, c0, target-null) (C .other c (inside S c oc refl .0) (ap isBody oc)))
         (λ r q. rw (
-          same a 0 (omega arith) (not-header S c oc d a k q) (λ _. inl refl),
+          same a 0 (omega arith) (not-header S c (ap isHead oc) d a k q) (λ _. inl refl),
           same d 0 (omega arith) r (λ _. inl refl),
           same d 1 (omega arith) r (λ s. absurd (body-not-h d a k q s)),
         ) (C .body d a k q));
@@ -143,14 +131,14 @@ module _ (g : Ghost) (e p : ℕ) (m m′ : List ℕ) (S : Shape g e m) (C : Coun
     chains = record {
       above = λ c s k q. S .chains .above c s k (was-on c s k q);
       link = λ c s k q. let b = was-on c s (suc k) q in rw (same c 2 (omega arith) (stay c b out-on .1)) (stay (word m c 2) (S .chains .link c s k b) out-on .0);
-      first = λ s k q. rw (upd-other (g .top) (h + 2) 0 s (λ r. omega (arith, ap (g .size) r, bare S h oh))) (stay (g .top s) (S .chains .first s k q) out-on .0);
+      first = λ s k q. rw (upd-other (g .top) (h + 2) 0 s (λ r. omega (arith, ap (g .size) r, bare S h (ap isHead oh)))) (stay (g .top s) (S .chains .first s k q) out-on .0);
       one = λ c d s k q r. S .chains .one c d s k (was-on c s k q) (was-on d s k r);
     };
     few = rw long (S .few);
     within = rw long (S .within);
     low = λ d. upd-keeps isFresh (g .own) h live d (sym (ap isFresh oh)) ∙ S .low d;
     header = λ x. at-upd (λ w. Header (isHead w) (g .size (x + 2)) (upd (g .top) (h + 2) 0 (x + 2)) (word m′ x 1) (word m′ x 3)) (g .own) h live x
-        (λ r. rw (r, upd-same (g .top) (h + 2) 0) (w1 ∙ sym (bare S h oh), omega (arith, w3)))
+        (λ r. rw (r, upd-same (g .top) (h + 2) 0) (w1 ∙ sym (bare S h (ap isHead oh)), omega (arith, w3)))
         (λ r. rw (upd-other (g .top) (h + 2) 0 (x + 2) (λ s. r (omega arith)), same x 1 (omega arith) r, same x 3 (omega arith) r) (S .header x));
     counted = rw long (λ t. total-same (λ c. isOn t (g .own c)) (λ c. isOn t (upd (g .own) h live c)) (cells m) (λ c _. upd-keeps (isOn t) (g .own) h live c (sym (ap (isOn t) oh))) ∙ S .counted t);
     skips = skips-aside S h out live oh refl refl m′ (λ x s k q. same x 3 (omega arith) (stay x q out-on .1));
@@ -173,7 +161,7 @@ module _ (g : Ghost) (e p : ℕ) (m m′ : List ℕ) (S : Shape g e m) (C : Coun
         (same? y h);
     some = λ y. ⊎-elim (λ (q : y ≡ h). λ _. rw (q, w2) (omega arith)) (λ (q : y ≡ h → ⊥). λ l. rw (same y 2 (omega arith) q) (C .some y (sym (upd-other (g .own) h live y q) ∙ l))) (same? y h);
     body = λ d a k q. let b = was-on d (a + 2) k q in let r = stay d b out-on .1 in rw (
-      same a 0 (omega arith) (not-header S h oh d a k b),
+      same a 0 (omega arith) (not-header S h (ap isHead oh) d a k b),
       same d 0 (omega arith) r,
       same d 1 (omega arith) r,
     ) (C .body d a k b);
@@ -265,9 +253,9 @@ headed {g} {p} {h} {kind} {s} {r} {m} {m₁} {m₂} {m₃} {m₄} F T P₁ P₂ 
       },
       grows-trans (X .3 h) (head-grows g₁ _ p m m₄ S (X .1 .counts) h (X .2) long w1 w2 (P₄ .here) same) was,
       upd-same (g₁ .own) h live,
-      bare S h (X .2),
+      bare S h (ap isHead (X .2)),
       P₄ .there h 0 (omega arith) (λ q w. omega arith) ∙ P₃ .there h 0 (omega arith) (λ q w. omega arith) ∙ P₂ .there h 0 (omega arith) (λ q w. omega arith) ∙ P₁ .here,
       λ q. out-live (sym (X .2) ∙ was q),
       λ n. no-out (g₁ .own) h live (X .4 n) (λ q. out-live (sym q)),
-      λ c k q. not-header S h (X .2) c h k (X .3 h .keeps c h k q .0) refl,
+      λ c k q. not-header S h (ap isHead (X .2)) c h k (X .3 h .keeps c h k q .0) refl,
     )

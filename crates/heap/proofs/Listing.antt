@@ -147,7 +147,7 @@ unfolding only sumOf
 sum-only f p [] = refl
 sum-only f p (c ∷ l) = omega (arith, sum-keep f (p c) c (only p l), sum-only f p l)
 
-total-front : (f : ℕ → ℕ) (n : ℕ) → total f (suc n) ≡ f 0 + total (λ x. f (suc x)) n
+pub total-front : (f : ℕ → ℕ) (n : ℕ) → total f (suc n) ≡ f 0 + total (λ x. f (suc x)) n
 unfolding total
 total-front f zero = omega arith
 total-front f (suc n) = omega (arith, total-front f n)

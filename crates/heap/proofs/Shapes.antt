@@ -28,15 +28,22 @@ room S c p f = omega (arith, inside S c p f .0)
 pub header-of : {g : Ghost} {e : ℕ} {m : List ℕ} → Shape g e m → (h : ℕ) {o : Owner} → g .own h ≡ o → isHead o ≡ true → (word m h 1 ≡ g .size (h + 2)) × (word m h 3 ≡ headerMark + g .top (h + 2))
 header-of S h p t = rw (ap isHead p ∙ t) at (S .header h)
 
+-- what is no header has no body
+pub bare : {g : Ghost} {e : ℕ} {m : List ℕ} → Shape g e m → (c : ℕ) → isHead (g .own c) ≡ false → g .size (c + 2) ≡ 0
+bare S c f = rw f at (S .header c)
+
+pub not-header : {g : Ghost} {e : ℕ} {m : List ℕ} → Shape g e m → (c : ℕ) → isHead (g .own c) ≡ false → (d a k : ℕ) → g .own d ≡ on (a + 2) k → a ≡ c → ⊥
+not-header {g} S c f d a k q r = omega (arith, S .chains .above d (a + 2) k q, ap (λ z. g .size (z + 2)) r, bare S c f)
+
+pub one-at-most : (b : Bool) → pick {X = ℕ} b 1 0 ≤ 1
+one-at-most true = omega arith
+one-at-most false = omega arith
+
 isOn-le : (t : ℕ) (o : Owner) → isOn t o ≤ 1
 isOn-le t fresh = omega arith
 isOn-le t live = omega arith
 isOn-le t out = omega arith
-isOn-le t (on s k) = go (eqb s t)
-  where
-    go : (b : Bool) → pick {X = ℕ} b 1 0 ≤ 1
-    go true = omega arith
-    go false = omega arith
+isOn-le t (on s k) = one-at-most (eqb s t)
 
 pub on-same : (s t : ℕ) → s ≡ t → pick {X = ℕ} (eqb s t) 1 0 ≡ 1
 on-same s t e = rw (eq-eqb s t e)

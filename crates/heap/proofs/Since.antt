@@ -8,12 +8,12 @@ use mathlib.Core.Logic.{_⊎_, inl, inr, ⊎-elim}
 use native.Mathlib.Omega.{arith}
 use native.Mathlib.Decide.{decLt}
 use borrow.Author.Tests.{ne-eqb}
-use lib.Dec.{eqb}
 use Rattle.heap.specs.Word.{word}
 use Rattle.heap.specs.Chain.{Owner, fresh, live, out, on}
 use Rattle.heap.specs.Shape.{Ghost, Shape, Header, Counts, Step, cells, isHead, isBody}
 use Rattle.heap.specs.Gone.{Gone, gone, Since}
 use Rattle.heap.proofs.Upds.{same?}
+use Rattle.heap.proofs.Shapes.{bare}
 
 pub true-or-false : (b : Bool) → (b ≡ true) ⊎ (b ≡ false)
 true-or-false true = inl refl
@@ -58,15 +58,12 @@ module _ (p : ℕ) (g : Ghost) (e hand : ℕ) (m : List ℕ) (S : Shape g e m) (
   pub alive-of : (a k : ℕ) → k < g .size (a + 2) → g .own a ≡ live
   alive-of a k l = go (g .own a) refl (S .header a)
     where
-      none : (b : Bool) → b ≡ false → Header b (g .size (a + 2)) (g .top (a + 2)) (word m a 1) (word m a 3) → g .size (a + 2) ≡ 0
-      none b f h = rw f at h
-
       go : (o : Owner) → g .own a ≡ o → Header (isHead o) (g .size (a + 2)) (g .top (a + 2)) (word m a 1) (word m a 3) → g .own a ≡ live
       go fresh q h = absurd (omega arith)
       go live q h = q
       go out q h = absurd (omega arith)
       go (on s j) q h = ⊎-elim (λ (t : s ≡ 1). absurd (omega (arith, S .chains .above a s j q, ap (g .size) t)))
-          (λ (t : s ≡ 1 → ⊥). absurd (omega (arith, none (eqb s 1) (ne-eqb s 1 t) h))) (same? s 1)
+          (λ (t : s ≡ 1 → ⊥). absurd (omega (arith, bare S a (ap isHead q ∙ ne-eqb s 1 t)))) (same? s 1)
 
   pub begins : Since p g m g m
   begins = record {

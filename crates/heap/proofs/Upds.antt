@@ -2,11 +2,12 @@
 -- Assumes nothing.
 use Prim.Native.Nat.{ℕ, zero, suc, _+_, _≤_, _<_}
 use mathlib.Core.Path.{_≡_, refl, ap, _∙_}
+use mathlib.Core.Bool.{Bool, true, false}
 use mathlib.Core.Logic.{_⊎_, inl, inr, ⊎-elim}
 use native.Mathlib.Decide.{ℕ-discrete}
 use native.Mathlib.Omega.{arith}
 use borrow.Author.Tests.{eq-eqb, ne-eqb}
-use Rattle.heap.specs.Upd.{upd, total}
+use Rattle.heap.specs.Upd.{pick, upd, total}
 
 pub upd-same : {X : Type 0} (f : ℕ → X) (a : ℕ) (v : X) → upd f a v a ≡ v
 unfolding upd
@@ -55,3 +56,7 @@ total-bound f (suc n) h = omega (arith, total-bound f n h, h n)
 -- one change of f, seen through F
 pub total-upd : {X : Type 0} (F : X → ℕ) (f : ℕ → X) (n p : ℕ) (v : X) → p < n → total (λ c. F (upd f p v c)) n + F (f p) ≡ total (λ c. F (f c)) n + F v
 total-upd F f n p v l = total-change (λ c. F (f c)) (λ c. F (upd f p v c)) n p l (λ c ne. ap F (upd-other f p v c ne)) ∙ ap (λ x. total (λ c. F (f c)) n + F x) (upd-same f p v)
+
+pub pick-zero : (b : Bool) → pick {X = ℕ} b 0 0 ≡ 0
+pick-zero true = refl
+pick-zero false = refl

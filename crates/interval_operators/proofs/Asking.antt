@@ -16,16 +16,6 @@ use Rattle.interval_operators.specs.Intervals.{ArrayItem, CopiesElements
 use Rattle.interval_operators.proofs.Moving as elementwise
 
 module _ {i : ℕ} {m : Machine} {s c : List ℕ} where
-  pub has-string : ItemTag i m s 8 → Somewhere m s c → SomewhereThat (HasString i) m s c
-  has-string X (e, d, l, μ, R) =
-      let x = tag-string (getD (μ .stack) i null) (sym (X .says e d c l μ R)) in
-      (e, d, l, μ, R, record { id = x .0; item = x .1 })
-
-  pub has-array : ArrayItem i m s → Somewhere m s c → SomewhereThat (HasArray i) m s c
-  has-array X (e, d, l, μ, R) =
-      let x = tag-array (getD (μ .stack) i null) (omega (arith, X .1, X .2 .says e d c l μ R)) in
-      (e, d, l, μ, R, record { executable = x .0; id = x .1; item = x .2 })
-
   module _ (deep : i < m .depth) {n : ℕ} where
     pub small-string : SomewhereThat (HasString i) m s c → StringSize i m s c n → n ≤ 262144
     small-string (e, d, l, μ, R, a) N =

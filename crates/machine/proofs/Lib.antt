@@ -1,4 +1,5 @@
 pub mod Naming
+pub mod Distinct
 pub mod Items
 pub mod Stacking
 pub mod Carrying

@@ -5,6 +5,7 @@ use mathlib.Core.Bool.{Bool}
 use mathlib.Core.List.{List, _∷_}
 use Prim.Native.Nat.{ℕ, suc, _+_, _*_, _<_}
 use lib.ListN.{getD}
+use native.Mathlib.Omega.{arith}
 use Rattle.semantics.specs.Values.{Value, boolean, fault, _>>=_}
 use Rattle.semantics.specs.Machine as Floo
 use Rattle.semantics.specs.NumberOperators.{bits, truth, neither, logical, logical2, connective, negated, negation}
@@ -13,7 +14,8 @@ use Rattle.store.specs.Rep.{bit, Stands, a-null, an-integer, a-boolean, a-mark,
 use Rattle.store.proofs.Standing.{is-boolean}
 use Rattle.machine.specs.Rep.{Rep}
 use Rattle.machine.specs.declared.Machine.{Machine}
-use Rattle.machine.proofs.Operands.{top, no-items, pop1-none, pop1-some, pop2-some, pop2-short, upper, lower, both}
+use Rattle.machine.proofs.Operands.{top, pop1-some, pop2-some, upper, lower, both, pop1-under, pop2-under}
+use Rattle.machine.proofs.Items.{items-length}
 
 -- ---- what a tag says
 
@@ -81,7 +83,7 @@ module _ {keys : List (List ℕ)} {texts : List Bool} {ρ : ℕ → ℕ} where
 module _ {m : Machine} {st e d c l : List ℕ} {μ : Floo.Machine} (R : Rep m st e d c l μ) where
   pub negation-under : m .depth < 1 → negation μ ≡ fault StackUnderflow
   unfolding negation _>>=_
-  negation-under h = rw (pop1-none μ (no-items (R .items) h))
+  negation-under h = rw (pop1-under μ (omega (arith, items-length (R .items), h)))
 
   pub negation-neither : (k : ℕ) → m .depth ≡ suc k → (getD st (2 * k) 0 ≡ 1 → ⊥) → (getD st (2 * k) 0 ≡ 2 → ⊥) → negation μ ≡ fault TypeCheck
   unfolding negation negated _>>=_
@@ -100,7 +102,7 @@ module _ {m : Machine} {st e d c l : List ℕ} {μ : Floo.Machine} (R : Rep m st
 
   pub connective-under : m .depth < 2 → (f : ℕ → ℕ → ℕ) (g : Bool → Bool → Bool) → connective f g μ ≡ fault StackUnderflow
   unfolding connective _>>=_
-  connective-under h f g = rw (pop2-short R (m .depth) (R .items) h)
+  connective-under h f g = rw (pop2-under μ (omega (arith, items-length (R .items), h)))
 
   -- The upper operand is item u, the lower one item k.
   module _ (k u : ℕ) (h : m .depth ≡ suc u) (next : u ≡ suc k) where

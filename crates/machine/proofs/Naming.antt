@@ -1,13 +1,14 @@
 -- Objects that root places name, where the stack's front changes and names none before or after.
 -- Assumes nothing.
 use mathlib.Core.Path.{_≡_, sym, subst}
+use mathlib.Core.Bool.{Bool}
 use mathlib.Core.Logic.{_↔_}
 use mathlib.Core.List.{List, [], _∷_, _++_}
 use Prim.Native.Nat.{ℕ, zero, suc, _/_, _%_, _≤_}
 use native.Mathlib.Omega.{arith}
 use lib.ListN.{length, length-append}
 use lib.Dec.{T}
-use Rattle.semantics.specs.Values.{Value}
+use Rattle.semantics.specs.Values.{Value, integer, boolean}
 use Rattle.semantics.specs.Machine.{Machine, withStack}
 use Rattle.semantics.specs.ListLaws.{All, nil, cons}
 use Rattle.heap.proofs.Upds.{at-upd}
@@ -23,6 +24,12 @@ names-object by-array = tt
 
 pub nameless : {v : Value} → Nameless v → {i : ℕ} → Names v i → ⊥
 nameless h n = h .none (names-object n)
+
+pub integer-nameless : {w : ℕ} → Nameless (integer w)
+integer-nameless = record { none = λ t. t }
+
+pub boolean-nameless : {b : Bool} → Nameless (boolean b)
+boolean-nameless = record { none = λ t. t }
 
 -- ---- the stack's places
 

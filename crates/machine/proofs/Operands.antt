@@ -3,7 +3,7 @@
 use mathlib.Core.Path.{_≡_, refl, sym, ap, _∙_, subst}
 use mathlib.Core.Bool.{Bool}
 use mathlib.Core.List.{List, [], _∷_, _++_}
-use Prim.Native.Nat.{ℕ, zero, suc, _+_, _*_, _≤_, _<_}
+use Prim.Native.Nat.{ℕ, suc, _+_, _*_, _≤_, _<_}
 use native.Mathlib.Omega.{arith}
 use native.Mathlib.Numerals.{add-one}
 use lib.ListN.{length, getD, set, length-set}
@@ -20,7 +20,7 @@ use Rattle.machine.specs.Operands as Operands
 use Rattle.machine.specs.Operands.{Scalar, oneInt, twoInts}
 use Rattle.machine.specs.Rep.{Rep, World, Is, IsIn, Items, bottom, item}
 use Rattle.machine.specs.declared.Machine.{Machine}
-use Rattle.machine.proofs.Items.{items-frame, items-below}
+use Rattle.machine.proofs.Items.{items-frame, items-below, items-length}
 use Rattle.machine.proofs.Stacking.{atDepth, restack}
 
 -- ---- what a tag says
@@ -86,12 +86,27 @@ module _ (μ : Floo.Machine) where
   unfolding pop2 withStack
   pop2-some e = rw (e, pop2)
 
+  pub pop1-under : length (μ .stack) < 1 → pop1 μ ≡ fault StackUnderflow
+  pop1-under h = by (μ .stack) refl h
+    where
+      by : (l : List Value) → μ .stack ≡ l → length l < 1 → pop1 μ ≡ fault StackUnderflow
+      by [] e h = pop1-none e
+      by (x ∷ s) e h = absurd (omega arith)
+
+  pub pop2-under : length (μ .stack) < 2 → pop2 μ ≡ fault StackUnderflow
+  pop2-under h = by (μ .stack) refl h
+    where
+      by : (l : List Value) → μ .stack ≡ l → length l < 2 → pop2 μ ≡ fault StackUnderflow
+      by [] e h = pop2-none e
+      by (y ∷ []) e h = pop2-one e
+      by (y ∷ x ∷ s) e h = absurd (omega arith)
+
 -- ---- fetchers
 
 module _ {m : Machine} {st e d c l : List ℕ} {μ : Floo.Machine} (R : Rep m st e d c l μ) where
   pub one-under : m .depth < 1 → oneInt μ ≡ fault StackUnderflow
   unfolding oneInt _>>=_
-  one-under h = rw (pop1-none μ (no-items (R .items) h))
+  one-under h = rw (pop1-under μ (omega (arith, items-length (R .items), h)))
 
   pub one-bad : (k : ℕ) → m .depth ≡ suc k → (getD st (2 * k) 0 ≡ 1 → ⊥) → oneInt μ ≡ fault TypeCheck
   unfolding oneInt _>>=_
@@ -104,16 +119,9 @@ module _ {m : Machine} {st e d c l : List ℕ} {μ : Floo.Machine} (R : Rep m st
       let x = top (R .items) k h in
       (x .rest, x .split ∙ ap (λ v. v ∷ x .rest) (is-integer (x .words .stands) i))
 
-  pub pop2-short : (n : ℕ) → Items (IsIn (R .world) μ) st n (μ .stack) → n < 2 → pop2 μ ≡ fault StackUnderflow
-  pop2-short zero i l = pop2-none μ (no-items i (omega arith))
-  pop2-short (suc zero) i l =
-      let x = top i 0 refl in
-      pop2-one μ (x .split ∙ ap (λ r. x .value ∷ r) (no-items (x .below) (omega arith)))
-  pop2-short (suc (suc n)) i l = absurd (omega arith)
-
   pub two-under : m .depth < 2 → twoInts μ ≡ fault StackUnderflow
   unfolding twoInts _>>=_
-  two-under h = rw (pop2-short (m .depth) (R .items) h)
+  two-under h = rw (pop2-under μ (omega (arith, items-length (R .items), h)))
 
   -- The upper operand is item u, the lower one item k.
   module _ (k u : ℕ) (h : m .depth ≡ suc u) (next : u ≡ suc k) where

@@ -13,7 +13,7 @@ use Rattle.semantics.specs.Machine as Floo
 use Rattle.semantics.specs.Machine.{withStack, pop1, pop2}
 use Rattle.semantics.specs.Steps.{roomFor}
 use Rattle.semantics.specs.declared.Error.{Error}
-use Rattle.semantics.specs.declared.Error.the-variants.{StackOverflow, StackUnderflow}
+use Rattle.semantics.specs.declared.Error.the-variants.{StackOverflow}
 use Rattle.machine.specs.Operands.{oneInt, twoInts, oneLow, twoLow}
 use Rattle.machine.specs.Rep.{Rep, Somewhere, MovesStack, MovesHeap}
 use Rattle.machine.specs.Moves.{dropped, copied, copiedOver, swapped}
@@ -25,7 +25,7 @@ use Rattle.machine.specs.declared.TwoInts.{TwoInts}
 use Rattle.machine.specs.declared.TwoInts.the-variants as Two
 use Rattle.machine.specs.declared.Did.the-variants.{Ok, Fail}
 use Rattle.machine.proofs.Items.{items-length}
-use Rattle.machine.proofs.Operands.{pop1-none, pop1-some, pop2-none, pop2-one, pop2-some}
+use Rattle.machine.proofs.Operands.{pop1-some, pop2-some}
 use Rattle.machine.proofs.Rooms.{dictionary-fits, exec-fits, room-stack, rep-passes}
 
 -- As many items as the small state says.
@@ -150,22 +150,6 @@ module _ (l : List Value) where
       by [] h = absurd (omega arith)
       by (y ∷ []) h = absurd (omega arith)
       by (y ∷ x ∷ s) h = (y, x, s, refl)
-
-module _ (μ : Floo.Machine) where
-  pub pop1-under : length (μ .stack) < 1 → pop1 μ ≡ fault StackUnderflow
-  pop1-under h = by (μ .stack) refl h
-    where
-      by : (l : List Value) → μ .stack ≡ l → length l < 1 → pop1 μ ≡ fault StackUnderflow
-      by [] e h = pop1-none μ e
-      by (x ∷ s) e h = absurd (omega arith)
-
-  pub pop2-under : length (μ .stack) < 2 → pop2 μ ≡ fault StackUnderflow
-  pop2-under h = by (μ .stack) refl h
-    where
-      by : (l : List Value) → μ .stack ≡ l → length l < 2 → pop2 μ ≡ fault StackUnderflow
-      by [] e h = pop2-none μ e
-      by (y ∷ []) e h = pop2-one μ e
-      by (y ∷ x ∷ s) e h = absurd (omega arith)
 
 -- ---- integer operands
 

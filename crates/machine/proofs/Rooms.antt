@@ -1,11 +1,12 @@
 -- The test of room: it passes where the words stand for the machine after the step and no object was made, and fails with stackoverflow where only
 -- the stack is too deep, with execstackoverflow where the execution stack is.
 -- Assumes nothing.
-use mathlib.Core.Path.{_≡_, refl, ap, _∙_}
+use mathlib.Core.Path.{_≡_, refl, sym, ap, _∙_}
 use mathlib.Core.List.{List}
 use Prim.Native.Nat.{ℕ, suc, _/_, _≤_, _<_}
 use native.Mathlib.Omega.{arith}
-use lib.ListN.{length, length-take, drop-of-length-le}
+use lib.ListN.{length, drop-of-length-le}
+use lib.Seq.{length-take-le}
 use borrow.Author.Tests.{le-leb, lt-leb}
 use Rattle.semantics.specs.Values.{Value, Result, ok, fault, _>>=_, check, Object}
 use Rattle.semantics.specs.Machine as Floo
@@ -37,12 +38,15 @@ module _ {m : Machine} {s e d c l : List ℕ} {μ : Floo.Machine} (R : Rep m s e
   pub dictionary-fits : length (μ .dictionary) ≤ length d / 12
   dictionary-fits = omega (arith, R .names, R .dict-room)
 
+  pub logged-length : length (μ .log) ≡ m .written
+  logged-length = ap length (sym (R .logged)) ∙ length-take-le (m .written) l (R .log-room)
+
   pub log-fits : length (μ .log) ≤ length l
-  log-fits = omega (arith, ap length (R .logged), length-take (m .written) l)
+  log-fits = omega (arith, logged-length, R .log-room)
 
 -- ---- the test
 
-no-new-cells : (before after : Floo.Machine) → length (after .store) ≡ length (before .store) → newCells before after ≡ 0
+pub no-new-cells : (before after : Floo.Machine) → length (after .store) ≡ length (before .store) → newCells before after ≡ 0
 unfolding newCells sumOf
 no-new-cells before after h = rw (drop-of-length-le (after .store) {i = length (before .store)} (omega arith)) refl
 

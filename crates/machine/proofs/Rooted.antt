@@ -59,7 +59,7 @@ module _ (i : ℕ) where
 
 -- ---- the roots of a machine, as values
 
-abbrev bindings : List Slot → List Value
+abbrev pub bindings : List Slot → List Value
 bindings d = map (λ (s : Slot). bound (s .binding)) d
 
 binding-value : (d : List Slot) (j : ℕ) → bindingAt d j ≡ getD (bindings d) j null
@@ -68,7 +68,7 @@ binding-value [] j = refl
 binding-value (s ∷ d) zero = refl
 binding-value (s ∷ d) (suc j) = binding-value d j
 
-abbrev rootValues : Machine → List Value
+abbrev pub rootValues : Machine → List Value
 rootValues μ = μ .stack ++ bindings (μ .dictionary) ++ map frameValue (μ .exec)
 
 gather-append : (a b : List Value) → gather ofValue (a ++ b) ≡ gather ofValue a ++ gather ofValue b
@@ -94,7 +94,7 @@ unfolding ofBinding ofValue
 binding-names none = refl
 binding-names (some v) = refl
 
-listed : (μ : Machine) → Held.roots μ ≡ gather ofValue (rootValues μ)
+pub listed : (μ : Machine) → Held.roots μ ≡ gather ofValue (rootValues μ)
 unfolding Held.roots
 listed μ =
     let b = bindings (μ .dictionary) in
@@ -105,7 +105,7 @@ listed μ =
     ∙ ap (λ x. x ++ gather ofValue f) (sym (gather-append (μ .stack) b))
     ∙ sym (gather-append (μ .stack ++ b) f)
 
-map-self : (l : List Value) → map (λ v. v) l ≡ l
+pub map-self : (l : List Value) → map (λ v. v) l ≡ l
 map-self [] = refl
 map-self (v ∷ l) = ap (λ x. v ∷ x) (map-self l)
 

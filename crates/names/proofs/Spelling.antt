@@ -1,14 +1,15 @@
 -- The name in a slot, by its words: the slots' words stand for the dictionary one by one. And the operators' names have the first slots.
 -- Assumes nothing.
 use mathlib.Core.Path.{_≡_, sym, ap, _∙_, subst}
-use mathlib.Core.List.{List, [], _∷_, _++_, map}
+use mathlib.Core.List.{List, [], _++_, map}
 use mathlib.Core.Option.{some}
 use Prim.Native.Nat.{ℕ, zero, suc, _+_, _*_, _/_, _%_, _≤_, _<_}
 use native.Mathlib.Omega.{arith}
-use lib.ListN.{length, getD, getElem?, drop, take-append-drop}
+use lib.ListN.{length, getD, getElem?, drop, take-append-drop, length-map}
 use Rattle.semantics.specs.Values.{Value}
 use Rattle.semantics.specs.Machine as Floo
 use Rattle.semantics.specs.Machine.{Slot}
+use Rattle.semantics.specs.ListLaws.{inside-list}
 use Rattle.store.specs.Rep.{titles, byteOf}
 use Rattle.store.proofs.Standing.{getElem?-append}
 use Rattle.machine.specs.Places.{keys}
@@ -33,11 +34,6 @@ module _ {Is : Value → ℕ → ℕ → Type 0} {words : List ℕ} where
       let same : suc d + k ≡ d + suc k = omega arith in
       subst (λ k. Keyed Is words k n) same (keyed r k n e)
 
-below : (l : List Slot) (k : ℕ) (n : List ℕ) → getElem? (map (λ (s : Slot). s .key) l) k ≡ some n → k < length l
-below [] k n e = let z : _≡_ {A = ℕ} 0 1 = cc in absurd (omega arith)
-below (s ∷ l) zero n e = omega arith
-below (s ∷ l) (suc k) n e = let h = below l k n e in omega arith
-
 module _ {m : Machine} {s e d c l : List ℕ} {μ : Floo.Machine} (R : Rep m s e d c l μ) where
   -- The operators' names have the first slots.
   pub title-slot : (k : ℕ) (o : List ℕ) → getElem? titles k ≡ some o → getElem? (keys μ) k ≡ some o
@@ -48,7 +44,7 @@ module _ {m : Machine} {s e d c l : List ℕ} {μ : Floo.Machine} (R : Rep m s e
   module _ (k : ℕ) (n : List ℕ) (q : getElem? (keys μ) k ≡ some n) where
     -- A name's slot lies within the words.
     pub slot-inside : 12 * k + 12 ≤ length d
-    slot-inside = omega (arith, below (μ .dictionary) k n q, R .names, R .dict-room)
+    slot-inside = omega (arith, inside-list (keys μ) k q, length-map (μ .dictionary) (λ (s : Slot). s .key), R .names, R .dict-room)
 
     here : Keyed (IsIn (R .world) μ) d k n
     here =

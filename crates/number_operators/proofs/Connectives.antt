@@ -13,7 +13,6 @@ use Rattle.semantics.specs.NumberOperators.{logical, logical2, connective, nega
 use Rattle.semantics.specs.ListLaws.{nil, cons}
 use Rattle.semantics.specs.declared.Error.{Error}
 use Rattle.store.specs.Rep.{bit}
-use Rattle.machine.specs.Places.{Nameless}
 use Rattle.machine.specs.Operands.{Scalar, an-integer, a-boolean, OneLogicalIs, TwoLogicalIs, FetchesOneLogical, FetchesTwoLogical, Replaces}
 use Rattle.machine.specs.Room.{lent, DoesStack}
 use Rattle.machine.specs.declared.Machine.{Machine}
@@ -25,10 +24,7 @@ use Rattle.machine.specs.declared.TwoLogical.the-variants as TwoL
 use Rattle.machine.proofs.Operands.{pop1-some, pop2-some}
 use Rattle.machine.proofs.Rooms.{fitted-fails}
 use Rattle.machine.proofs.Results.{result-fits}
-use Rattle.number_operators.proofs.Shapes.{integer-nameless}
-
-boolean-nameless : {b : Bool} → Nameless (boolean b)
-boolean-nameless = record { none = λ t. t }
+use Rattle.machine.proofs.Naming.{boolean-nameless, integer-nameless}
 
 -- How many operands a known answer has shown to be there.
 pub low-of : {A : Type 0} (low : A → ℕ) {r x : A} {n : ℕ} → r ≡ x → low r ≤ n → low x ≤ n

@@ -12,7 +12,6 @@ use Rattle.semantics.specs.Machine as Floo
 use Rattle.semantics.specs.Machine.{withStack, push}
 use Rattle.semantics.specs.ListLaws.{nil, cons}
 use Rattle.semantics.specs.declared.Error.{Error}
-use Rattle.machine.specs.Places.{Nameless}
 use Rattle.machine.specs.Operands.{Scalar, OneIs, TwoIs, FetchesOne, FetchesTwo, Replaces}
 use Rattle.machine.specs.Room.{lent, DoesStack}
 use Rattle.machine.specs.declared.Machine.{Machine}
@@ -23,12 +22,10 @@ use Rattle.machine.specs.declared.TwoInts.{TwoInts}
 use Rattle.machine.specs.declared.TwoInts.the-variants as Two
 use Rattle.word.proofs.Words.{word-signed}
 use Rattle.machine.proofs.Outcomes.{one-fault, one-value, two-fault, two-values}
+use Rattle.machine.proofs.Naming.{integer-nameless}
 pub use Rattle.machine.proofs.Outcomes.{onOne, onTwo, one-low, two-low}
 use Rattle.machine.proofs.Rooms.{fitted-fails}
 use Rattle.machine.proofs.Results.{result-fits}
-
-pub integer-nameless : {w : ℕ} → Nameless (integer w)
-integer-nameless = record { none = λ t. t }
 
 -- ---- two integers
 

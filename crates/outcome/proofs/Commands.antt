@@ -4,9 +4,9 @@ use mathlib.Core.Path.{_≡_, refl, sym, ap, _∙_, subst}
 use mathlib.Core.Bool.{true}
 use mathlib.Core.List.{List, [], _∷_, _++_, append-assoc}
 use mathlib.Core.Option.{some}
-use Prim.Native.Nat.{ℕ, zero, suc, _+_, _-_, _≤_, _<_}
+use Prim.Native.Nat.{ℕ, _+_, _-_, _≤_, _<_}
 use native.Mathlib.Omega.{arith}
-use lib.ListN.{length, getD, getElem?, set, take, drop, length-take, length-map}
+use lib.ListN.{length, getD, getElem?, set, take, drop, length-take}
 use Rattle.semantics.specs.Text.{bytes}
 use Rattle.semantics.specs.Values.{name}
 use Rattle.semantics.specs.Machine as Floo
@@ -15,12 +15,12 @@ use Rattle.semantics.specs.Steps as Steps
 use Rattle.semantics.specs.Outcome.{errorText, line, endingLines}
 use Rattle.semantics.specs.OutcomeLaws.{error-length}
 use Rattle.semantics.specs.ShortSteps.{nameText-length}
-use Rattle.semantics.specs.Operators.{Entry, table}
-use Rattle.semantics.specs.NameLaws.{operator-count}
 use Rattle.semantics.specs.declared.Error.{Error}
+use Rattle.semantics.specs.ListLaws.{an-element}
 use Rattle.store.specs.Rep.{titles, an-executable}
 use Rattle.text.specs.Writing.{Written}
 use Rattle.text.proofs.Pasting.{nothing, then, last, respelt}
+use Rattle.store.proofs.Standing.{titles-count}
 use Rattle.names.proofs.Spelling.{title-slot, size-is}
 use Rattle.printing.specs.Shown as Shown
 use Rattle.printing.specs.Shown.{WithRoom, Writes}
@@ -37,14 +37,8 @@ use Rattle.outcome.proofs.Beginnings.{title-plain}
 
 -- ---- a name by its slot
 
-there : (l : List (List ℕ)) (k : ℕ) → k < length l → getElem? l k ≡ some (getD l k [])
-there [] k h = absurd (omega arith)
-there (a ∷ l) zero h = refl
-there (a ∷ l) (suc k) h = there l k (omega arith)
-
 title-there : (k : ℕ) → k < 54 → getElem? titles k ≡ some (getD titles k [])
-unfolding titles
-title-there k h = there titles k (omega (arith, h, length-map table (λ (e : Entry). e .title), operator-count))
+title-there k h = an-element titles k [] (omega (arith, h, titles-count))
 
 module _ {m : Machine} {s e d c l : List ℕ} {μ : Floo.Machine} (R : Rep m s e d c l μ) (k : ℕ) {n : List ℕ} (q : getElem? (keys μ) k ≡ some n) where
   -- An executable name's two words.
@@ -86,7 +80,7 @@ module _ {script d c : List ℕ} {command : Command} {k : ℕ} where
   unfolding commandText echoedTo shown
   name-slot q m s e l μ R h =
       let few : k < length (keys μ) = subst (λ x. IsCommand script (keys μ) x) q h in
-      record { text = getD (keys μ) k []; slot = there (keys μ) k few; same = ap (commandText script (keys μ)) q }
+      record { text = getD (keys μ) k []; slot = an-element (keys μ) k [] few; same = ap (commandText script (keys μ)) q }
 
   -- Both are written as the executable name in that slot.
   module _ (slotted : Slotting script d c command k) where

@@ -4,7 +4,7 @@ use mathlib.Core.Path.{_≡_, ap, _∙_}
 use mathlib.Core.List.{List, []}
 use Prim.Native.Nat.{ℕ, _+_, _-_, _≤_, _<_}
 use native.Mathlib.Omega.{arith}
-use lib.ListN.{length, set, length-set, length-take}
+use lib.ListN.{length, set, length-set}
 use Rattle.semantics.specs.Text.{bytes, decimal}
 use Rattle.semantics.specs.TextLaws.{decimal-length}
 use Rattle.semantics.specs.Machine as Floo
@@ -19,6 +19,7 @@ use Rattle.machine.specs.Rep.{Rep, Somewhere}
 use Rattle.machine.specs.declared.Machine.{Machine}
 use Rattle.machine.proofs.Rooted.{rooted}
 use Rattle.machine.proofs.Outcomes.{stack-depth}
+use Rattle.machine.proofs.Rooms.{logged-length}
 use Rattle.elements.specs.Elements.{freeCells}
 use Rattle.outcome.specs.Reports.{CountsRoom, WritesCounts, countLines}
 
@@ -98,10 +99,9 @@ module _ {m : Machine} {at : ℕ} {c : List ℕ} {next : ℕ} {out : List ℕ} (
               says = λ s e d l μ R.
                   let low : next ≤ length out = omega (arith, N .fits) in
                   let is-held : heldCells μ ≡ held = omega (arith, f, h, held-room R) in
-                  let is-log : length (μ .log) ≡ m .written = omega (arith, ap length (R .logged), length-take (m .written) l, R .log-room) in
                   respelt
                   (ap (λ n. countLines at steps n (heldCells μ) (length (μ .log))) (stack-depth R)
                   ∙ ap (λ n. countLines at steps (m .depth) n (length (μ .log))) is-held
-                  ∙ ap (λ n. countLines at steps (m .depth) held n) is-log)
+                  ∙ ap (λ n. countLines at steps (m .depth) held n) (logged-length R))
                   (then low (then low (then low (then low at-line steps-line) depth-line) held-line) log-line);
             }

@@ -15,7 +15,7 @@ use Rattle.machine.specs.Rep.{Rep}
 use Rattle.machine.specs.declared.Machine.{Machine}
 use Rattle.elements.specs.Elements.{HasString, HasByte, SomewhereThat, ByteOf}
 use Rattle.strings.specs.Strings.{CurrentSize}
-use Rattle.printing.proofs.Letters.{current-at, current-long}
+use Rattle.strings.proofs.Prefixes.{current-byte, current-few}
 use Rattle.output_operators.specs.Output.{CopiesCurrent}
 
 pub record Copied (m : Machine) (s c : List ℕ) (q : ℕ) (old new : List ℕ) : Type 0 where
@@ -36,7 +36,7 @@ module _ {m : Machine} {s c : List ℕ} {n : ℕ} (Z : CurrentSize 0 m s c n) {q
   pub has-byte : SomewhereThat (HasString 0) m s c → q < n → SomewhereThat (HasByte 0 q) m s c
   has-byte (e, d, l, μ, R, a) h =
       let size = Z .says e d l μ R (a .id) (a .item) in
-      (e, d, l, μ, R, record { string = a; inside = omega (arith, h, size, current-long (bytesOf (object μ (a .id)))) })
+      (e, d, l, μ, R, record { string = a; inside = omega (arith, h, size, current-few (bytesOf (object μ (a .id)))) })
 
   module _ {old new : List ℕ} (T : Copied m s c q old new) (room : m .written + n ≤ length old) where
     pub copied-again : {b : ℕ} → q < n → ByteOf 0 q m s c b → Copied m s c (q + 1) old (set new (m .written + q) b)
@@ -47,7 +47,7 @@ module _ {m : Machine} {s c : List ℕ} {n : ℕ} (Z : CurrentSize 0 m s c n) {q
               let bs = current (bytesOf (object μ id)) in
               let size = Z .says e d l μ R id x in
               let low : q < length bs = omega (arith, inside, size) in
-              let byte : getD bs q 0 ≡ b = current-at (bytesOf (object μ id)) q low ∙ sym (B .says e d l μ R id x) in
+              let byte : getD bs q 0 ≡ b = current-byte (bytesOf (object μ id)) q low ∙ sym (B .says e d l μ R id x) in
               subst (λ v. Written (m .written) (take (q + 1) bs) old (set new (m .written + q) v) (m .written + (q + 1))) byte
               (next (m .written) q bs low (omega (arith, room, size)) (T .says e d l μ R id x));
         }

@@ -6,14 +6,13 @@ use mathlib.Core.List.{List, _++_}
 use Prim.Native.Nat.{ℕ, zero, suc, _+_, _/_, _%_, _≤_, _<_}
 use native.Mathlib.Omega.{arith}
 use borrow.Author.Tests.{le-leb, lt-leb}
-use lib.ListN.{length, take, drop, length-append, length-drop, drop-of-length-le}
+use lib.ListN.{length, take, drop, length-append, length-drop}
 use lib.Seq.{length-take-le, take-at, drop-at}
 use Rattle.semantics.specs.Values.{Result, ok, fault, _>>=_, check}
 use Rattle.semantics.specs.Machine as Floo
 use Rattle.semantics.specs.Machine.{withStack, write}
 use Rattle.semantics.specs.ObjectOperators.{pasted}
-use Rattle.semantics.specs.Held.{sumOf}
-use Rattle.semantics.specs.Steps.{Limits, roomFor, newCells, cellsFor}
+use Rattle.semantics.specs.Steps.{Limits, roomFor, cellsFor}
 use Rattle.semantics.specs.declared.Error.{Error}
 use Rattle.semantics.specs.declared.Error.the-variants.{IoError}
 use Rattle.store.specs.Rep.{Names}
@@ -25,7 +24,7 @@ use Rattle.machine.specs.Rep.{Rep, MovesHeap}
 use Rattle.machine.specs.Room.{lent, fitted}
 use Rattle.machine.specs.declared.Machine.{Machine}
 use Rattle.machine.specs.declared.Did.the-variants.{Ok, Fail}
-use Rattle.machine.proofs.Rooms.{dictionary-fits, exec-fits, stack-fits, room-passes}
+use Rattle.machine.proofs.Rooms.{dictionary-fits, exec-fits, stack-fits, room-passes, logged-length, no-new-cells}
 use Rattle.machine.specs.Moves.{dropped}
 use Rattle.output_operators.specs.Output.{DoesLog}
 
@@ -62,9 +61,6 @@ past {at} {r} {t} {l} {l′} h w =
     ∙ ap (λ (n : ℕ). drop n l) (sym (w .end))
 
 module _ {m : Machine} {s e d c l : List ℕ} {μ : Floo.Machine} (R : Rep m s e d c l μ) where
-  pub written-is : length (μ .log) ≡ m .written
-  written-is = ap length (sym (R .logged)) ∙ length-take-le (m .written) l (R .log-room)
-
   pub logged-rep : {t l′ : List ℕ} {r : ℕ}
       → Written (m .written) t l l′ r
       → m .written + length t ≤ length l
@@ -99,10 +95,6 @@ module _ {m : Machine} {s e d c l : List ℕ} {μ : Floo.Machine} (R : Rep m s e
 
 -- ---- the test of room
 
-no-cells : (before after : Floo.Machine) → length (after .store) ≡ length (before .store) → newCells before after ≡ 0
-unfolding newCells sumOf
-no-cells before after h = rw (drop-of-length-le (after .store) {i = length (before .store)} (omega arith)) refl
-
 -- Only the log is too short.
 room-log : (limits : Limits) (before after : Floo.Machine)
     → length (after .dictionary) ≤ limits .dictionarySlots
@@ -113,7 +105,7 @@ room-log : (limits : Limits) (before after : Floo.Machine)
     → roomFor limits before after ≡ fault IoError
 unfolding roomFor check _>>=_ cellsFor
 room-log limits before after dictionary exec stack store log =
-    rw (le-leb _ _ dictionary, le-leb _ _ exec, le-leb _ _ stack, no-cells before after store, lt-leb _ _ log) refl
+    rw (le-leb _ _ dictionary, le-leb _ _ exec, le-leb _ _ stack, no-new-cells before after store, lt-leb _ _ log) refl
 
 -- ---- returns
 
@@ -157,7 +149,7 @@ module _ {f : Floo.Machine → Result Floo.Machine} (g : Floo.Machine → Floo.M
             let dictionary : length (g μ .dictionary) ≤ length d / 12 = omega (arith, G .dictionary μ, dictionary-fits R) in
             let exec : length (g μ .exec) ≤ length e / 8 = omega (arith, G .exec μ, exec-fits R) in
             let stack : length (g μ .stack) ≤ length s / 2 = omega (arith, G .stack μ, stack-fits R) in
-            let log : length l < length (g μ .log ++ t .0) = omega (arith, long, t .2, G .log μ, written-is R) in (
+            let log : length l < length (g μ .log ++ t .0) = omega (arith, long, t .2, G .log μ, logged-length R) in (
               ap (λ q. q >>= roomFor (lent s e d c l) μ) (t .1)
                   ∙ room-log (lent s e d c l) μ (write (t .0) (g μ)) dictionary exec stack (G .store μ) log,
               (refl, refl),
@@ -179,12 +171,12 @@ module _ {f : Floo.Machine → Result Floo.Machine} (g : Floo.Machine → Floo.M
         does = λ e μ R.
             let t = h e μ R in
             let after = M .moves e d l μ R in
-            let same : m .written ≡ m′ .written = sym (written-is R) ∙ sym (G .log μ) ∙ written-is after in
+            let same : m .written ≡ m′ .written = sym (logged-length R) ∙ sym (G .log μ) ∙ logged-length after in
             let text = subst (λ n. Written n (t .0) l l′ r) same (t .2) in
             let dictionary : length (g μ .dictionary) ≤ length d / 12 = omega (arith, G .dictionary μ, dictionary-fits R) in
             let exec : length (g μ .exec) ≤ length e / 8 = omega (arith, G .exec μ, exec-fits R) in
             let stack : length (g μ .stack) ≤ length s / 2 = omega (arith, G .stack μ, stack-fits R) in
-            let log : length (g μ .log ++ t .0) ≤ length l = omega (arith, length-append (g μ .log) (t .0), t .3, G .log μ, written-is R) in (
+            let log : length (g μ .log ++ t .0) ≤ length l = omega (arith, length-append (g μ .log) (t .0), t .3, G .log μ, logged-length R) in (
               write (t .0) (g μ),
               ap (λ q. q >>= roomFor (lent s e d c l) μ) (t .1)
                   ∙ room-passes (lent s e d c l) μ (write (t .0) (g μ)) dictionary exec stack (G .store μ) log,

@@ -13,8 +13,7 @@ use Rattle.semantics.specs.TextOperators.{print, echo, echostack}
 use Rattle.semantics.specs.Operators.{perform, find, table, _is_}
 use Rattle.semantics.specs.declared.Error.the-variants.{StackUnderflow, TypeCheck}
 use Rattle.machine.specs.Moves.{dropped}
-use Rattle.machine.proofs.Operands.{pop1-some}
-use Rattle.machine.proofs.Outcomes.{pop1-under}
+use Rattle.machine.proofs.Operands.{pop1-some, pop1-under}
 
 print-is : (μ : Machine) → perform (bytes "print") μ ≡ print μ
 unfolding textual perform find table _is_

@@ -1,12 +1,13 @@
 -- What print and echo come to at each of their returns.
 -- Assumes nothing.
-use mathlib.Core.Path.{_≡_, refl, sym, _∙_}
+use mathlib.Core.Path.{_≡_, sym, _∙_}
 use mathlib.Core.List.{List, [], _∷_, _++_}
 use Prim.Native.Nat.{ℕ, _+_, _-_, _*_, _≤_, _<_}
 use native.Mathlib.Omega.{arith}
 use lib.ListN.{length, getD, set, drop, length-append}
+use lib.Seq.{drop-cons}
 use Rattle.semantics.specs.Text.{bytes}
-use Rattle.semantics.specs.Values.{Value, integer, boolean, null, mark, operator, name, string, array, fault, stringId, current}
+use Rattle.semantics.specs.Values.{null, string, current}
 use Rattle.semantics.specs.Machine as Floo
 use Rattle.semantics.specs.Machine.{object, bytesOf}
 use Rattle.semantics.specs.Printing.{echoed}
@@ -20,30 +21,13 @@ use Rattle.machine.specs.declared.Machine.{Machine}
 use Rattle.machine.specs.declared.Did.the-variants.{Ok, Fail}
 use Rattle.machine.proofs.Copying.{word-of}
 use Rattle.machine.proofs.Outcomes.{stack-depth}
-use Rattle.elements.specs.Elements.{tagOf, ItemTag, HasString, SomewhereThat}
-use Rattle.elements.proofs.Tags.{tag-string}
+use Rattle.elements.specs.Elements.{ItemTag, HasString, SomewhereThat}
+use Rattle.elements.proofs.Tags.{tag-string, tag-no-string}
 use Rattle.strings.specs.Strings.{CurrentSize}
 use Rattle.printing.specs.Shown.{cut, Known, WithRoom, Measures, Writes}
 use Rattle.output_operators.specs.Output.{DoesLog, SomewhereLog, CopiesCurrent}
 use Rattle.output_operators.proofs.Logging.{withWritten, past, fails-log, over-log, writes-log, dropped-keeps}
 use Rattle.output_operators.proofs.Named.{print-under, print-wrong, print-done, echo-under, echo-done}
-
--- ---- the topmost item
-
-top-item : (l : List Value) → 1 ≤ length l → l ≡ getD l 0 null ∷ drop 1 l
-top-item [] h = absurd (omega arith)
-top-item (v ∷ l) h = refl
-
-tag-no-string : (v : Value) → (tagOf v ≡ 8 → ⊥) → stringId v ≡ fault TypeCheck
-unfolding tagOf stringId
-tag-no-string null h = refl
-tag-no-string (integer w) h = refl
-tag-no-string (boolean b) h = refl
-tag-no-string mark h = refl
-tag-no-string (operator o) h = refl
-tag-no-string (name x n) h = refl
-tag-no-string (string i) h = absurd (h refl)
-tag-no-string (array x i) h = refl
 
 pub nowhere-else : {m : Machine} {s d c l : List ℕ} → SomewhereLog m s d c l → Somewhere m s c
 nowhere-else {d = d} {l = l} w = (w .0, d, l, w .1, w .2)
@@ -63,7 +47,7 @@ module _ {m : Machine} {s c l : List ℕ} (d : List ℕ) where
 
 module _ {m : Machine} {s : List ℕ} (some : 1 ≤ m .depth) where
   split : {e d c l : List ℕ} {μ : Floo.Machine} → Rep m s e d c l μ → μ .stack ≡ getD (μ .stack) 0 null ∷ drop 1 (μ .stack)
-  split {μ = μ} R = top-item (μ .stack) (omega (arith, some, stack-depth R))
+  split {μ = μ} R = drop-cons (μ .stack) 0 null (omega (arith, some, stack-depth R))
 
   -- ---- print
 

@@ -19,9 +19,10 @@ use Rattle.machine.specs.Rep.{Rep, IsIn}
 use Rattle.machine.specs.declared.Machine.{Machine}
 use Rattle.elements.proofs.Arrays.{Found}
 use Rattle.strings.proofs.Currents.{Scans, scans-zero, scans-more, scans-all}
+use Rattle.strings.proofs.Prefixes.{current-byte}
 use Rattle.printing.specs.Shown.{KnownString, StringRoom, StringByte, CurrentSize, StringSize, StringWrites}
 use Rattle.printing.proofs.Headers.{most-is, byte-at}
-use Rattle.printing.proofs.Letters.{string-short, current-at, sum-more, byte-fits, text-more, sum-all, text-all}
+use Rattle.printing.proofs.Letters.{string-short, sum-more, byte-fits, text-more, sum-all, text-all}
 
 -- ---- a byte
 
@@ -88,7 +89,7 @@ module _ {c : List ℕ} {h size : ℕ} (Z : CurrentSize c h size) where
       → IsIn (R .world) μ (string id) t h
       → b ≡ getD (current (bytesOf (object μ id))) q 0
   byte-current {q} inside B m s e d l μ R id t I =
-      B .says m s e d l μ R id t I ∙ sym (current-at (bytesOf (object μ id)) q (omega (arith, inside, Z .says m s e d l μ R id t I)))
+      B .says m s e d l μ R id t I ∙ sym (current-byte (bytesOf (object μ id)) q (omega (arith, inside, Z .says m s e d l μ R id t I)))
 
   module _ {q : ℕ} (inside : q < size) {b : ℕ} (B : StringByte c h q b) where
     pub sum-again : {sum len : ℕ} → StringSum c h q sum → len ≡ length (stringByte b) → StringSum c h (q + 1) (sum + len)

@@ -10,17 +10,16 @@ use Rattle.semantics.specs.Values.{null, string, array}
 use Rattle.semantics.specs.Machine as Floo
 use Rattle.semantics.specs.Machine.{object, elementsOf, bytesOf}
 use Rattle.heap.specs.Word.{word}
-use Rattle.heap.specs.Chain.{live, on}
-use Rattle.heap.specs.Shape.{Ghost, Shape}
+use Rattle.heap.specs.Chain.{on}
 use Rattle.heap.proofs.Shapes.{room}
 use Rattle.store.specs.Rep.{Stands, byteOf, objectAt}
-use Rattle.store.proofs.Bytes.{byte-read}
 use Rattle.store.proofs.Elements.{element-read, body-alives}
 use Rattle.machine.specs.Places.{keys, texts}
 use Rattle.machine.specs.Rep.{Rep, IsIn}
 use Rattle.machine.specs.declared.Machine.{Machine}
+use Rattle.elements.specs.Elements.{HasCell}
 use Rattle.elements.proofs.Arrays.{ArrayAt, array-at, Found}
-use Rattle.elements.proofs.Strings.{StringAt, string-at}
+use Rattle.elements.proofs.Strings.{StringAt, string-at, byte-here, cell-here, read-here}
 
 -- The cell after cell q of a body is cell q + 1.
 found-next : (c : List ℕ) (h q cell : ℕ) → Found c h q cell → Found c h (q + 1) (word c cell 2)
@@ -30,10 +29,6 @@ found-next c h q cell found g n S lives r z =
 
 pub found-after : (c : List ℕ) (h q cell r : ℕ) → Found c h q cell → r ≡ word c cell 2 → Found c h (q + 1) r
 found-after c h q cell r found e = rw e (found-next c h q cell found)
-
--- `seek` can be asked for cell q.
-abbrev pub Sought : List ℕ → ℕ → ℕ → Type 0
-Sought c h q = (g : Ghost) × (n : ℕ) × Shape g n c × (g .own h ≡ live) × (q < g .size (h + 2))
 
 module _ {m : Machine} {st e d c l : List ℕ} {μ : Floo.Machine} (R : Rep m st e d c l μ) {h t : ℕ} where
   -- ---- strings
@@ -51,28 +46,18 @@ module _ {m : Machine} {st e d c l : List ℕ} {μ : Floo.Machine} (R : Rep m st
     string-room = room (R .stored .full .heap .shape) h (string-here .lives) refl
 
     module _ (q : ℕ) (inside : q + 1 < word c h 0) where
-      abbrev rank : ℕ
-      rank = R .world .ghost .size (h + 2) - suc (q / 8)
+      low : q < length (bytesOf (object μ id))
+      low = omega (arith, inside, most-is)
 
-      split : R .world .ghost .size (h + 2) ≡ q / 8 + suc rank
-      split = omega (arith, inside, string-here .kind, string-here .size)
-
-      pub byte-sought : Sought c h (q / 8)
-      byte-sought = (R .world .ghost, m .lists .edge, R .stored .full .heap .shape, string-here .lives, omega (arith, split))
+      pub byte-sought : HasCell c h (q / 8)
+      byte-sought = byte-here R h id q string-here low
 
       module _ (cell : ℕ) (found : Found c h (q / 8) cell) where
-        byte-cell : R .world .ghost .own cell ≡ on (h + 2) rank
-        byte-cell = found (R .world .ghost) (m .lists .edge) (R .stored .full .heap .shape) (string-here .lives) rank split
-
         pub byte-room : cell * 4 + 4 ≤ length c
-        byte-room = room (R .stored .full .heap .shape) cell byte-cell refl
+        byte-room = room (R .stored .full .heap .shape) cell (cell-here R h id q string-here low cell found) refl
 
         pub byte-at : byteOf (word c cell (q % 8 / 4)) (q % 8 % 4) ≡ getD (bytesOf (object μ id)) q 0
-        unfolding object
-        byte-at =
-            let low : q < length (bytesOf (objectAt (μ .store) (R .world .ρ h))) = omega (arith, inside, string-here .kind) in
-            byte-read (R .stored .objects) h (string-here .lives) cell rank q _ byte-cell (string-here .kind) split low
-            ∙ ap (λ j. getD (bytesOf (objectAt (μ .store) j)) q 0) (string-here .stands)
+        byte-at = read-here R h id q string-here low cell found
 
   -- ---- arrays
 
@@ -95,7 +80,7 @@ module _ {m : Machine} {st e d c l : List ℕ} {μ : Floo.Machine} (R : Rep m st
       splits : R .world .ghost .size (h + 2) ≡ q + suc after
       splits = omega (arith, inside, array-here .size)
 
-      pub cell-sought : Sought c h q
+      pub cell-sought : HasCell c h q
       cell-sought = (R .world .ghost, m .lists .edge, R .stored .full .heap .shape, array-here .lives, omega (arith, splits))
 
       module _ (cell : ℕ) (found : Found c h q cell) where

@@ -1,14 +1,12 @@
 -- Loops over bytes that are measured or written one by one: by the text of the first bytes, a byte more each turn.
 -- Assumes nothing.
-use mathlib.Core.Path.{_≡_, refl, ap, _∙_, subst}
-use mathlib.Core.Bool.{Bool, true, false}
-use mathlib.Core.List.{List, [], _∷_}
-use Prim.Native.Nat.{ℕ, zero, suc, _+_, _≤_, _<_}
+use mathlib.Core.Path.{_≡_, ap, _∙_, subst}
+use mathlib.Core.Bool.{true, false}
+use mathlib.Core.List.{List, []}
+use Prim.Native.Nat.{ℕ, _+_, _≤_, _<_}
 use native.Mathlib.Omega.{arith}
-use lib.Dec.{eqb}
 use lib.ListN.{length, getD, take}
 use lib.Seq.{take-all}
-use Rattle.semantics.specs.Values.{current}
 use Rattle.semantics.specs.Printing.{escaped, stringByte, nameByte}
 use Rattle.text.specs.Writing.{Written, byteText}
 use Rattle.text.proofs.Escapes.{byte-short, escaped-longer, escaped-part, escaped-next}
@@ -20,41 +18,6 @@ string-short b = byte-short true b
 pub name-short : (b : ℕ) → length (nameByte b) ≤ 4
 unfolding byteText
 name-short b = byte-short false b
-
--- ---- current bytes
-
-current-stops : (b : ℕ) (l : List ℕ) → eqb b 0 ≡ true → current (b ∷ l) ≡ []
-unfolding current
-current-stops b l z = rw (z, current) refl
-
-current-goes : (b : ℕ) (l : List ℕ) → eqb b 0 ≡ false → current (b ∷ l) ≡ b ∷ current l
-unfolding current
-current-goes b l z = rw (z, current) refl
-
-abbrev CurrentAt : List ℕ → Type 0
-CurrentAt l = (q : ℕ) → q < length (current l) → getD (current l) q 0 ≡ getD l q 0
-
-current-by : (b : ℕ) (l : List ℕ) → CurrentAt l → (t : Bool) → eqb b 0 ≡ t → CurrentAt (b ∷ l)
-current-by b l rest true z q h = absurd (omega (arith, h, ap length (current-stops b l z)))
-current-by b l rest false z zero h = ap (λ (t : List ℕ). getD t 0 0) (current-goes b l z)
-current-by b l rest false z (suc q) h =
-    let low : q < length (current l) = omega (arith, h, ap length (current-goes b l z)) in
-    ap (λ (t : List ℕ). getD t (suc q) 0) (current-goes b l z) ∙ rest q low
-
--- A current byte.
-pub current-at : (l : List ℕ) → CurrentAt l
-unfolding current
-current-at [] = λ q h. absurd (omega arith)
-current-at (b ∷ l) = current-by b l (current-at l) (eqb b 0) refl
-
-long-by : (b : ℕ) (l : List ℕ) → length (current l) ≤ length l → (t : Bool) → eqb b 0 ≡ t → length (current (b ∷ l)) ≤ length (b ∷ l)
-long-by b l rest true z = omega (arith, ap length (current-stops b l z))
-long-by b l rest false z = omega (arith, ap length (current-goes b l z), rest)
-
-pub current-long : (l : List ℕ) → length (current l) ≤ length l
-unfolding current
-current-long [] = omega arith
-current-long (b ∷ l) = long-by b l (current-long l) (eqb b 0) refl
 
 -- ---- a byte more
 

@@ -16,9 +16,10 @@ use Rattle.machine.specs.Rep.{Rep, IsIn}
 use Rattle.machine.specs.declared.Machine.{Machine}
 use Rattle.text.specs.Writing.{Written}
 use Rattle.text.proofs.Pasting.{respelt, nothing, first, last, then}
+use Rattle.elements.specs.Elements.{HasCell}
 use Rattle.elements.proofs.Arrays.{Found}
 use Rattle.printing.specs.Shown.{cut, Known, WithRoom, Measures, Writes, PlainRoom, PlainSize, PlainWrites, openingOf, byteAfter, shortText}
-use Rattle.printing.proofs.Headers.{Sought, count-is, array-room, cell-sought, cell-room, element-is}
+use Rattle.printing.proofs.Headers.{count-is, array-room, cell-sought, cell-room, element-is}
 use Rattle.printing.proofs.Lists.{begun, begun-more, begun-longer, begun-part, arrayTag, text-deep, text-none, text-some}
 
 -- ---- what is no array
@@ -108,7 +109,7 @@ module _ {d c : List ℕ} {t p : ℕ} (big : 9 ≤ t) {m : Machine} {s e l : Lis
   -- ---- its elements' cells
 
   module _ (i : ℕ) (inside : i < word c p 1) where
-    member-sought : Sought c p i
+    member-sought : HasCell c p i
     member-sought = cell-sought R array-words i inside
 
     module _ (cell : ℕ) (found : Found c p i cell) where
@@ -129,7 +130,7 @@ module _ {d c : List ℕ} {t p : ℕ} (big : 9 ≤ t) (K : Known d c t p) where
   pub size-room : p * 4 + 4 ≤ length c
   size-room = header-room big (K .rep) (K .words)
 
-  pub first-sought : 0 < word c p 1 → Sought c p 0
+  pub first-sought : 0 < word c p 1 → HasCell c p 0
   first-sought h = member-sought big (K .rep) (K .words) 0 h
 
   module _ (i : ℕ) (inside : i < word c p 1) (cell : ℕ) (found : Found c p i cell) where

@@ -6,7 +6,6 @@ use mathlib.Core.List.{List, [], _∷_, _++_}
 use Prim.Native.Nat.{ℕ, suc, _+_, _-_, _≤_, _<_}
 use native.Mathlib.Omega.{arith}
 use lib.ListN.{length, drop}
-use lib.Seq.{length-take-le}
 use lib.Dec.{eqb}
 use Rattle.semantics.specs.Machine as Floo
 use Rattle.semantics.specs.Steps as steps
@@ -23,7 +22,7 @@ use Rattle.machine.specs.Places.{keys}
 use Rattle.machine.specs.Rep.{Rep}
 use Rattle.machine.specs.Room.{lent}
 use Rattle.machine.specs.declared.Machine.{Machine}
-use Rattle.machine.proofs.Rooms.{frames-length}
+use Rattle.machine.proofs.Rooms.{frames-length, logged-length}
 use Rattle.exactness.specs.Traces.{Along, nil, cons}
 use Rattle.exactness.proofs.Showing.{shows}
 use Rattle.exactness.proofs.Lists.{along-snoc}
@@ -40,9 +39,6 @@ use Rattle.run_loop.specs.History.{Moment, moment, begun, limitsOf, left
 
 exactly : {σ : State} {s e d c l : List ℕ} {μ : Floo.Machine} → Rep (σ .machine) s e d c l μ → Exactly (moment σ s e d c l) (stateOf σ μ)
 exactly R = record { next = refl; at = refl; steps = refl; stands = R; shows = shows R }
-
-logged-length : {m : Machine} {s e d c l : List ℕ} {μ : Floo.Machine} → Rep m s e d c l μ → length (μ .log) ≡ m .written
-logged-length {m} {l = l} R = ap length (sym (R .logged)) ∙ length-take-le (m .written) l (R .log-room)
 
 lent-same : (s s′ e e′ d d′ c c′ l l′ : List ℕ)
     → length s′ ≡ length s

@@ -25,6 +25,7 @@ pub mod TokenLaws
 pub mod GroupLaws
 pub mod RunLaws
 pub mod TextLaws
+pub mod SameLaws
 pub mod ShortLaws
 pub mod ShortOperators
 pub mod ShortSteps

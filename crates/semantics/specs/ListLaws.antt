@@ -1,14 +1,48 @@
--- What holds of each element of a list, and how the operations on lists keep it.
+-- What is at a place of a list; what holds of each element, and how the operations on lists keep it.
 -- Assumes nothing.
+use mathlib.Core.Path.{_≡_, refl, subst}
 use mathlib.Core.Bool.{Bool, true, false, _&&_}
 use mathlib.Core.List.{List, [], _∷_, _++_, map, reverse, reverseAux}
 use mathlib.Core.Option.{Option, none, some}
-use Prim.Native.Nat.{ℕ, zero, suc}
-use lib.ListN.{getD, take, drop, set, replicate, getElem?}
+use Prim.Native.Nat.{ℕ, zero, suc, _≤_, _<_}
+use native.Mathlib.Omega.{arith}
+use lib.ListN.{length, getD, take, drop, set, replicate, getElem?}
 use lib.Dec.{T}
 use Rattle.semantics.specs.Values.{given}
 use Rattle.semantics.specs.ResultLaws.{Gives, gives, fails}
 use Rattle.semantics.specs.declared.Error.{Error}
+
+-- ---- what is at a place
+
+pub some-one : {A : Type 0} {a b : A} → some a ≡ some b → a ≡ b
+some-one e = cc
+
+pub none-some : {A : Type 0} {a : A} → none ≡ some a → ⊥
+none-some e =
+    let z : _≡_ {A = ℕ} 0 1 = cc in
+    absurd (omega arith)
+
+pub no-element : {A : Type 0} (l : List A) (n : ℕ) → length l ≤ n → getElem? l n ≡ none
+no-element [] n h = refl
+no-element (x ∷ l) zero h = absurd (omega arith)
+no-element (x ∷ l) (suc n) h = no-element l n (omega arith)
+
+pub an-element : {A : Type 0} (l : List A) (n : ℕ) (d : A) → n < length l → getElem? l n ≡ some (getD l n d)
+an-element [] n d h = absurd (omega arith)
+an-element (x ∷ l) zero d h = refl
+an-element (x ∷ l) (suc n) d h = an-element l n d (omega arith)
+
+pub getD-known : {A : Type 0} (l : List A) (i : ℕ) (d : A) {x : A} → getElem? l i ≡ some x → getD l i d ≡ x
+getD-known [] i d q = absurd (none-some q)
+getD-known (y ∷ l) zero d q = some-one q
+getD-known (y ∷ l) (suc i) d q = getD-known l i d q
+
+pub inside-list : {A : Type 0} (l : List A) (i : ℕ) {x : A} → getElem? l i ≡ some x → i < length l
+inside-list [] i q = absurd (none-some q)
+inside-list (y ∷ l) zero q = omega arith
+inside-list (y ∷ l) (suc i) q = let h = inside-list l i q in omega arith
+
+-- ---- what holds of each element
 
 pub data All {A : Type 0} (P : A → Type 0) : List A → Type 0 where
   nil : All P []
@@ -23,17 +57,13 @@ abbrev pub every : {A : Type 0} → (A → Bool) → List A → Bool
 every p [] = true
 every p (a ∷ l) = p a && every p l
 
+pub both : (a b : Bool) → T (a && b) → T a × T b
+both true b t = (tt, t)
+both false b t = absurd t
+
 pub all-every : {A : Type 0} (p : A → Bool) (l : List A) → T (every p l) → All (λ a. T (p a)) l
 all-every p [] t = nil
-all-every p (a ∷ l) t = cons (first (p a) t) (all-every p l (rest (p a) t))
-  where
-    first : (b : Bool) → T (b && every p l) → T b
-    first true u = tt
-    first false u = u
-
-    rest : (b : Bool) → T (b && every p l) → T (every p l)
-    rest true u = u
-    rest false u = absurd u
+all-every p (a ∷ l) t = let q = both (p a) (every p l) t in cons (q .0) (all-every p l (q .1))
 
 -- What is there, if anything, has the property.
 pub data Maybe {A : Type 0} (P : A → Type 0) : Option A → Type 0 where
@@ -81,6 +111,11 @@ module _ {A : Type 0} {P : A → Type 0} where
   all-getElem? nil n = nothing
   all-getElem? (cons p ps) zero = just p
   all-getElem? (cons p ps) (suc n) = all-getElem? ps n
+
+  pub at-all : {l : List A} → All P l → (i : ℕ) (a : A) → getElem? l i ≡ some a → P a
+  at-all nil i a e = absurd (none-some e)
+  at-all (cons p ps) zero a e = subst P (some-one e) p
+  at-all (cons p ps) (suc i) a e = at-all ps i a e
 
   pub all-replicate : (n : ℕ) (a : A) → P a → All P (replicate n a)
   all-replicate zero a p = nil

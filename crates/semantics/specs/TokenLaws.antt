@@ -28,7 +28,7 @@ pub skip-le : (script : List ℕ) (offset : ℕ) → offset ≤ length script �
 unfolding skip blanks
 skip-le script offset h = (omega arith, omega (arith, blanksIn-le false (drop offset script), length-drop offset script))
 
-run-le : (s : List ℕ) → run s ≤ length s
+pub run-le : (s : List ℕ) → run s ≤ length s
 unfolding run
 run-le [] = omega arith
 run-le (b ∷ s) = choose (λ n. n ≤ suc (length s)) (isNameByte b) (suc (run s)) 0 (λ t. omega (arith, run-le s)) (λ t. omega arith)

@@ -10,8 +10,8 @@ use native.Mathlib.Omega.{arith}
 use lib.ListN.{length, take, drop, getD, length-take, drop-of-length-le}
 use lib.Seq.{getD-take, length-take-le}
 use lib.Dec.{eqb}
-use borrow.Author.Tests.{eq-eqb, ne-eqb}
 use Rattle.semantics.specs.Text.{same}
+use Rattle.semantics.specs.SameLaws.{heads-agree, heads-differ}
 
 same-shorter : (x y : List ℕ) → length x < length y → same x y ≡ false
 unfolding same
@@ -32,14 +32,14 @@ same-byte : (x y : List ℕ) (i : ℕ) → i < length x → i < length y → get
 unfolding same
 same-byte [] y i h k e = absurd (omega (arith, h))
 same-byte (a ∷ x) [] i h k e = absurd (omega (arith, k))
-same-byte (a ∷ x) (b ∷ y) zero h k e = rw (eq-eqb a b e, same)
+same-byte (a ∷ x) (b ∷ y) zero h k e = heads-agree x y e
 same-byte (a ∷ x) (b ∷ y) (suc i) h k e = same-byte x y i (omega (arith, h)) (omega (arith, k)) e
 
 other-byte : (x y : List ℕ) (i : ℕ) → i < length x → i < length y → (getD x i 0 ≡ getD y i 0 → ⊥) → same (drop i x) (drop i y) ≡ false
 unfolding same
 other-byte [] y i h k f = absurd (omega (arith, h))
 other-byte (a ∷ x) [] i h k f = absurd (omega (arith, k))
-other-byte (a ∷ x) (b ∷ y) zero h k f = rw (ne-eqb a b f, same)
+other-byte (a ∷ x) (b ∷ y) zero h k f = heads-differ x y f
 other-byte (a ∷ x) (b ∷ y) (suc i) h k f = other-byte x y i (omega (arith, h)) (omega (arith, k)) f
 
 -- ---- the first bytes of a script, against a header

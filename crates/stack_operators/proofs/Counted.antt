@@ -2,11 +2,11 @@
 -- Assumes nothing.
 use mathlib.Core.Path.{_≡_, refl, sym, ap, _∙_}
 use mathlib.Core.List.{List, [], _∷_, _++_, append-nil}
-use mathlib.Core.Option.{none, some}
-use Prim.Native.Nat.{ℕ, zero, suc, _+_, _-_, _%_, _^_, _≤_, _<_}
+use mathlib.Core.Option.{none}
+use Prim.Native.Nat.{ℕ, suc, _+_, _-_, _%_, _^_, _≤_, _<_}
 use native.Mathlib.Omega.{arith}
 use native.Mathlib.Numerals.{add-one}
-use lib.ListN.{length, getD, take, drop, set, getElem?, take-append-drop}
+use lib.ListN.{length, getD, take, drop, set, take-append-drop}
 use lib.Seq.{take-nil, drop-nil}
 use lib.Dec.{leb}
 use borrow.Author.Tests.{le-leb, lt-leb}
@@ -17,23 +17,12 @@ use Rattle.semantics.specs.Machine.{Machine, withStack, push}
 use Rattle.semantics.specs.Operators.{perform}
 use Rattle.semantics.specs.StackOperators.{modulo}
 use Rattle.semantics.specs.declared.Error.the-variants.{StackUnderflow, RangeCheck}
+use Rattle.semantics.specs.ListLaws.{no-element, an-element}
 use Rattle.word.proofs.Words.{signed-low, signed-high}
 use Rattle.machine.specs.Moves.{dropped, copiedOver}
 use Rattle.machine.proofs.Outcomes.{KeepsStore, one-value, two-values}
 use Rattle.stack_operators.specs.Rearranged.{doubled, rollAt, rolled}
 use Rattle.stack_operators.proofs.Named.{picking, copying, rolling, index-is, copy-is, roll-is}
-
--- ---- an item by its place
-
-no-element : (l : List Value) (n : ℕ) → length l ≤ n → getElem? l n ≡ none
-no-element [] n h = refl
-no-element (x ∷ l) zero h = absurd (omega arith)
-no-element (x ∷ l) (suc n) h = no-element l n (omega arith)
-
-element : (l : List Value) (n : ℕ) → n < length l → getElem? l n ≡ some (getD l n null)
-element [] n h = absurd (omega arith)
-element (x ∷ l) zero h = refl
-element (x ∷ l) (suc n) h = element l n (omega arith)
 
 -- ---- index
 
@@ -56,7 +45,7 @@ module _ (μ : Machine) {w : ℕ} {s : List Value} (top : μ .stack ≡ integer 
       index-is μ
       ∙ one-value picking μ top
       ∙ ap (λ z. picking z (withStack s μ)) (signed-low w l)
-      ∙ ap (λ o. given o StackUnderflow >>= λ v. ok (push v (withStack s μ))) (element s w h)
+      ∙ ap (λ o. given o StackUnderflow >>= λ v. ok (push v (withStack s μ))) (an-element s w null h)
       ∙ sym (ap (λ (t : List Value). ok (withStack (set t 0 (getD t (w + 1) null)) μ)) top
       ∙ ap (λ n. ok (withStack (set (integer w ∷ s) 0 (getD (integer w ∷ s) n null)) μ)) (add-one w))
 

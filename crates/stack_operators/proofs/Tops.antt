@@ -10,8 +10,8 @@ use Rattle.semantics.specs.Machine.{Machine, withStack, push}
 use Rattle.semantics.specs.Operators.{perform}
 use Rattle.semantics.specs.declared.Error.the-variants.{StackUnderflow}
 use Rattle.machine.specs.Moves.{dropped, copied, swapped}
-use Rattle.machine.proofs.Operands.{pop1-some, pop2-some}
-use Rattle.machine.proofs.Outcomes.{first-item, two-items, pop1-under, pop2-under}
+use Rattle.machine.proofs.Operands.{pop1-some, pop2-some, pop1-under, pop2-under}
+use Rattle.machine.proofs.Outcomes.{first-item, two-items}
 use Rattle.stack_operators.proofs.Named.{dup-is, exch-is, pop-is}
 
 module _ (μ : Machine) where

@@ -1,21 +1,19 @@
 -- The words at the start stand for the definition's initial machine: the slots are those of the predefined names, no root names an object, and a heap
 -- with no object fits any words.
 -- Assumes nothing.
-use mathlib.Core.Path.{_≡_, refl, sym, ap, _∙_, subst}
-use mathlib.Core.Bool.{Bool, false, not, _&&_}
+use mathlib.Core.Path.{_≡_, refl, sym, ap, subst}
+use mathlib.Core.Bool.{Bool, false}
 use mathlib.Core.List.{List, [], _∷_, map}
 use mathlib.Core.Option.{some}
 use Prim.Native.Nat.{ℕ, zero, suc, _+_, _/_, _%_, _≤_}
 use native.Mathlib.Omega.{arith}
-use lib.Dec.{T}
 use lib.ListN.{length, take, getElem?}
-use Rattle.semantics.specs.Text.{same}
 use Rattle.semantics.specs.Machine.{Slot}
 use Rattle.semantics.specs.Operators.{_is_, table}
 use Rattle.semantics.specs.Steps as Steps
 use Rattle.semantics.specs.Steps.{predefined, initial}
-use Rattle.semantics.specs.ListLaws.{every, all-every}
-use Rattle.semantics.specs.NameLaws.{different, name-count, names-differ}
+use Rattle.semantics.specs.ListLaws.{every, some-one, none-some}
+use Rattle.semantics.specs.NameLaws.{name-count, names-differ}
 use Rattle.heap.specs.Shape.{Empty, blank, cells}
 use Rattle.heap.specs.declared.Lists.{Lists}
 use Rattle.heap.proofs.Chains.{fresh-live, fresh-on}
@@ -24,25 +22,12 @@ use Rattle.machine.specs.Places.{roots, rootIn, fromEnd, rootCount, keys, Disti
 use Rattle.machine.specs.Rep as Words
 use Rattle.machine.specs.Rep.{World, Stored, Is, Slots, SlotIs, slot}
 use Rattle.machine.specs.declared.Machine.{Machine}
-use Rattle.dictionary.proofs.Dictionaries.{same-refl, some-one, none-some}
+use Rattle.machine.proofs.Distinct.{distinct}
 use Rattle.dictionary.proofs.Slots.{slots-from}
 use Rattle.start.specs.Predefined.{names, Filled}
 use Rattle.start.specs.Begins.{Begins}
 use Rattle.start.proofs.Bindings.{bound-at, no-object, null-names}
-use Rattle.start.proofs.Filling.{both, at-all, name-short}
-
--- ---- no name has two slots
-
-again : (k : List ℕ) (ks : List (List ℕ)) → T (every (λ u. not (same k u)) ks && different ks) → (j : ℕ) → getElem? ks j ≡ some k → ⊥
-again k ks t j e =
-    subst (λ b. T (not b)) (same-refl k) (at-all (all-every (λ u. not (same k u)) ks (both (every (λ u. not (same k u)) ks) (different ks) t .0)) j k e)
-
-differ-distinct : (ks : List (List ℕ)) → T (different ks) → Distinct ks
-differ-distinct [] t i j n p q = absurd (none-some p)
-differ-distinct (k ∷ ks) t zero zero n p q = refl
-differ-distinct (k ∷ ks) t zero (suc j) n p q = absurd (again k ks t j (q ∙ sym p))
-differ-distinct (k ∷ ks) t (suc i) zero n p q = absurd (again k ks t i (p ∙ sym q))
-differ-distinct (k ∷ ks) t (suc i) (suc j) n p q = ap suc (differ-distinct ks (both (every (λ u. not (same k u)) ks) (different ks) t .1) i j n p q)
+use Rattle.start.proofs.Filling.{name-short}
 
 -- ---- the parts of `Rep`
 
@@ -54,8 +39,8 @@ titled : take 54 (keys (initial .machine)) ≡ titles
 unfolding initial predefined titles Steps.slot table
 titled = refl
 
-distinct : Distinct (keys (initial .machine))
-distinct = subst Distinct (sym keys-are) (differ-distinct (map (λ (s : Slot). s .key) predefined) (subst T (sym names-differ) tt))
+names-distinct : Distinct (keys (initial .machine))
+names-distinct = subst Distinct (sym keys-are) (distinct (map (λ (s : Slot). s .key) predefined) names-differ)
 
 no-root : (r i : ℕ) → Names (roots (initial .machine) r) i → ⊥
 unfolding roots rootIn fromEnd initial
@@ -137,7 +122,7 @@ begins E few large small F =
             slots = slots (keys (initial .machine)) [] F;
             names = sym name-count;
             titled = titled;
-            distinct = distinct;
+            distinct = names-distinct;
             logged = refl;
             stopped = refl;
             stack-room = omega arith;

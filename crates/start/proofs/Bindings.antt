@@ -16,7 +16,7 @@ use Rattle.semantics.specs.Machine.{Slot}
 use Rattle.semantics.specs.Operators.{Entry, _is_, table}
 use Rattle.semantics.specs.Steps as Steps
 use Rattle.semantics.specs.Steps.{predefined}
-use Rattle.semantics.specs.ListLaws.{All, nil, cons, every, all-every}
+use Rattle.semantics.specs.ListLaws.{All, nil, cons, every, all-every, some-one, none-some}
 use Rattle.semantics.specs.NameLaws.{operator-count}
 use Rattle.heap.specs.Upd.{pick}
 use Rattle.heap.proofs.Since.{lt-or-le}
@@ -24,7 +24,6 @@ use Rattle.store.specs.Rep.{titles, an-operator, a-boolean, a-null, Names, by-s
 use Rattle.machine.specs.Places.{bound, bindingAt, isObject}
 use Rattle.machine.specs.Rep as Words
 use Rattle.machine.specs.Rep.{World, Is, Bound}
-use Rattle.dictionary.proofs.Dictionaries.{some-one, none-some}
 use Rattle.start.specs.Predefined.{tagOf, payloadOf}
 
 -- ---- the words of bindings

@@ -2,7 +2,7 @@
 -- slot k on has changed.
 -- Assumes nothing.
 use mathlib.Core.Path.{_≡_, refl, sym, ap, _∙_, subst}
-use mathlib.Core.Bool.{Bool, true, false, not, _&&_}
+use mathlib.Core.Bool.{Bool, true, not, _&&_}
 use mathlib.Core.List.{List, [], _∷_, _++_}
 use mathlib.Core.Logic.{⊎-elim}
 use mathlib.Core.Option.{some}
@@ -17,12 +17,11 @@ use Rattle.semantics.specs.Machine.{Slot}
 use Rattle.semantics.specs.Operators.{_is_, table}
 use Rattle.semantics.specs.Steps as Steps
 use Rattle.semantics.specs.Steps.{predefined}
-use Rattle.semantics.specs.ListLaws.{All, nil, cons, every, all-every}
+use Rattle.semantics.specs.ListLaws.{All, nil, cons, every, all-every, an-element, inside-list, at-all, some-one, both}
 use Rattle.semantics.specs.NameLaws.{name-count}
 use Rattle.heap.proofs.Since.{lt-or-le}
 use Rattle.store.specs.Rep.{byteOf}
 use Rattle.dictionary.specs.Packing.{Spells}
-use Rattle.dictionary.proofs.Dictionaries.{some-one, none-some}
 use Rattle.start.specs.Predefined.{names, listed, tagOf, payloadOf, Written, Filled, Ends}
 use Rattle.start.proofs.Blanks.{Plain, room, name-end, name-slice, name-after}
 
@@ -39,15 +38,6 @@ all-plain : every plain names ≡ true
 unfolding names predefined Steps.slot table _is_ textual
 all-plain = refl
 
-pub both : (a b : Bool) → T (a && b) → T a × T b
-both true b t = (tt, t)
-both false b t = absurd t
-
-pub at-all : {A : Type 0} {P : A → Type 0} {l : List A} → All P l → (i : ℕ) (a : A) → getElem? l i ≡ some a → P a
-at-all nil i a e = absurd (none-some e)
-at-all {P = P} (cons p ps) zero a e = subst P (some-one e) p
-at-all (cons p ps) (suc i) a e = at-all ps i a e
-
 no-blank : {n : List ℕ} → All (λ b. T (not (eqb b 32))) n → (i : ℕ) → i < length n → getD n i 0 ≡ 32 → ⊥
 no-blank nil i l e = absurd (omega arith)
 no-blank (cons {a = b} p ps) zero l e = subst (λ t. T (not t)) (eq-eqb b 32 e) p
@@ -57,18 +47,6 @@ is-plain : (n : List ℕ) → T (plain n) → Plain n
 is-plain n t =
     let parts = both (leb (length n) 31) (every (λ b. not (eqb b 32)) n) t in
     record { short = leb→le (length n) 31 (parts .0); whole = no-blank (all-every (λ b. not (eqb b 32)) n (parts .1)) }
-
-there : {A : Type 0} (l : List A) (k : ℕ) (d : A) → k < length l → getElem? l k ≡ some (getD l k d)
-there [] k d l = absurd (omega arith)
-there (a ∷ s) zero d l = refl
-there (a ∷ s) (suc k) d l = there s k d (omega arith)
-
-within-list : {A : Type 0} (l : List A) (k : ℕ) (a : A) → getElem? l k ≡ some a → k < length l
-within-list [] k a e = absurd (none-some e)
-within-list (x ∷ l) zero a e = omega arith
-within-list (x ∷ l) (suc k) a e =
-    let r : k < length l = within-list l k a e in
-    omega arith
 
 abbrev name : ℕ → List ℕ
 name k = getD names k []
@@ -80,7 +58,7 @@ pub name-short : (k : ℕ) (n : List ℕ) → getElem? names k ≡ some n → le
 name-short k n e = plain-at k n e .short
 
 name-plain : (k : ℕ) → k < 58 → Plain (name k)
-name-plain k l = plain-at k (name k) (there names k [] (omega (arith, names-count)))
+name-plain k l = plain-at k (name k) (an-element names k [] (omega (arith, names-count)))
 
 -- ---- the loop
 
@@ -169,7 +147,7 @@ module _ {list d d₁ : List ℕ} {at k : ℕ} (F : Filling list d d₁ at k) (l
                 (λ (y : i < k). written-same (λ j a b. outside j (λ z. omega arith)) (F .slots i n y e))
                 (λ (y : k ≤ i).
                 let place : k ≡ i = omega arith in
-                let same-name : name k ≡ n = some-one (sym (there names k [] (omega (arith, names-count))) ∙ ap (getElem? names) place ∙ e) in
+                let same-name : name k ≡ n = some-one (sym (an-element names k [] (omega (arith, names-count))) ∙ ap (getElem? names) place ∙ e) in
                 subst (λ z. Written now′ z n) place (subst (Written now′ k) same-name written))
                 (lt-or-le i k);
             kept = λ i x. outside i (λ z. omega arith) ∙ F .kept i (omega arith);
@@ -178,6 +156,6 @@ module _ {list d d₁ : List ℕ} {at k : ℕ} (F : Filling list d d₁ at k) (l
 pub fill-end : {list d d′ : List ℕ} {at k : ℕ} → Filling list d d′ at k → 58 ≤ k → Filled d d′
 fill-end {k = k} F l =
     record {
-      slots = λ i n e. F .slots i n (omega (arith, names-count, within-list names i n e)) e;
+      slots = λ i n e. F .slots i n (omega (arith, names-count, inside-list names i e)) e;
       kept = λ i x. F .kept i (omega (arith, F .few));
     }

@@ -2,7 +2,7 @@
 -- Then a byte of a live string is set, and the cells stand for the store with that byte set.
 -- Assumes nothing.
 use mathlib.Core.Path.{_≡_, refl, sym, ap, _∙_}
-use mathlib.Core.Bool.{Bool, false}
+use mathlib.Core.Bool.{false}
 use mathlib.Core.List.{List, []}
 use mathlib.Core.Logic.{⊎-elim}
 use Prim.Native.Nat.{ℕ, zero, suc, _+_, _-_, _*_, _/_, _%_, _^_, _<_}
@@ -14,11 +14,12 @@ use Rattle.semantics.specs.Values.{Value, Object, elements, text}
 use Rattle.semantics.specs.Machine.{elementsOf, bytesOf}
 use Rattle.heap.specs.Word.{word, Put}
 use Rattle.heap.specs.Chain.{live, on}
-use Rattle.heap.specs.Shape.{Ghost, Shape, Header, Counts, Full, isHead}
+use Rattle.heap.specs.Shape.{Ghost, Shape, Counts, Full, isHead}
 use Rattle.heap.specs.declared.Lists.{Lists}
 use Rattle.heap.proofs.Upds.{same?}
 use Rattle.heap.proofs.Chains.{chains-nxt, on-list}
 use Rattle.heap.proofs.Parts as parts
+use Rattle.heap.proofs.Shapes.{not-header}
 use Rattle.store.specs.Rep.{isText, byteOf, withByte, objectAt, Rep}
 use Rattle.store.proofs.Standing.{null-names}
 use Rattle.store.proofs.Places.{down, down-at}
@@ -57,13 +58,6 @@ module _ {g : Ghost} {e p hand : ℕ} {m m′ : List ℕ} (S : Shape g e m) (C :
   body-head : isHead (g .own c) ≡ false
   body-head = ap isHead oc ∙ ne-eqb (a + 2) 1 (λ s. omega arith)
 
-  -- What has a body is not c.
-  head-not : (b d f : ℕ) → g .own d ≡ on (b + 2) f → b ≡ c → ⊥
-  head-not b d f od s = omega (arith, S .chains .above d (b + 2) f od, none (isHead (g .own b)) (ap (λ x. isHead (g .own x)) s ∙ body-head) (S .header b))
-    where
-      none : (t : Bool) → t ≡ false → Header t (g .size (b + 2)) (g .top (b + 2)) (word m b 1) (word m b 3) → g .size (b + 2) ≡ 0
-      none t q h = rw q at h
-
   word-shape : Shape g e m′
   word-shape = record {
     chains = chains-nxt (g .own) (g .top) (g .size) (λ d. word m d 2) (λ d. word m′ d 2) (λ d s f od. P .there d 2 (omega arith) (λ _ r. omega arith)) (S .chains);
@@ -86,7 +80,7 @@ module _ {g : Ghost} {e p hand : ℕ} {m m′ : List ℕ} (S : Shape g e m) (C :
     count = λ h l. P .there h 2 (omega arith) (λ _ r. omega arith) ∙ C .count h l;
     some = λ h l. rw (P .there h 2 (omega arith) (λ _ r. omega arith)) (C .some h l);
     body = λ d b f od.
-        let x = P .there b 0 (omega arith) (λ r. absurd (head-not b d f od r)) in
+        let x = P .there b 0 (omega arith) (λ r. absurd (not-header S c body-head d b f od r)) in
         ⊎-elim
         (λ (s : d ≡ c). let y : word m b 0 ≡ 0 → ⊥ = λ r. let ba : b ≡ a = omega (arith, on-list (sym od ∙ ap (g .own) s ∙ oc)) in omega (arith, r, ap (λ t. word m t 0) ba, w) in
         C .body d b f od ∙ parts.no-array _ _ _ y ∙ sym (parts.no-array _ _ _ (λ r. y (sym x ∙ r))))

@@ -28,6 +28,7 @@ use Rattle.heap.proofs.Shapes.{inside}
 use Rattle.heap.proofs.Since.{lt-or-le, true-or-false, alive-of}
 use Rattle.heap.proofs.Rooms.{total-swap}
 use Rattle.heap.proofs.Parts as parts
+use Rattle.heap.proofs.Listing.{total-front}
 use Rattle.store.specs.Rep.{Names, by-string, by-array, objectAt, element, Rep}
 pub use Rattle.store.specs.Matching.{times}
 use Rattle.store.proofs.Standing.{stands-names, names-stands, names-cast}
@@ -45,11 +46,6 @@ total-at f zero a l h = absurd (omega arith)
 total-at f (suc n) a l h = ⊎-elim
     (λ (e : n ≡ a). omega (arith, ap f e, total-none f n (λ x b. h x (omega arith) (λ q. omega arith))))
     (λ (e : n ≡ a → ⊥). omega (arith, total-at f n a (omega arith) (λ x b ne. h x (omega arith) ne), h n (omega arith) e)) (same? n a)
-
-total-front : (f : ℕ → ℕ) (n : ℕ) → total f (suc n) ≡ f 0 + total (λ x. f (suc x)) n
-unfolding total
-total-front f zero = omega arith
-total-front f (suc n) = omega (arith, total-front f n)
 
 total-split : (f : ℕ → ℕ) (a n : ℕ) → total f (a + n) ≡ total f a + total (λ x. f (a + x)) n
 unfolding total
@@ -115,7 +111,7 @@ module _ (i : ℕ) where
   times-append [] b = omega arith
   times-append (k ∷ a) b = omega (arith, times-append a b)
 
-  times-gather : {A : Type 0} (f : A → List ℕ) (l : List A) → times i (gather f l) ≡ sumOf (λ x. times i (f x)) l
+  pub times-gather : {A : Type 0} (f : A → List ℕ) (l : List A) → times i (gather f l) ≡ sumOf (λ x. times i (f x)) l
   unfolding sumOf gather
   times-gather f [] = refl
   times-gather f (x ∷ l) = omega (arith, times-append (f x) (gather f l), times-gather f l)

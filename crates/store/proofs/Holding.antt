@@ -2,36 +2,24 @@
 -- of the definition, and the two notions of support say the same where the root places name what the machine's roots list.
 -- Assumes nothing.
 use mathlib.Core.Path.{_≡_, refl, sym, ap, _∙_}
-use mathlib.Core.Bool.{Bool, true, false, _||_, or-assoc}
+use mathlib.Core.Bool.{false, _||_, or-assoc}
 use mathlib.Core.List.{List, [], _∷_, _++_}
 use mathlib.Core.Logic.{_⊎_, inl, inr, ⊎-elim, _↔_}
 use Prim.Native.Nat.{ℕ, zero, suc}
 use lib.ListN.{getD}
-use lib.Dec.{T, eqb, eqb→eq, eqb-refl}
+use lib.Dec.{eqb, eqb→eq, eqb-refl}
 use Rattle.semantics.specs.Values.{Value, integer, boolean, null, mark, operator, name, string, array, Object, elements, text}
 use Rattle.semantics.specs.Machine.{Machine, object, elementsOf}
 use Rattle.semantics.specs.Held
 use Rattle.semantics.specs.Held.{ofValue, gather, ofObject, member, held}
 use Rattle.semantics.specs.HeldLaws as laws
-use Rattle.semantics.specs.HeldLaws.{_∈_}
+use Rattle.semantics.specs.HeldLaws.{_∈_, or-cases, or-left, or-right}
 use Rattle.heap.specs.Shape.{Ghost, Shape, Counts}
 use Rattle.store.specs.Rep.{Names, by-string, by-array, objectAt, Alive, Rep}
 use Rattle.store.proofs.Standing.{null-names}
 use Rattle.store.proofs.Deaths.{live-supported, live-largest}
 
 -- ---- membership
-
-or-cases : (a b : Bool) → T (a || b) → T a ⊎ T b
-or-cases true b t = inl tt
-or-cases false b t = inr t
-
-or-left : (a b : Bool) → T a → T (a || b)
-or-left true b t = tt
-or-left false b t = absurd t
-
-or-right : (a b : Bool) → T b → T (a || b)
-or-right true b t = tt
-or-right false b t = t
 
 member-append : (i : ℕ) (a b : List ℕ) → member i (a ++ b) ≡ (member i a || member i b)
 unfolding member

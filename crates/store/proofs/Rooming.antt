@@ -22,7 +22,7 @@ use Rattle.heap.specs.Upd.{pick, total}
 use Rattle.heap.specs.Chain.{Owner, fresh, live, out, on}
 use Rattle.heap.specs.Shape.{Ghost, Shape, Counts, Full, NoOut, cells, isHead}
 use Rattle.heap.specs.declared.Lists.{Lists}
-use Rattle.heap.proofs.Upds.{same?, total-same, total-change}
+use Rattle.heap.proofs.Upds.{same?, total-same, total-change, pick-zero}
 use Rattle.heap.proofs.Shapes.{inside}
 use Rattle.heap.proofs.Bodies.{total-none}
 use Rattle.heap.proofs.Since.{lt-or-le, true-or-false, alive-of}
@@ -96,11 +96,7 @@ module _ {keys : List (List ℕ)} {n : ℕ} {ρ : ℕ → ℕ} {g : Ghost} {e : 
   term-none : (i x : ℕ) → (g .own x ≡ live → ρ x ≡ i → ⊥) → pick {X = ℕ} (eqb i (ρ x)) (f x) 0 ≡ 0
   term-none i x d = ⊎-elim
       (λ (l : g .own x ≡ live). ap (λ b. pick {X = ℕ} b (f x) 0) (ne-eqb i (ρ x) (λ q. d l (sym q))))
-      (λ (l : g .own x ≡ live → ⊥). ap (λ y. pick (eqb i (ρ x)) y 0) (none x l) ∙ neither (eqb i (ρ x))) (live? (g .own x))
-    where
-      neither : (b : Bool) → pick {X = ℕ} b 0 0 ≡ 0
-      neither true = refl
-      neither false = refl
+      (λ (l : g .own x ≡ live → ⊥). ap (λ y. pick (eqb i (ρ x)) y 0) (none x l) ∙ pick-zero (eqb i (ρ x))) (live? (g .own x))
 
   -- So an object's part is that of its live header, or 0.
   by-alive : (i : ℕ) (L : Alive ρ g i) → by-id ρ f (cells m) i ≡ f (L .0)

@@ -6,10 +6,18 @@ use mathlib.Core.List.{List, [], _∷_, _++_, map}
 use mathlib.Core.Option.{some}
 use Prim.Native.Nat.{ℕ, zero, suc, _≤_, _<_}
 use native.Mathlib.Omega.{arith}
-use lib.ListN.{length, getD, getElem?}
+use lib.ListN.{length, getD, getElem?, length-map}
 use Rattle.semantics.specs.Values.{Value, integer, boolean, null, mark, operator, name, string, array, Object, elements, text}
 use Rattle.semantics.specs.Machine.{elementsOf, bytesOf}
+use Rattle.semantics.specs.Operators.{Entry, table}
+use Rattle.semantics.specs.NameLaws.{operator-count}
 use Rattle.store.specs.Rep.{titles, isText, bit, Stands, a-null, an-integer, a-boolean, a-mark, an-operator, a-literal, an-executable, a-string, an-array, a-procedure, Names, by-string, by-array}
+
+-- ---- the operators' names
+
+pub titles-count : length titles ≡ 54
+unfolding titles
+titles-count = length-map table (λ (e : Entry). e .title) ∙ operator-count
 
 -- ---- what a tag says
 

@@ -12,7 +12,7 @@ use Rattle.semantics.specs.Machine as Floo
 use Rattle.semantics.specs.Machine.{object, bytesOf}
 use Rattle.machine.specs.Rep.{Rep}
 use Rattle.machine.specs.declared.Machine.{Machine}
-use Rattle.elements.specs.Elements.{HasString, HasByte, SomewhereThat, StringSize, ByteOf}
+use Rattle.elements.specs.Elements.{StringSize, ByteOf}
 use Rattle.strings.specs.Strings.{CurrentSize}
 
 -- ---- on lists
@@ -60,10 +60,6 @@ pub begin : (i : ℕ) (m : Machine) (s c : List ℕ) → Scanned i m s c 0
 begin i m s c = record { says = λ e d l μ R id x. omega arith }
 
 module _ {i : ℕ} {m : Machine} {s c : List ℕ} {most q : ℕ} (Z : StringSize i m s c most) where
-  pub has-byte : SomewhereThat (HasString i) m s c → q < most → SomewhereThat (HasByte i q) m s c
-  has-byte (e, d, l, μ, R, a) h =
-      (e, d, l, μ, R, record { string = a; inside = omega (arith, h, Z .says e d l μ R (a .id) (a .item)) })
-
   module _ (S : Scanned i m s c q) where
     pub ends : most ≤ q → CurrentSize i m s c q
     ends h = record { says = λ e d l μ R id x. scans-all (bytesOf (object μ id)) q (S .says e d l μ R id x) (omega (arith, h, Z .says e d l μ R id x)) }

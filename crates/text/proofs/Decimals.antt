@@ -14,6 +14,7 @@ use mir.ValLaws.{toZ-pos, toZ-neg}
 use borrow.Author.Tests.{lt-ltb, le-ltb, ltb-true, ltb-false}
 use Rattle.semantics.specs.Text.{decimalOnto, decimal}
 use Rattle.semantics.specs.Words.{signed, decimalZ}
+use Rattle.semantics.specs.TextLaws.{decimal-length}
 use Rattle.text.specs.Writing.{Written}
 use Rattle.text.proofs.Pasting.{nothing, before}
 
@@ -51,14 +52,6 @@ onto-more (suc p) n rest h =
     (λ g. rw (onto-next (suc p) n rest g, onto-next (suc (suc p)) n rest g) (onto-more p (n / 10) ((48 + n % 10) ∷ rest) less))
     (lt-or-ge n 10)
 
-onto-length : (p n : ℕ) (rest : List ℕ) → length (decimalOnto p n rest) ≤ p + length rest
-unfolding decimalOnto
-onto-length zero n rest = omega arith
-onto-length (suc p) n rest =
-    ⊎-elim (λ l. rw (onto-last p n rest l) (omega arith))
-    (λ g. rw (onto-next p n rest g) (omega (arith, onto-length p (n / 10) ((48 + n % 10) ∷ rest))))
-    (lt-or-ge n 10)
-
 -- ---- numbers
 
 pub decimal-digit : (n : ℕ) → n < 10 → decimal n ≡ (48 + n) ∷ []
@@ -77,10 +70,6 @@ decimal-longer n g h = rw (decimal-more n g h, length-append)
 pub decimal-some : (n : ℕ) → n < 2 ^ 32 → 1 ≤ length (decimal n)
 decimal-some n h =
     ⊎-elim (λ l. omega (arith, ap length (decimal-digit n l))) (λ g. omega (arith, decimal-longer n g h)) (lt-or-ge n 10)
-
-pub decimal-short : (n : ℕ) → length (decimal n) ≤ 10
-unfolding decimal
-decimal-short n = omega (arith, onto-length 10 n [])
 
 -- ---- the writer of digits
 
@@ -124,6 +113,6 @@ integer-high w m h k e =
 pub integer-short : (w : ℕ) → w < 2 ^ 32 → length (decimalZ (signed w)) ≤ 11
 integer-short w h =
     let m = 2 ^ 32 - w in
-    ⊎-elim (λ l. omega (arith, ap length (integer-low w l), decimal-short w))
-    (λ g. omega (arith, ap length (integer-high w m g h (omega arith)), decimal-short m))
+    ⊎-elim (λ l. omega (arith, ap length (integer-low w l), decimal-length w))
+    (λ g. omega (arith, ap length (integer-high w m g h (omega arith)), decimal-length m))
     (lt-or-ge w (2 ^ 31))

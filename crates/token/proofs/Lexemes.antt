@@ -15,6 +15,7 @@ use Rattle.semantics.specs.Tokens.{isNameByte, classOf, run, startsNumber, numb
 use Rattle.semantics.specs.Tokens as tokens
 use Rattle.semantics.specs.declared.Error.{Error}
 use Rattle.semantics.specs.declared.Error.the-variants.{SyntaxError, LimitCheck}
+use Rattle.semantics.specs.TokenLaws.{run-le}
 use Rattle.token.specs.Bytes.{classIs}
 use Rattle.token.specs.Numbers.{numberIs}
 use Rattle.token.specs.Strings.{JudgedAt}
@@ -27,15 +28,6 @@ use Rattle.token.specs.declared.strings.Judged.the-variants as judged
 use Rattle.token.proofs.Blanks.{run-go}
 
 -- ---- runs of name bytes
-
-run-within : (s : List ℕ) → run s ≤ length s
-unfolding run
-run-within [] = omega arith
-run-within (b ∷ s) = by (isNameByte b) (run-within s)
-  where
-    by : (t : Bool) → run s ≤ length s → elim t as (λ _. ℕ) [ true ↦ suc (run s) | false ↦ 0 ] ≤ suc (length s)
-    by true h = omega arith
-    by false h = omega arith
 
 place : tokens.Class → ℕ
 place tokens.nameByte = 0
@@ -163,11 +155,11 @@ between script a e = take (e - a) (drop a script)
 
 word-list : (b : ℕ) (s : List ℕ) (k : ℕ) → run (b ∷ s) ≡ k → lexAs tokens.nameByte b s ≡ (runToken (take k (b ∷ s)) >>= λ t. lexeme t k)
 unfolding lexAs
-word-list b s k e = rw (e, length-take-le k (b ∷ s) (rw e at (run-within (b ∷ s))))
+word-list b s k e = rw (e, length-take-le k (b ∷ s) (rw e at (run-le (b ∷ s))))
 
 slash-list : (b : ℕ) (s : List ℕ) (k : ℕ) → run s ≡ k → lexAs tokens.slash b s ≡ (slashToken (take k s) >>= λ t. lexeme t (suc k))
 unfolding lexAs
-slash-list b s k e = rw (e, length-take-le k s (rw e at (run-within s)))
+slash-list b s k e = rw (e, length-take-le k s (rw e at (run-le s)))
 
 module _ {script : List ℕ} {start end : ℕ} (C : ClassAt script start tokens.nameByte)
     (e : end ≡ start + run (drop start script)) (h : end ≤ length script) where

@@ -4,15 +4,16 @@
 use mathlib.Core.Path.{_≡_, refl, sym, ap, _∙_}
 use mathlib.Core.Bool.{Bool, true}
 use mathlib.Core.List.{List, [], _∷_}
-use mathlib.Core.Option.{none, some}
-use Prim.Native.Nat.{ℕ, zero, suc, _+_, _-_, _*_, _/_, _≤_, _<_}
+use mathlib.Core.Option.{some}
+use Prim.Native.Nat.{ℕ, suc, _+_, _-_, _*_, _/_, _≤_, _<_}
 use native.Mathlib.Omega.{arith}
-use lib.ListN.{length, getD, getElem?, drop}
+use lib.ListN.{length, getD, drop}
 use Rattle.semantics.specs.Values.{Value, null, array, Object, ok}
 use Rattle.semantics.specs.Machine as Floo
 use Rattle.semantics.specs.Machine.{Frame, pending, running, withStack, withExec, push, enter, object, elementsOf}
 use Rattle.semantics.specs.Steps.{execute, treat, isProcedure, resume, silent}
 use Rattle.semantics.specs.declared.Error.the-variants.{StackOverflow}
+use Rattle.semantics.specs.ListLaws.{no-element, an-element}
 use Rattle.heap.specs.Shape.{Ghost}
 use Rattle.heap.specs.Word.{word}
 use Rattle.store.specs.Rep.{objectAt, element, Stands, a-null, an-integer, a-boolean, a-mark, an-operator, a-literal, an-executable, a-string, an-array, a-procedure}
@@ -58,18 +59,6 @@ module _ {keys : List (List ℕ)} {texts : List Bool} {ρ : ℕ → ℕ} (μ : F
   treats (a-string x y) q = refl
   treats (an-array x y) q = refl
   treats (a-procedure x y) q = refl
-
--- ---- an element by its place
-
-pub no-element : (l : List Value) (n : ℕ) → length l ≤ n → getElem? l n ≡ none
-no-element [] n h = refl
-no-element (x ∷ l) zero h = absurd (omega arith)
-no-element (x ∷ l) (suc n) h = no-element l n (omega arith)
-
-pub an-element : (l : List Value) (n : ℕ) → n < length l → getElem? l n ≡ some (getD l n null)
-an-element [] n h = absurd (omega arith)
-an-element (x ∷ l) zero h = refl
-an-element (x ∷ l) (suc n) h = an-element l n (omega arith)
 
 -- ---- the frame of each kind
 
@@ -142,7 +131,7 @@ module _ {m : Machine} {s e d c l : List ℕ} {μ : Floo.Machine} (R : Rep m s e
           let v = element (μ .store) i j in
           let w = element-words R k h i j running-top left in
           resumed-is μ split
-          ∙ rw (an-element vs j (omega (arith, run .left, left))) (treats (enter (running i (suc j)) (withExec rest μ)) (w .stands) quiet)
+          ∙ rw (an-element vs j null (omega (arith, run .left, left))) (treats (enter (running i (suc j)) (withExec rest μ)) (w .stands) quiet)
           ∙ ap (λ m. ok (push v m)) (reset-is μ split (running i (suc j)))
 
 -- ---- what a step comes to

@@ -2,8 +2,8 @@
 -- Assumes nothing.
 use native.Mathlib.Omega.{arith}
 use Rattle.array_operators.proofs.Wholes.{aload-short, aload-type, aload-over, aload-done, first-there}
-use Rattle.array_operators.proofs.Objects.{array-there}
 use borrow.Author.Needs.{needs}
+use Rattle.elements.proofs.Tags.{array-there}
 use Rattle.array_operators.proofs.aload.Statement.{statement}
 use Rattle.array_operators.proofs.aload.Tie as tie
 

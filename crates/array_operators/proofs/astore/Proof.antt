@@ -3,8 +3,8 @@
 use native.Mathlib.Omega.{arith}
 use Rattle.machine.proofs.Outcomes.{elsewhere, then-heap, stack-heap}
 use Rattle.array_operators.proofs.Wholes.{astore-short, astore-type, astore-few, astore-done, first-there}
-use Rattle.array_operators.proofs.Objects.{array-there}
 use borrow.Author.Needs.{needs}
+use Rattle.elements.proofs.Tags.{array-there}
 use Rattle.array_operators.proofs.astore.Statement.{statement}
 use Rattle.array_operators.proofs.astore.Tie as tie
 

@@ -1,8 +1,8 @@
 -- `byte_or_zero` meets its contract: past the end the definition reads zero too.
 -- Assumes nothing.
-use Rattle.strings.proofs.Currents.{has-byte}
 use Rattle.array_operators.proofs.Getting.{zero-past}
 use borrow.Author.Needs.{needs}
+use Rattle.elements.proofs.Strings.{has-byte}
 use Rattle.array_operators.proofs.byte_or_zero.Statement.{statement}
 use Rattle.array_operators.proofs.byte_or_zero.Tie as tie
 

@@ -3,8 +3,9 @@
 use native.Mathlib.Omega.{arith}
 use Rattle.machine.proofs.Outcomes.{elsewhere}
 use Rattle.array_operators.proofs.Getting.{get-past, get-element}
-use Rattle.array_operators.proofs.Objects.{array-there, element-there}
+use Rattle.array_operators.proofs.Objects.{element-there}
 use borrow.Author.Needs.{needs}
+use Rattle.elements.proofs.Tags.{array-there}
 use Rattle.array_operators.proofs.get_from_array.Statement.{statement}
 use Rattle.array_operators.proofs.get_from_array.Tie as tie
 

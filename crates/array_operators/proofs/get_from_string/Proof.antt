@@ -1,8 +1,8 @@
 -- `get_from_string` meets its contract: the index against the maximum, and the byte pushed in place of both operands.
 -- Assumes nothing.
 use Rattle.array_operators.proofs.Getting.{get-beyond, get-byte-done}
-use Rattle.array_operators.proofs.Objects.{string-there}
 use borrow.Author.Needs.{needs}
+use Rattle.elements.proofs.Tags.{string-there}
 use Rattle.array_operators.proofs.get_from_string.Statement.{statement}
 use Rattle.array_operators.proofs.get_from_string.Tie as tie
 

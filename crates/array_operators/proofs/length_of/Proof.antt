@@ -2,7 +2,8 @@
 -- Assumes nothing.
 use Rattle.elements.specs.Elements.{ItemTag}
 use mathlib.Core.Path.{subst}
-use Rattle.array_operators.proofs.Objects.{array-tag, array-there, string-there, array-length, string-length}
+use Rattle.elements.proofs.Tags.{array-there, string-there}
+use Rattle.array_operators.proofs.Objects.{array-tag, array-length, string-length}
 use Rattle.array_operators.proofs.length_of.Statement.{statement}
 use Rattle.array_operators.proofs.length_of.Tie as tie
 

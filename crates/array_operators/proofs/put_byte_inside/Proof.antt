@@ -1,8 +1,8 @@
 -- `put_byte_inside` meets its contract: past the end the definition changes nothing either.
 -- Assumes nothing.
-use Rattle.strings.proofs.Currents.{has-byte}
 use Rattle.array_operators.proofs.Putting.{put-outside}
 use borrow.Author.Needs.{needs}
+use Rattle.elements.proofs.Strings.{has-byte}
 use Rattle.array_operators.proofs.put_byte_inside.Statement.{statement}
 use Rattle.array_operators.proofs.put_byte_inside.Tie as tie
 

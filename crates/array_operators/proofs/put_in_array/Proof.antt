@@ -3,8 +3,9 @@
 use native.Mathlib.Omega.{arith}
 use Rattle.machine.proofs.Outcomes.{elsewhere}
 use Rattle.array_operators.proofs.Putting.{put-below, put-past, put-element-done}
-use Rattle.array_operators.proofs.Objects.{array-there, element-there}
+use Rattle.array_operators.proofs.Objects.{element-there}
 use borrow.Author.Needs.{needs}
+use Rattle.elements.proofs.Tags.{array-there}
 use Rattle.array_operators.proofs.put_in_array.Statement.{statement}
 use Rattle.array_operators.proofs.put_in_array.Tie as tie
 

@@ -3,8 +3,8 @@
 use native.Mathlib.Omega.{arith}
 use Rattle.machine.proofs.Outcomes.{elsewhere}
 use Rattle.array_operators.proofs.Putting.{put-no-byte, put-byte-below, put-byte-large, put-byte-beyond, put-byte-done}
-use Rattle.array_operators.proofs.Objects.{string-there}
 use borrow.Author.Needs.{needs}
+use Rattle.elements.proofs.Tags.{string-there}
 use Rattle.array_operators.proofs.put_in_string.Statement.{statement}
 use Rattle.array_operators.proofs.put_in_string.Tie as tie
 

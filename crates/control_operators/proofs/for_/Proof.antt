@@ -1,11 +1,12 @@
 -- `control_operators::for_` meets its contract: three integers are read and go, the body goes into a slot.
 -- Assumes nothing.
-use Rattle.control_operators.proofs.Entering.{for-under, for-type1, for-type2, for-type3, for-into, slots-fault, into-full, into-done, integer-nameless}
+use Rattle.control_operators.proofs.Entering.{for-under, for-type1, for-type2, for-type3, for-into, slots-fault, into-full, into-done}
 use Rattle.frames.specs.Moves.{a-for}
 use Rattle.semantics.specs.ListLaws.{nil, cons}
 use Prim.Native.Nat.{_+_, _*_, _-_}
 use native.Mathlib.Omega.{arith}
 use borrow.Author.Needs.{needs}
+use Rattle.machine.proofs.Naming.{integer-nameless}
 use Rattle.control_operators.proofs.for_.Statement.{statement}
 use Rattle.control_operators.proofs.for_.Tie as tie
 

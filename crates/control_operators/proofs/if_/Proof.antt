@@ -1,6 +1,6 @@
 -- `control_operators::if_` meets its contract: the body becomes pending or is let go, and the Boolean goes.
 -- Assumes nothing.
-use Rattle.control_operators.proofs.Choosing.{if-under, if-type, if-into, if-skips, frames-fault, boolean-nameless}
+use Rattle.control_operators.proofs.Choosing.{if-under, if-type, if-into, if-skips, frames-fault}
 use Rattle.control_operators.proofs.Promising.{slots-frames}
 use Rattle.control_operators.proofs.Entering.{into-full, into-done}
 use Rattle.frames.specs.Moves.{a-pending}
@@ -8,6 +8,7 @@ use Rattle.semantics.specs.ListLaws.{nil, cons}
 use Prim.Native.Nat.{_-_}
 use native.Mathlib.Omega.{arith}
 use borrow.Author.Needs.{needs}
+use Rattle.machine.proofs.Naming.{boolean-nameless}
 use Rattle.control_operators.proofs.if_.Statement.{statement}
 use Rattle.control_operators.proofs.if_.Tie as tie
 

@@ -1,11 +1,12 @@
 -- `control_operators::repeat_` meets its contract: the count is read and goes, the body goes into a slot.
 -- Assumes nothing.
-use Rattle.control_operators.proofs.Entering.{repeat-under, repeat-type, repeat-range, repeat-into, slots-fault, into-full, into-done, integer-nameless}
+use Rattle.control_operators.proofs.Entering.{repeat-under, repeat-type, repeat-range, repeat-into, slots-fault, into-full, into-done}
 use Rattle.frames.specs.Moves.{a-repeat}
 use Rattle.semantics.specs.ListLaws.{nil, cons}
 use Prim.Native.Nat.{_+_, _*_, _-_}
 use native.Mathlib.Omega.{arith}
 use borrow.Author.Needs.{needs}
+use Rattle.machine.proofs.Naming.{integer-nameless}
 use Rattle.control_operators.proofs.repeat_.Statement.{statement}
 use Rattle.control_operators.proofs.repeat_.Tie as tie
 

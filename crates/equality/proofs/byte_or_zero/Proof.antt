@@ -1,6 +1,7 @@
 -- `byte_or_zero` meets its contract: below the maximum by `get_byte`, past it since there is no byte.
 -- Assumes nothing.
-use Rattle.equality.proofs.Comparisons.{has-byte, past-end}
+use Rattle.elements.proofs.Strings.{has-byte}
+use Rattle.equality.proofs.Comparisons.{past-end}
 use Rattle.equality.proofs.byte_or_zero.Statement.{statement}
 use Rattle.equality.proofs.byte_or_zero.Tie as tie
 

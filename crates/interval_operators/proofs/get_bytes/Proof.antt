@@ -5,13 +5,13 @@ use mathlib.Core.Path.{_∙_}
 use Rattle.machine.proofs.Outcomes.{elsewhere}
 use Rattle.interval_operators.proofs.Getting.{get-bytes-outside, get-bytes-full, get-bytes-done}
 use Rattle.interval_operators.proofs.Fresh.{plain-count, copies-new-string}
-use Rattle.interval_operators.proofs.Asking.{has-string}
 use borrow.Author.Needs.{needs}
+use Rattle.elements.proofs.Tags.{string-there}
 use Rattle.interval_operators.proofs.get_bytes.Statement.{statement}
 use Rattle.interval_operators.proofs.get_bytes.Tie as tie
 
 maximum-requires : tie.Need-maximum-requires
-maximum-requires c κs = (omega (arith, c .before .before .before .before .pre .0), has-string (c .before .before .before .before .pre .3) (c .before .before .before .before .pre .5))
+maximum-requires c κs = (omega (arith, c .before .before .before .before .pre .0), string-there (c .before .before .before .before .pre .3) (c .before .before .before .before .pre .5))
 
 add-if1 : tie.Need-add-if1
 add-if1 c = search needs

@@ -6,13 +6,13 @@ use mathlib.Core.Path.{_∙_}
 use Rattle.machine.proofs.Outcomes.{elsewhere, stack-heap}
 use Rattle.interval_operators.proofs.Getting.{get-elements-outside, get-elements-full, get-elements-done}
 use Rattle.interval_operators.proofs.Fresh.{plain-count, copies-new-array}
-use Rattle.interval_operators.proofs.Asking.{has-array}
 use borrow.Author.Needs.{needs}
+use Rattle.elements.proofs.Tags.{array-there}
 use Rattle.interval_operators.proofs.get_elements.Statement.{statement}
 use Rattle.interval_operators.proofs.get_elements.Tie as tie
 
 size-of-requires : tie.Need-size-of-requires
-size-of-requires c κs = (omega (arith, c .before .before .before .before .pre .0), has-array (_, c .before .before .before .before .pre .3, c .before .before .before .before .pre .4) (c .before .before .before .before .pre .6))
+size-of-requires c κs = (omega (arith, c .before .before .before .before .pre .0), array-there (_, c .before .before .before .before .pre .3, c .before .before .before .before .pre .4) (c .before .before .before .before .pre .6))
 
 add-if1 : tie.Need-add-if1
 add-if1 c = search needs

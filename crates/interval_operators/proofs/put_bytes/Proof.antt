@@ -4,8 +4,9 @@ use native.Mathlib.Omega.{arith}
 use mathlib.Core.Path.{_∙_}
 use Rattle.machine.proofs.Outcomes.{elsewhere}
 use Rattle.interval_operators.proofs.Putting.{put-bytes-negative, put-bytes-outside, put-bytes-done}
-use Rattle.interval_operators.proofs.Asking.{has-string, small-string, copies-bytes}
+use Rattle.interval_operators.proofs.Asking.{small-string, copies-bytes}
 use borrow.Author.Needs.{needs}
+use Rattle.elements.proofs.Tags.{string-there}
 use Rattle.interval_operators.proofs.put_bytes.Statement.{statement}
 use Rattle.interval_operators.proofs.put_bytes.Tie as tie
 
@@ -19,14 +20,14 @@ returns : tie.Need-returns
 returns c = put-bytes-negative (c .before .before .before .before .before .pre .0) (c .before .integer-at .ensures) (c .before .before .before .before .before .pre .2) (c .before .before .before .before .before .pre .1) (c .before .before .before .before .before .pre .3) (c .if1 .taken) (search needs)
 
 maximum-requires : tie.Need-maximum-requires
-maximum-requires c κs = (omega (arith, c .before .before .before .before .before .before .before .pre .0), has-string (c .before .before .before .before .before .before .before .pre .3) (c .before .before .before .before .before .before .before .pre .4))
+maximum-requires c κs = (omega (arith, c .before .before .before .before .before .before .before .pre .0), string-there (c .before .before .before .before .before .before .before .pre .3) (c .before .before .before .before .before .before .before .pre .4))
 
 maximum-requires-2 : tie.Need-maximum-requires-2
-maximum-requires-2 c κs = (omega (arith, c .before .before .before .before .before .before .before .before .before .before .pre .0), has-string (c .before .before .before .before .before .before .before .before .before .before .pre .1) (c .before .before .before .before .before .before .before .before .before .before .pre .4))
+maximum-requires-2 c κs = (omega (arith, c .before .before .before .before .before .before .before .before .before .before .pre .0), string-there (c .before .before .before .before .before .before .before .before .before .before .pre .1) (c .before .before .before .before .before .before .before .before .before .before .pre .4))
 
 add-if2 : tie.Need-add-if2
 add-if2 c =
-    let few = small-string (omega (arith, c .before .before .before .before .before .before .before .before .before .before .before .pre .0)) (has-string (c .before .before .before .before .before .before .before .before .before .before .before .pre .3) (c .before .before .before .before .before .before .before .before .before .before .before .pre .4)) (c .before .before .before .maximum .ensures) in
+    let few = small-string (omega (arith, c .before .before .before .before .before .before .before .before .before .before .before .pre .0)) (string-there (c .before .before .before .before .before .before .before .before .before .before .before .pre .3) (c .before .before .before .before .before .before .before .before .before .before .before .pre .4)) (c .before .before .before .maximum .ensures) in
     omega (arith, few, c .before .before .before .before .before .before .if1 .left)
 
 same-length-2 : tie.Need-same-length-2

@@ -5,8 +5,9 @@ use mathlib.Core.Logic.{inr}
 use mathlib.Core.Path.{_∙_}
 use Rattle.machine.proofs.Outcomes.{elsewhere}
 use Rattle.interval_operators.proofs.Putting.{put-elements-negative, put-elements-outside, put-elements-done}
-use Rattle.interval_operators.proofs.Asking.{has-array, small-array, copies-elements, whole-size}
+use Rattle.interval_operators.proofs.Asking.{small-array, copies-elements, whole-size}
 use borrow.Author.Needs.{needs}
+use Rattle.elements.proofs.Tags.{array-there}
 use Rattle.interval_operators.proofs.put_elements.Statement.{statement}
 use Rattle.interval_operators.proofs.put_elements.Tie as tie
 
@@ -20,14 +21,14 @@ returns : tie.Need-returns
 returns c = put-elements-negative (c .before .before .before .before .before .pre .0) (c .before .integer-at .ensures) (c .before .before .before .before .before .pre .2) (c .before .before .before .before .before .pre .1) (c .before .before .before .before .before .pre .3) (c .if1 .taken) (search needs)
 
 size-of-requires : tie.Need-size-of-requires
-size-of-requires c κs = (omega (arith, c .before .before .before .before .before .before .before .pre .0), has-array (c .before .before .before .before .before .before .before .pre .3) (c .before .before .before .before .before .before .before .pre .4))
+size-of-requires c κs = (omega (arith, c .before .before .before .before .before .before .before .pre .0), array-there (c .before .before .before .before .before .before .before .pre .3) (c .before .before .before .before .before .before .before .pre .4))
 
 size-of-requires-2 : tie.Need-size-of-requires-2
-size-of-requires-2 c κs = (omega (arith, c .before .before .before .before .before .before .before .before .before .before .pre .0), has-array (c .before .before .before .before .before .before .before .before .before .before .pre .1) (c .before .before .before .before .before .before .before .before .before .before .pre .4))
+size-of-requires-2 c κs = (omega (arith, c .before .before .before .before .before .before .before .before .before .before .pre .0), array-there (c .before .before .before .before .before .before .before .before .before .before .pre .1) (c .before .before .before .before .before .before .before .before .before .before .pre .4))
 
 add-if2 : tie.Need-add-if2
 add-if2 c =
-    let few = small-array (omega (arith, c .before .before .before .before .before .before .before .before .before .before .before .pre .0)) (has-array (c .before .before .before .before .before .before .before .before .before .before .before .pre .3) (c .before .before .before .before .before .before .before .before .before .before .before .pre .4)) (c .before .before .before .size-of .ensures) in
+    let few = small-array (omega (arith, c .before .before .before .before .before .before .before .before .before .before .before .pre .0)) (array-there (c .before .before .before .before .before .before .before .before .before .before .before .pre .3) (c .before .before .before .before .before .before .before .before .before .before .before .pre .4)) (c .before .before .before .size-of .ensures) in
     omega (arith, few, c .before .before .before .before .before .before .if1 .left)
 
 same-length-2 : tie.Need-same-length-2

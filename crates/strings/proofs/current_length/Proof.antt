@@ -1,9 +1,10 @@
 -- `current_length` meets its contract: the loop keeps `Scanned`, that no byte before byte q is zero. The measure is what is left of the maximum.
 -- Assumes nothing.
-use Rattle.strings.proofs.Currents.{Scanned, begin, has-byte, ends, stops, again}
+use Rattle.strings.proofs.Currents.{Scanned, begin, ends, stops, again}
 use Prim.Native.Nat.{_-_}
 use native.Mathlib.Omega.{arith}
 use borrow.Author.Needs.{needs}
+use Rattle.elements.proofs.Strings.{has-byte}
 use Rattle.strings.proofs.current_length.Statement.{statement}
 use Rattle.strings.proofs.current_length.Tie as tie
 

@@ -4,7 +4,8 @@ use mathlib.Core.Path.{sym, ap, _∙_}
 use native.Mathlib.Omega.{arith}
 use lib.ListN.{length}
 use borrow.Author.Needs.{needs}
-use Rattle.text.proofs.Decimals.{integer-low, integer-high, decimal-short}
+use Rattle.semantics.specs.TextLaws.{decimal-length}
+use Rattle.text.proofs.Decimals.{integer-low, integer-high}
 use Rattle.text.proofs.integer_length.Statement.{statement}
 use Rattle.text.proofs.integer_length.Tie as tie
 
@@ -21,7 +22,7 @@ decimal-length-requires-2 : tie.Need-decimal-length-requires-2
 decimal-length-requires-2 c κs = search needs
 
 add-result : tie.Need-add-result
-add-result c = omega (arith, decimal-short (c .before .magnitude .result))
+add-result c = omega (arith, decimal-length (c .before .magnitude .result))
 
 returns-2 : tie.Need-returns-2
 returns-2 c =
