@@ -11,8 +11,8 @@ use Rattle.semantics.specs.Values.{string, Object, elements, text}
 use Rattle.semantics.specs.Machine as Floo
 use Rattle.semantics.specs.Machine.{withStore, object, bytesOf, change}
 use Rattle.token.specs.Strings.{StringAt, Gives, Unescapes}
-use Rattle.token.specs.declared.strings.Unescaped.{Unescaped}
-use Rattle.token.specs.declared.strings.Unescaped.the-variants as unescaped
+use Rattle.token.specs.declared.quoted.Unescaped.{Unescaped}
+use Rattle.token.specs.declared.quoted.Unescaped.the-variants as unescaped
 use Rattle.token.proofs.Escapes.{same-string}
 use Rattle.heap.specs.Chain.{live}
 use Rattle.heap.proofs.Shapes.{list-le}

@@ -15,13 +15,13 @@ use Rattle.semantics.specs.Tokens as tokens
 use Rattle.semantics.specs.declared.Error.{Error}
 use Rattle.semantics.specs.declared.Error.the-variants.{SyntaxError}
 use Rattle.token.specs.Strings.{metIs, actIs, after, StringAt, Begins, PieceAt, Unescapes}
-use Rattle.token.specs.declared.strings.Met.{Met}
-use Rattle.token.specs.declared.strings.Met.the-variants.{Nothing}
-use Rattle.token.specs.declared.strings.Act.{Act}
-use Rattle.token.specs.declared.strings.Act.the-variants.{Byte, Go, Close, Bad}
-use Rattle.token.specs.declared.strings.Piece.{Piece}
-use Rattle.token.specs.declared.strings.Piece.the-variants as piece
-use Rattle.token.specs.declared.strings.Unescaped.the-variants as unescaped
+use Rattle.token.specs.declared.quoted.Met.{Met}
+use Rattle.token.specs.declared.quoted.Met.the-variants.{Nothing}
+use Rattle.token.specs.declared.quoted.Act.{Act}
+use Rattle.token.specs.declared.quoted.Act.the-variants.{Byte, Go, Close, Bad}
+use Rattle.token.specs.declared.quoted.Piece.{Piece}
+use Rattle.token.specs.declared.quoted.Piece.the-variants as piece
+use Rattle.token.specs.declared.quoted.Unescaped.the-variants as unescaped
 
 -- ---- acts
 

@@ -23,8 +23,8 @@ use Rattle.token.specs.Lexing.{ClassAt, Lexes, StringToken, NameToken, B
 use Rattle.token.specs.declared.bytes.Class.{Class}
 use Rattle.token.specs.declared.numbers.Number.{Number}
 use Rattle.token.specs.declared.numbers.Number.the-variants.{Word, Fault}
-use Rattle.token.specs.declared.strings.Judged.{Judged}
-use Rattle.token.specs.declared.strings.Judged.the-variants as judged
+use Rattle.token.specs.declared.quoted.Judged.{Judged}
+use Rattle.token.specs.declared.quoted.Judged.the-variants as judged
 use Rattle.token.proofs.Blanks.{run-go}
 
 -- ---- runs of name bytes

@@ -8,16 +8,16 @@ use Rattle.semantics.specs.Values.{Result, ok, fault}
 use Rattle.semantics.specs.Tokens.{Quoted, quoted}
 use Rattle.semantics.specs.Tokens as tokens
 use Rattle.semantics.specs.declared.Error.the-variants.{SyntaxError}
-use Rattle.token.specs.declared.strings.Met.{Met}
-use Rattle.token.specs.declared.strings.Met.the-variants.{Nothing, Backslash, Return, Digit, Digits}
-use Rattle.token.specs.declared.strings.Act.{Act}
-use Rattle.token.specs.declared.strings.Act.the-variants as act
-use Rattle.token.specs.declared.strings.Piece.{Piece}
-use Rattle.token.specs.declared.strings.Piece.the-variants as piece
-use Rattle.token.specs.declared.strings.Judged.{Judged}
-use Rattle.token.specs.declared.strings.Judged.the-variants as judged
-use Rattle.token.specs.declared.strings.Unescaped.{Unescaped}
-use Rattle.token.specs.declared.strings.Unescaped.the-variants as unescaped
+use Rattle.token.specs.declared.quoted.Met.{Met}
+use Rattle.token.specs.declared.quoted.Met.the-variants.{Nothing, Backslash, Return, Digit, Digits}
+use Rattle.token.specs.declared.quoted.Act.{Act}
+use Rattle.token.specs.declared.quoted.Act.the-variants as act
+use Rattle.token.specs.declared.quoted.Piece.{Piece}
+use Rattle.token.specs.declared.quoted.Piece.the-variants as piece
+use Rattle.token.specs.declared.quoted.Judged.{Judged}
+use Rattle.token.specs.declared.quoted.Judged.the-variants as judged
+use Rattle.token.specs.declared.quoted.Unescaped.{Unescaped}
+use Rattle.token.specs.declared.quoted.Unescaped.the-variants as unescaped
 
 abbrev pub metIs : Met → tokens.Met
 metIs Nothing = tokens.nothing

@@ -13,7 +13,7 @@ use semantics::Kind;
 
 mod bytes;
 mod numbers;
-mod strings;
+mod quoted;
 
 use bytes::Class;
 use bytes::blank_end;
@@ -22,10 +22,10 @@ use bytes::run_end;
 use numbers::Number;
 use numbers::number_of;
 use numbers::starts_number;
-use strings::Judged;
-pub use strings::Unescaped;
-use strings::judge;
-pub use strings::unescape;
+use quoted::Judged;
+pub use quoted::Unescaped;
+use quoted::judge;
+pub use quoted::unescape;
 
 // The most bytes of a name.
 const NAME_BYTES: usize = 31;

@@ -1,9 +1,9 @@
--- `token::strings::unescape` meets its contract: what comes next in a string that is known to be good is a byte or its end.
+-- `token::quoted::unescape` meets its contract: what comes next in a string that is known to be good is a byte or its end.
 -- Assumes nothing.
 use Rattle.token.proofs.Escapes.{unescape-byte, unescape-closed, unescape-bad}
 use native.Mathlib.Omega.{arith}
-use Rattle.token.proofs.strings.unescape.Statement.{statement}
-use Rattle.token.proofs.strings.unescape.Tie as tie
+use Rattle.token.proofs.quoted.unescape.Statement.{statement}
+use Rattle.token.proofs.quoted.unescape.Tie as tie
 
 piece-at-requires : tie.Need-piece-at-requires
 piece-at-requires c κs = omega arith

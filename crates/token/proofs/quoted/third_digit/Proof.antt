@@ -1,12 +1,12 @@
--- `token::strings::third_digit` meets its contract: the three digits write a byte where their value is below 256.
+-- `token::quoted::third_digit` meets its contract: the three digits write a byte where their value is below 256.
 -- Assumes nothing.
 use borrow.Author.Tests.{not-true, not-false}
 use Prim.Native.Nat.{_+_, _*_}
 use Rattle.token.proofs.Classes.{within-low}
 use Rattle.token.proofs.Escapes.{octal-bad, octal-third, octal-large}
 use borrow.Author.Needs.{needs}
-use Rattle.token.proofs.strings.third_digit.Statement.{statement}
-use Rattle.token.proofs.strings.third_digit.Tie as tie
+use Rattle.token.proofs.quoted.third_digit.Statement.{statement}
+use Rattle.token.proofs.quoted.third_digit.Tie as tie
 
 is-octal-requires : tie.Need-is-octal-requires
 is-octal-requires c κs = tt

@@ -1,10 +1,10 @@
--- `token::strings::act_on` meets its contract: each state's arm is the definition's clause for it.
+-- `token::quoted::act_on` meets its contract: each state's arm is the definition's clause for it.
 -- Assumes nothing.
 use mathlib.Core.Path.{_∙_}
 use Rattle.token.proofs.Classes.{within-low}
 use Rattle.token.proofs.Escapes.{return-break, return-plain, nothing-plain, octal-bad, octal-second}
-use Rattle.token.proofs.strings.act_on.Statement.{statement}
-use Rattle.token.proofs.strings.act_on.Tie as tie
+use Rattle.token.proofs.quoted.act_on.Statement.{statement}
+use Rattle.token.proofs.quoted.act_on.Tie as tie
 
 enum-told : tie.Need-enum-told
 enum-told c = c .match .keys1

@@ -1,10 +1,10 @@
--- `token::strings::escape_act` meets its contract, by the tests that led to each return.
+-- `token::quoted::escape_act` meets its contract, by the tests that led to each return.
 -- Assumes nothing.
 use Rattle.semantics.specs.Tokens.{act}
 use Rattle.token.proofs.Classes.{within-low}
 use Rattle.token.proofs.Escapes.{escape-octal, escape-bad}
-use Rattle.token.proofs.strings.escape_act.Statement.{statement}
-use Rattle.token.proofs.strings.escape_act.Tie as tie
+use Rattle.token.proofs.quoted.escape_act.Statement.{statement}
+use Rattle.token.proofs.quoted.escape_act.Tie as tie
 
 returns : tie.Need-returns
 unfolding act

@@ -1,4 +1,4 @@
--- `token::strings::judge` meets its contract. The loop's invariant: up to i the string gave `size` bytes, and it goes on there.
+-- `token::quoted::judge` meets its contract. The loop's invariant: up to i the string gave `size` bytes, and it goes on there.
 -- Assumes nothing.
 use Prim.Native.Nat.{_-_}
 use mathlib.Core.Path.{subst}
@@ -6,8 +6,8 @@ use lib.ListN.{length}
 use Rattle.token.specs.Strings.{PieceAt}
 use Rattle.token.proofs.Escapes.{Judging, judging-starts, judging-byte, judging-closed, judging-bad}
 use native.Mathlib.Omega.{arith}
-use Rattle.token.proofs.strings.judge.Statement.{statement}
-use Rattle.token.proofs.strings.judge.Tie as tie
+use Rattle.token.proofs.quoted.judge.Statement.{statement}
+use Rattle.token.proofs.quoted.judge.Tie as tie
 
 abbrev Inv-loop : tie.InvT-loop
 Inv-loop script at i₀ size₀ i size = Judging script at i size

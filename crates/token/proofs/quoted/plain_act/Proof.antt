@@ -1,9 +1,9 @@
--- `token::strings::plain_act` meets its contract, by the tests that led to each return.
+-- `token::quoted::plain_act` meets its contract, by the tests that led to each return.
 -- Assumes nothing.
 use Rattle.semantics.specs.Tokens.{plainAct}
 use Rattle.token.proofs.Escapes.{plain-break, plain-byte}
-use Rattle.token.proofs.strings.plain_act.Statement.{statement}
-use Rattle.token.proofs.strings.plain_act.Tie as tie
+use Rattle.token.proofs.quoted.plain_act.Statement.{statement}
+use Rattle.token.proofs.quoted.plain_act.Tie as tie
 
 returns : tie.Need-returns
 unfolding plainAct

@@ -1,12 +1,12 @@
--- `token::strings::piece_at` meets its contract. The loop's invariant: up to i the string gave no byte, and the machine is in the state.
+-- `token::quoted::piece_at` meets its contract. The loop's invariant: up to i the string gave no byte, and the machine is in the state.
 -- Assumes nothing.
 use Prim.Native.Nat.{_-_}
 use lib.ListN.{length}
 use Rattle.token.proofs.Escapes.{Reading, reading-starts, reading-ends, reading-byte, reading-go, reading-close, reading-bad}
 use borrow.Author.Needs.{needs}
 use native.Mathlib.Omega.{arith}
-use Rattle.token.proofs.strings.piece_at.Statement.{statement}
-use Rattle.token.proofs.strings.piece_at.Tie as tie
+use Rattle.token.proofs.quoted.piece_at.Statement.{statement}
+use Rattle.token.proofs.quoted.piece_at.Tie as tie
 
 abbrev Inv-loop : tie.InvT-loop
 Inv-loop script at i₀ met₀ i met = Reading script at i met

@@ -1,0 +1,172 @@
+//! Lent buffers: words and bytes of any earlier contents, with more of them before and after that nobody lends.
+
+use floo_reference::Sizes;
+
+use crate::random::Random;
+use crate::sizes;
+
+const MARGIN: usize = 24;
+
+#[derive(Clone, PartialEq)]
+pub struct Buffer<T> {
+    all: Vec<T>,
+}
+
+impl<T: Copy + PartialEq> Buffer<T> {
+    fn new(length: usize, mut fill: impl FnMut() -> T) -> Buffer<T> {
+        Buffer {
+            all: (0..length + 2 * MARGIN).map(|_| fill()).collect(),
+        }
+    }
+
+    fn len(&self) -> usize {
+        self.all.len() - 2 * MARGIN
+    }
+
+    pub fn lent(&self) -> &[T] {
+        &self.all[MARGIN..MARGIN + self.len()]
+    }
+
+    fn lend(&mut self) -> &mut [T] {
+        let end = MARGIN + self.len();
+        &mut self.all[MARGIN..end]
+    }
+
+    /// Whether all but the first `changed` of what is lent is as before.
+    fn same_past(&self, changed: usize, before: &Buffer<T>) -> bool {
+        self.all[..MARGIN] == before.all[..MARGIN]
+            && self.all[MARGIN + changed..] == before.all[MARGIN + changed..]
+    }
+}
+
+impl Buffer<u8> {
+    /// The text at the front, and nothing past it.
+    pub fn check(&self, name: &str, count: usize, text: &[u8], before: &Buffer<u8>) -> Result<(), String> {
+        if self.lent().get(..count) != Some(text) {
+            return Err(format!(
+                "{name}: {:?} and not {:?}",
+                self.lent().get(..count).map(String::from_utf8_lossy),
+                String::from_utf8_lossy(text)
+            ));
+        }
+        if !self.same_past(count, before) {
+            return Err(format!("{name}: a byte past its {count} bytes has changed"));
+        }
+        Ok(())
+    }
+}
+
+#[derive(Clone, PartialEq)]
+pub struct Lent {
+    pub stack: Buffer<u32>,
+    pub exec: Buffer<u32>,
+    pub dictionary: Buffer<u32>,
+    pub cells: Buffer<u32>,
+    pub log: Buffer<u8>,
+    pub outcome: Buffer<u8>,
+}
+
+#[repr(C)]
+pub struct Reply {
+    pub refused: u32,
+    pub steps: u32,
+    pub log: usize,
+    pub outcome: usize,
+}
+
+extern "C" {
+    fn floo_run(
+        script: *const u8,
+        script_bytes: usize,
+        fuel: u32,
+        stack: *mut u32,
+        stack_words: usize,
+        execution: *mut u32,
+        execution_words: usize,
+        dictionary: *mut u32,
+        dictionary_words: usize,
+        cells: *mut u32,
+        cell_words: usize,
+        log: *mut u8,
+        log_bytes: usize,
+        outcome: *mut u8,
+        outcome_bytes: usize,
+    ) -> Reply;
+}
+
+impl Lent {
+    pub fn new(random: &mut Random) -> Lent {
+        let sizes = sizes(random);
+        let words = |random: &mut Random, slots: usize, width: usize| {
+            let length = slots * width + random.below(width);
+            Buffer::new(length, || random.below(usize::MAX) as u32)
+        };
+        let stack = words(random, sizes.stack, 2);
+        let exec = words(random, sizes.exec, 8);
+        let dictionary = words(random, sizes.dictionary, 12);
+        let cells = words(random, sizes.cells, 4);
+        Lent {
+            stack,
+            exec,
+            dictionary,
+            cells,
+            log: Buffer::new(sizes.log, || random.byte()),
+            outcome: Buffer::new(sizes.outcome, || random.byte()),
+        }
+    }
+
+    pub fn sizes(&self) -> Sizes {
+        Sizes::from_words(
+            self.stack.len(),
+            self.exec.len(),
+            self.dictionary.len(),
+            self.cells.len(),
+            self.log.len(),
+            self.outcome.len(),
+        )
+    }
+
+    pub fn run(&mut self, script: &[u8], fuel: u32) -> Reply {
+        let stack = self.stack.lend();
+        let exec = self.exec.lend();
+        let dictionary = self.dictionary.lend();
+        let cells = self.cells.lend();
+        let log = self.log.lend();
+        let outcome = self.outcome.lend();
+        // SAFETY: each pointer and length are those of a slice, and no two of the slices overlap.
+        unsafe {
+            floo_run(
+                script.as_ptr(),
+                script.len(),
+                fuel,
+                stack.as_mut_ptr(),
+                stack.len(),
+                exec.as_mut_ptr(),
+                exec.len(),
+                dictionary.as_mut_ptr(),
+                dictionary.len(),
+                cells.as_mut_ptr(),
+                cells.len(),
+                log.as_mut_ptr(),
+                log.len(),
+                outcome.as_mut_ptr(),
+                outcome.len(),
+            )
+        }
+    }
+
+    /// Words past whole slots, and those that were not lent.
+    pub fn check_tails(&self, before: &Lent) -> Result<(), String> {
+        for (name, width, now, then) in [
+            ("stack", 2, &self.stack, &before.stack),
+            ("execution", 8, &self.exec, &before.exec),
+            ("dictionary", 12, &self.dictionary, &before.dictionary),
+            ("cells", 4, &self.cells, &before.cells),
+        ] {
+            if !now.same_past(now.len() / width * width, then) {
+                return Err(format!("{name}: a word past the whole slots has changed"));
+            }
+        }
+        Ok(())
+    }
+}
