@@ -1,0 +1,64 @@
+//! The exported function of `libfloo_c.a`, as `include/floo.h` has it: the one place here that is not safe Rust.
+
+/// The number of the refusal, or 0 and what the run came to.
+#[repr(C)]
+pub struct Reply {
+    pub refused: u32,
+    pub steps: u32,
+    pub log: usize,
+    pub outcome: usize,
+}
+
+extern "C" {
+    fn floo_run(
+        script: *const u8,
+        script_bytes: usize,
+        fuel: u32,
+        stack: *mut u32,
+        stack_words: usize,
+        execution: *mut u32,
+        execution_words: usize,
+        dictionary: *mut u32,
+        dictionary_words: usize,
+        cells: *mut u32,
+        cell_words: usize,
+        log: *mut u8,
+        log_bytes: usize,
+        outcome: *mut u8,
+        outcome_bytes: usize,
+    ) -> Reply;
+}
+
+#[allow(unsafe_code, clippy::too_many_arguments)]
+pub fn run(
+    script: &[u8],
+    fuel: u32,
+    stack: &mut [u32],
+    execution: &mut [u32],
+    dictionary: &mut [u32],
+    cells: &mut [u32],
+    log: &mut [u8],
+    outcome: &mut [u8],
+) -> Reply {
+    // SAFETY: each pointer and length are those of a slice, so the pointer is not null and is to as many elements; Rust lends no two
+    // `&mut` slices that overlap, nor one that overlaps a `&` slice, and no one else uses them during the call. Nothing else is asked.
+    unsafe {
+        floo_run(
+            script.as_ptr(),
+            script.len(),
+            fuel,
+            stack.as_mut_ptr(),
+            stack.len(),
+            execution.as_mut_ptr(),
+            execution.len(),
+            dictionary.as_mut_ptr(),
+            dictionary.len(),
+            cells.as_mut_ptr(),
+            cells.len(),
+            log.as_mut_ptr(),
+            log.len(),
+            outcome.as_mut_ptr(),
+            outcome.len(),
+        )
+    }
+}

@@ -1,0 +1,100 @@
+//! Runs Floo 0.5 scripts by the proved runner of this repository.
+//!
+//! A [`Runner`] owns the room for runs and can be used for one script after another; a run neither allocates nor depends on
+//! the runs before it.
+//!
+//! ```
+//! use floo::{Runner, Sizes};
+//!
+//! let mut runner = Runner::new(Sizes::default());
+//! let report = runner.run(b"#FLOO\n1 2 add echo", 100).unwrap();
+//! assert_eq!(report.log(), b"3\n");
+//! assert_eq!(report.value("ending"), Some("finished"));
+//! ```
+
+#![deny(unsafe_code)]
+
+mod exported;
+mod refusal;
+mod report;
+
+pub use refusal::Refusal;
+pub use report::Report;
+
+/// Fuel that is accepted at most.
+pub const FUEL_MAX: u32 = 1_000_000;
+
+/// The room for a run: slots, cells, and bytes of the log. The default is what the program `floo` has.
+#[derive(Clone, Copy, Debug, PartialEq, Eq)]
+pub struct Sizes {
+    /// Stack slots, 8 to 256.
+    pub stack: usize,
+    /// Execution slots, 4 to 128.
+    pub execution: usize,
+    /// Dictionary slots, 58 to 512.
+    pub dictionary: usize,
+    /// Arena cells, 1 to 32,768: an array of n takes n + 1, a string of at most m bytes 1 + m/8, rounded up.
+    pub cells: usize,
+    /// Bytes of the log, at most 65,536.
+    pub log: usize,
+}
+
+impl Default for Sizes {
+    fn default() -> Self {
+        Sizes {
+            stack: 256,
+            execution: 128,
+            dictionary: 512,
+            cells: 4096,
+            log: 8192,
+        }
+    }
+}
+
+/// Room for runs, and the runs in it.
+pub struct Runner {
+    stack: Vec<u32>,
+    execution: Vec<u32>,
+    dictionary: Vec<u32>,
+    cells: Vec<u32>,
+    log: Vec<u8>,
+    outcome: Vec<u8>,
+}
+
+impl Runner {
+    /// Room of these sizes. Sizes outside the limits are allowed here, and refused by [`Runner::run`]; no more is allocated for them
+    /// than that takes.
+    pub fn new(sizes: Sizes) -> Self {
+        let stack = sizes.stack.min(257);
+        Runner {
+            stack: vec![0; 2 * stack],
+            execution: vec![0; 8 * sizes.execution.min(129)],
+            dictionary: vec![0; 12 * sizes.dictionary.min(513)],
+            cells: vec![0; 4 * sizes.cells.min(32_769)],
+            log: vec![0; sizes.log.min(65_537)],
+            outcome: vec![0; 256 + 136 * stack],
+        }
+    }
+
+    /// Runs a script with so much fuel, or refuses it. Each step costs 1 fuel.
+    pub fn run(&mut self, script: &[u8], fuel: u32) -> Result<Report<'_>, Refusal> {
+        let reply = exported::run(
+            script,
+            fuel,
+            &mut self.stack,
+            &mut self.execution,
+            &mut self.dictionary,
+            &mut self.cells,
+            &mut self.log,
+            &mut self.outcome,
+        );
+        match reply.refused {
+            0 => Ok(Report::new(
+                reply.steps,
+                &self.log[..reply.log],
+                &self.outcome[..reply.outcome],
+            )),
+            number => Err(Refusal::from_number(number).expect("refusals have the numbers 1 to 9")),
+        }
+    }
+}

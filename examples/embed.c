@@ -1,0 +1,106 @@
+/*
+ * The counter of a stockroom: for each label that is scanned a Floo script takes the label apart and writes a line of the ledger.
+ * A label is SOCKET:PLACE:TIME. One that is not gives an error, and the counter says which. embed/run_c.sh builds and runs it.
+ */
+#include <stdio.h>
+#include <string.h>
+
+#include "floo.h"
+
+/* What the counter keeps for its runs. */
+enum { STACK = 32, EXECUTION = 16, DICTIONARY = 80, CELLS = 128, LOG = 256, FUEL = 20000 };
+
+static uint32_t stack[FLOO_STACK_WORDS(STACK)];
+static uint32_t execution[FLOO_EXECUTION_WORDS(EXECUTION)];
+static uint32_t dictionary[FLOO_DICTIONARY_WORDS(DICTIONARY)];
+static uint32_t cells[FLOO_CELL_WORDS(CELLS)];
+static uint8_t log_bytes[LOG];
+static uint8_t outcome[FLOO_OUTCOME_BYTES(STACK)];
+
+/* The rule, as the stockroom keeper wrote it. The label stands in front of it. */
+static const char rule[] =
+    "# from -> place of the next colon, or the label's length\n"
+    "/colon {\n"
+    "    { dup label length ge { exit } if\n"
+    "      label 1 index get 58 eq { exit } if\n"
+    "      1 add } loop\n"
+    "} bind def\n"
+    "# text -> its value as a decimal number\n"
+    "/number {\n"
+    "    /text exch def 0\n"
+    "    0 1 text length 1 sub { text exch get 48 sub exch 10 mul add } for\n"
+    "} bind def\n"
+    "/first 0 colon def\n"
+    "/second first 1 add colon def\n"
+    "/socket label 0 first getinterval number def\n"
+    "/place label first 1 add second first sub 1 sub getinterval def\n"
+    "/time label second 1 add label length second sub 1 sub getinterval number def\n"
+    "\"socket \" print socket 8 string cvs print\n"
+    "\" at \" print place print\n"
+    "\" since \" print time 12 string cvs print \"\\n\" print\n";
+
+/* The script for a label: its bytes as a Floo string, each one that is not a plain character in octal. NULL if there is no room. */
+static const char *write_script(const char *label, char *script, size_t size) {
+    size_t n = (size_t)snprintf(script, size, "#FLOO\n/label \"");
+    for (; *label != '\0'; label++) {
+        unsigned char byte = (unsigned char)*label;
+        int plain = byte >= 32 && byte < 127 && byte != '"' && byte != '\\';
+        if (n + 5 > size) {
+            return NULL;
+        }
+        n += (size_t)snprintf(script + n, size - n, plain ? "%c" : "\\%03o", byte);
+    }
+    return (size_t)snprintf(script + n, size - n, "\" def\n%s", rule) < size - n ? script : NULL;
+}
+
+/* The value of a line of the outcome. */
+static void print_value(const char *key, size_t length) {
+    const char *at = (const char *)outcome, *end = at + length;
+    while (at < end) {
+        const char *stop = memchr(at, '\n', (size_t)(end - at));
+        if (strncmp(at, key, strlen(key)) == 0) {
+            at += strlen(key);
+            fwrite(at, 1, (size_t)(stop - at), stdout);
+            return;
+        }
+        at = stop + 1;
+    }
+}
+
+static void scan(const char *label) {
+    static char space[4096];
+    const char *script = write_script(label, space, sizeof space);
+    if (script == NULL) {
+        printf("no line: the label is too long\n");
+        return;
+    }
+    floo_reply reply = floo_run((const uint8_t *)script, strlen(script), FUEL,
+                                stack, FLOO_STACK_WORDS(STACK), execution, FLOO_EXECUTION_WORDS(EXECUTION),
+                                dictionary, FLOO_DICTIONARY_WORDS(DICTIONARY), cells, FLOO_CELL_WORDS(CELLS),
+                                log_bytes, LOG, outcome, sizeof outcome);
+    if (reply.refused != FLOO_NOT_REFUSED) {
+        printf("no line: refused, number %u\n", reply.refused);
+    } else if (memcmp(outcome, "ending=finished\n", 16) == 0) {
+        fwrite(log_bytes, 1, reply.log, stdout);
+    } else {
+        printf("no line: ");
+        print_value("error=", reply.outcome);
+        printf(" in ");
+        print_value("command=", reply.outcome);
+        printf(" after %u steps\n", reply.steps);
+    }
+}
+
+int main(int argc, char **argv) {
+    static const char *const labels[] = {"0417:rack B-7:1731690000", "0388:drawer \"12\":1731690412", "0417"};
+    if (argc > 1) {
+        for (int i = 1; i < argc; i++) {
+            scan(argv[i]);
+        }
+        return 0;
+    }
+    for (size_t i = 0; i < sizeof labels / sizeof labels[0]; i++) {
+        scan(labels[i]);
+    }
+    return 0;
+}
