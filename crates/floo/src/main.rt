@@ -1,4 +1,8 @@
 // The program: a script on standard input is run with the sizes of the scope paper. Printed are its log and then its outcome, or the number of the refusal.
+// What is printed is proved; that the bytes are those of standard input and go to standard output is not, since no contract can say it.
+ghost use Rattle.semantics.specs.Setup.{printed};
+ghost use Rattle.text.specs.Writing.{Written};
+ghost use Rattle.floo.specs.Sizes.{fuel, sizes};
 use libc::STDIN_FILENO;
 use libc::STDOUT_FILENO;
 use runner::Answer;
@@ -8,7 +12,7 @@ const FUEL: u32 = 1_000_000;
 // The longest script and one byte more, so that a longer one is refused and not cut.
 const SCRIPT: usize = 32_769;
 
-// 256, 128 and 512 slots, 4,096 cells, in words.
+// 256, 128 and 512 slots and 4,096 cells, in words.
 const STACK: usize = 512;
 
 const EXECUTION: usize = 1024;
@@ -22,13 +26,22 @@ const LOG: usize = 8192;
 // 256 + 136 × 256
 const OUTCOME: usize = 35_072;
 
+// A log and an outcome.
+const PAGE: usize = 43_264;
+
 fn main() {
     let mut space = [0u8; SCRIPT];
     let n = io::read_full(STDIN_FILENO, &mut space);
-    run(&space[..n]);
+    let mut page = [0u8; PAGE];
+    let end = write_page(&space[..n], &mut page);
+    io::write_all(STDOUT_FILENO, &page[..end]);
 }
 
-fn run(script: &[u8]) {
+// What is printed of a script.
+// Rules out: the outcome before the log; a refusal without its line's end; a run with other sizes.
+fn write_page(script: &[u8], page: &mut [u8; PAGE]) -> usize
+    ensures { λ r. ⌜ Written 0 (printed (now (script .entry)) fuel sizes) (now (page .entry)) (now (page .exit)) r ⌝ }
+{
     let mut stack = [0u32; STACK];
     let mut execution = [0u32; EXECUTION];
     let mut dictionary = [0u32; DICTIONARY];
@@ -46,20 +59,12 @@ fn run(script: &[u8]) {
         &mut outcome,
     );
     match answer {
-        Answer::Refused(number) => {
-            say(b"refused=");
-            io::print_decimal(STDOUT_FILENO, number as u64);
-            say(b"\n");
-        }
+        Answer::Refused(number) => outcome::write_number(page, 0, b"refused", number),
         Answer::Ran(report) => {
             let logged = report.log;
             let written = report.outcome;
-            say(&log[..logged]);
-            say(&outcome[..written]);
+            let next = text::copy(page, 0, &log[..logged]);
+            text::copy(page, next, &outcome[..written])
         }
     }
-}
-
-fn say(bytes: &[u8]) {
-    io::write_all(STDOUT_FILENO, bytes);
 }

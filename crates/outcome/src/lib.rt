@@ -147,7 +147,7 @@ fn write_counts(
 }
 
 // A line of a key and a number, which has 10 digits at most.
-fn write_number(out: &mut [u8], at: usize, key: &[u8], n: u32) -> usize
+pub fn write_number(out: &mut [u8], at: usize, key: &[u8], n: u32) -> usize
     requires { ⌜ at + length (now key) + 12 ≤ length (now out) ⌝ }
     ensures { λ r. ⌜ Written at (line (now (key .entry)) (decimal n)) (now (out .entry)) (now (out .exit)) r ⌝ }
 {

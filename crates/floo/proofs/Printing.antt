@@ -1,0 +1,76 @@
+-- What is printed of a run: its log and outcome, read back from the buffers, or its refusal.
+-- Assumes nothing.
+use mathlib.Core.Path.{_≡_, refl, sym, ap, _∙_, subst}
+use mathlib.Core.List.{List, _++_}
+use Prim.Native.Nat.{ℕ, zero, suc, _+_, _≤_, _<_}
+use lib.ListN.{length, take, drop, length-append}
+use lib.Seq.{take-at, length-take-le}
+use native.Mathlib.Nat.{zero-add}
+use native.Mathlib.Omega.{arith}
+use Rattle.semantics.specs.Text.{bytes, decimal}
+use Rattle.semantics.specs.Outcome.{line, outcome}
+use Rattle.semantics.specs.ObjectOperators.{pasted}
+use Rattle.semantics.specs.Setup.{Lent, refusal, printed}
+use Rattle.text.specs.Writing.{Written}
+use Rattle.text.proofs.Pasting.{then, respelt}
+use Rattle.runner.specs.Promise.{Runs, AnswerIs, lentOf, theRun}
+use Rattle.runner.specs.declared.Answer.{Answer}
+use Rattle.runner.specs.declared.Answer.the-variants.{Refused, Ran}
+use Rattle.runner.specs.declared.Report.{Report}
+use Rattle.floo.specs.Sizes.{fuel, sizes}
+
+-- ---- a text at the start of a buffer
+
+length-within : (t l : List ℕ) → length t ≤ length (pasted 0 t l)
+unfolding pasted
+length-within t l = omega (arith, length-append (take 0 l ++ t) (drop (0 + length t) l), length-append (take 0 l) t)
+
+pub within : {t l l′ : List ℕ} {n : ℕ} → Written 0 t l l′ n → n ≤ length l′
+within {t} {l} w = omega (arith, w .end, ap (λ (x : List ℕ). length x) (w .bytes), length-within t l)
+
+read-pasted : (t l : List ℕ) → take (length t) (pasted 0 t l) ≡ t
+unfolding pasted
+read-pasted t l = take-at (take 0 l ++ t) (drop (0 + length t) l) (length t) refl
+
+read-back : {t l l′ : List ℕ} {n : ℕ} → Written 0 t l l′ n → take n l′ ≡ t
+read-back {t} {l} w = rw (w .end, w .bytes, zero-add) (read-pasted t l)
+
+-- ---- the definition's text
+
+printed-refusal : (script : List ℕ) (g : Lent) (n : ℕ) → refusal script fuel g ≡ n → 0 < n → printed script fuel g ≡ line (bytes "refused") (decimal n)
+unfolding printed
+printed-refusal script g zero e h = absurd (omega arith)
+printed-refusal script g (suc n) e h = rw (e, printed)
+
+printed-run : (script : List ℕ) (g : Lent) → refusal script fuel g ≡ 0 → printed script fuel g ≡ theRun script fuel g .final .machine .log ++ outcome (theRun script fuel g)
+unfolding printed
+printed-run script g e = rw (e, printed)
+
+-- The buffers are of the program's sizes.
+abbrev pub Sized : List ℕ → List ℕ → List ℕ → List ℕ → List ℕ → List ℕ → Type 0
+Sized s e d c l o = (length s ≡ 512) × (length e ≡ 1024) × (length d ≡ 6144) × (length c ≡ 16384) × (length l ≡ 8192) × (length o ≡ 35072)
+
+lent : (s e d c l o : List ℕ) → Sized s e d c l o → lentOf s e d c l o ≡ sizes
+lent s e d c l o (p, q, u, v, w, x) = rw (p, q, u, v, w, x)
+
+module _ {script s s′ e e′ d d′ c c′ l l′ o o′ : List ℕ} {a : Answer} (runs : Runs script fuel s s′ e e′ d d′ c c′ l l′ o o′ a) where
+  is : {b : Answer} → a ≡ b → AnswerIs script fuel s s′ e e′ d d′ c c′ l l′ o o′ b
+  is p = subst (AnswerIs script fuel s s′ e e′ d d′ c c′ l l′ o o′) p (runs .answers)
+
+  pub counts : {x : Report} → a ≡ Ran x → (x .log ≤ length l′) × (x .outcome ≤ length o′)
+  counts p = (within (is p .1 .log), within (is p .1 .outcome))
+
+  pub parts : {x : Report} → a ≡ Ran x → (length (take (x .log) l′) ≡ x .log) × (length (take (x .outcome) o′) ≡ x .outcome)
+  parts p = (length-take-le _ _ (counts p .0), length-take-le _ _ (counts p .1))
+
+  pub prints-refusal : {n : ℕ} {page new : List ℕ} {r : ℕ} → Sized s e d c l o → a ≡ Refused n → Written 0 (line (bytes "refused") (decimal n)) page new r → Written 0 (printed script fuel sizes) page new r
+  prints-refusal {n} sized p w =
+      let same = lent s e d c l o sized in
+      respelt (printed-refusal script sizes n (ap (refusal script fuel) (sym same) ∙ is p .0) (is p .1)) w
+
+  pub prints-run : {x : Report} {page mid new : List ℕ} {next r : ℕ} → Sized s e d c l o → a ≡ Ran x → Written 0 (take (x .log) l′) page mid next → Written next (take (x .outcome) o′) mid new r → Written 0 (printed script fuel sizes) page new r
+  prints-run sized p u w =
+      let same = lent s e d c l o sized in
+      let ran = is p in
+      let text = printed-run script (lentOf s e d c l o) (ran .0) in
+      respelt (ap (printed script fuel) (sym same) ∙ text) (then (omega arith) (respelt (sym (read-back (ran .1 .log))) u) (respelt (sym (read-back (ran .1 .outcome))) w))
