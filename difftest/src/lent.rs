@@ -1,5 +1,6 @@
 //! Lent buffers: words and bytes of any earlier contents, with more of them before and after that nobody lends.
 
+use floo::{run_lent, Reply};
 use floo_reference::Sizes;
 
 use crate::random::Random;
@@ -66,34 +67,6 @@ pub struct Lent {
     pub outcome: Buffer<u8>,
 }
 
-#[repr(C)]
-pub struct Reply {
-    pub refused: u32,
-    pub steps: u32,
-    pub log: usize,
-    pub outcome: usize,
-}
-
-extern "C" {
-    fn floo_run(
-        script: *const u8,
-        script_bytes: usize,
-        fuel: u32,
-        stack: *mut u32,
-        stack_words: usize,
-        execution: *mut u32,
-        execution_words: usize,
-        dictionary: *mut u32,
-        dictionary_words: usize,
-        cells: *mut u32,
-        cell_words: usize,
-        log: *mut u8,
-        log_bytes: usize,
-        outcome: *mut u8,
-        outcome_bytes: usize,
-    ) -> Reply;
-}
-
 impl Lent {
     pub fn new(random: &mut Random) -> Lent {
         let sizes = sizes(random);
@@ -127,32 +100,16 @@ impl Lent {
     }
 
     pub fn run(&mut self, script: &[u8], fuel: u32) -> Reply {
-        let stack = self.stack.lend();
-        let exec = self.exec.lend();
-        let dictionary = self.dictionary.lend();
-        let cells = self.cells.lend();
-        let log = self.log.lend();
-        let outcome = self.outcome.lend();
-        // SAFETY: each pointer and length are those of a slice, and no two of the slices overlap.
-        unsafe {
-            floo_run(
-                script.as_ptr(),
-                script.len(),
-                fuel,
-                stack.as_mut_ptr(),
-                stack.len(),
-                exec.as_mut_ptr(),
-                exec.len(),
-                dictionary.as_mut_ptr(),
-                dictionary.len(),
-                cells.as_mut_ptr(),
-                cells.len(),
-                log.as_mut_ptr(),
-                log.len(),
-                outcome.as_mut_ptr(),
-                outcome.len(),
-            )
-        }
+        run_lent(
+            script,
+            fuel,
+            self.stack.lend(),
+            self.exec.lend(),
+            self.dictionary.lend(),
+            self.cells.lend(),
+            self.log.lend(),
+            self.outcome.lend(),
+        )
     }
 
     /// Words past whole slots, and those that were not lent.

@@ -1,6 +1,8 @@
 //! Random scripts, fuel and room, run by the proved runner and by the reference interpreter: the answers, every lent byte outside what is promised to
 //! change, and the objects that the runner's words show.
 
+#![forbid(unsafe_code)]
+
 #[path = "../../reference/tests/hostile/random.rs"]
 pub mod random;
 #[path = "../../reference/tests/hostile/scripts.rs"]

@@ -18,6 +18,7 @@ pub struct Report {
 }
 
 // A script is run with what is lent, or refused.
+// Rules out: a refusal that has touched a buffer; a word past whole slots written; a run that answers without its steps.
 pub fn run(
     script: &[u8],
     fuel: u32,

@@ -29,6 +29,8 @@ extern "C" {
     ) -> Reply;
 }
 
+/// Runs a script in buffers that the caller lends: 2 words for a stack slot, 8 for an execution slot, 12 for a dictionary slot, 4 for a cell, and an outcome of at
+/// least 256 + 136 × stack slots bytes. Any lengths may be lent.
 #[allow(unsafe_code, clippy::too_many_arguments)]
 pub fn run(
     script: &[u8],

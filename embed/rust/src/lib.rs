@@ -18,6 +18,7 @@ mod exported;
 mod refusal;
 mod report;
 
+pub use exported::{run as run_lent, Reply};
 pub use refusal::Refusal;
 pub use report::Report;
 
