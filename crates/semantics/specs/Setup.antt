@@ -71,6 +71,16 @@ printed script fuel l =
 
 -- ---- the token reading
 
+-- The paper's words for each kind of token.
+unfoldable pub kindText : Kind → List ℕ
+kindText Integer = bytes "integer"
+kindText String = bytes "string"
+kindText LiteralName = bytes "literal name"
+kindText ExecutableName = bytes "executable name"
+kindText OpenBrace = bytes "open brace"
+kindText CloseBrace = bytes "close brace"
+kindText End = bytes "end"
+
 pub data Reading : Type 0 where
   refused : ℕ → Reading
   faulty : Error → Reading
@@ -104,5 +114,5 @@ reading script offset =
 
 -- Opens every definition of this file.
 unfoldable pub settings : Unit {0}
-unfolding limits firstFrom isTooLong refusal printed readingOf reading
+unfolding limits firstFrom isTooLong refusal printed kindText readingOf reading
 settings = tt

@@ -17,7 +17,7 @@ pub enum Error {
     IoError,
 }
 
-// The kinds of tokens.
+// The kinds of tokens. `kindText` of specs/Setup gives each its words in the paper.
 pub enum Kind {
     Integer,
     String,

@@ -4,9 +4,9 @@ use mathlib.Core.Path.{_≡_}
 use mathlib.Core.List.{List, []}
 use Prim.Native.Nat.{ℕ, _+_, _-_, _<_, _≤_}
 use lib.ListN.{length, take, drop}
+use Rattle.semantics.specs.Outcome.{errorText}
+use Rattle.semantics.specs.Setup.{kindText}
 use Rattle.semantics.specs.Setup as setup
-use Rattle.semantics.specs.declared.Error.{Error}
-use Rattle.semantics.specs.declared.Kind.{Kind}
 use Rattle.semantics.specs.declared.Kind.the-variants as kind
 use Rattle.token.specs.declared.Token.{Token}
 use Rattle.token.specs.declared.Token.the-variants.{Integer, String, ExecutableName, LiteralName, OpenBrace, CloseBrace, End}
@@ -15,11 +15,11 @@ use Rattle.token.specs.declared.Reading.the-variants as reading
 use Rattle.token.specs.declared.Located.{Located}
 use Rattle.token.specs.declared.Located.the-variants as located
 
--- Refused by its number, faulty, or a token of a kind.
+-- Refused by its number, faulty by the error's name, or a token by its kind, in the paper's words.
 pub data Verdict : Type 0 where
   refused : ℕ → Verdict
-  faulty : Error → Verdict
-  token : Kind → Verdict
+  faulty : List ℕ → Verdict
+  token : List ℕ → Verdict
 
 -- A verdict, with the offset after: the one given, where it is refused or faulty.
 pub record Answer : Type 0 where
@@ -30,14 +30,14 @@ pub record Answer : Type 0 where
 abbrev pub answerOf : ℕ → Reading → Answer
 answerOf offset reading.TooLong = record { verdict = refused 1; next = offset }
 answerOf offset reading.PastEnd = record { verdict = refused 10; next = offset }
-answerOf offset (reading.Faulty e) = record { verdict = faulty e; next = offset }
-answerOf offset (reading.Read k n) = record { verdict = token k; next = n }
+answerOf offset (reading.Faulty e) = record { verdict = faulty (errorText e); next = offset }
+answerOf offset (reading.Read k n) = record { verdict = token (kindText k); next = n }
 
 -- What the definition's reading says.
 abbrev pub answer : ℕ → setup.Reading → Answer
 answer offset (setup.refused n) = record { verdict = refused n; next = offset }
-answer offset (setup.faulty e) = record { verdict = faulty e; next = offset }
-answer offset (setup.read k n start size) = record { verdict = token k; next = n }
+answer offset (setup.faulty e) = record { verdict = faulty (errorText e); next = offset }
+answer offset (setup.read k n start size) = record { verdict = token (kindText k); next = n }
 
 -- A token's own bytes; none where there is no token.
 abbrev pub partOf : List ℕ → setup.Reading → List ℕ

@@ -1,0 +1,41 @@
+//! The least time of several rounds, each long enough to be read.
+
+use std::time::{Duration, Instant};
+
+const ROUNDS: usize = 7;
+const ROUND: Duration = Duration::from_millis(100);
+
+/// Seconds that one call takes, in the best of the rounds.
+pub fn seconds(mut call: impl FnMut()) -> f64 {
+    let count = calls_in(ROUND, &mut call);
+    (0..ROUNDS)
+        .map(|_| time(count, &mut call).as_secs_f64() / f64::from(count))
+        .fold(f64::INFINITY, f64::min)
+}
+
+/// Seconds that the first call takes more than the second. Their rounds alternate, so that both meet the same disturbances.
+pub fn difference(mut more: impl FnMut(), mut less: impl FnMut()) -> f64 {
+    let count = calls_in(ROUND, &mut more);
+    let (mut with, mut without) = (Duration::MAX, Duration::MAX);
+    for _ in 0..2 * ROUNDS {
+        with = with.min(time(count, &mut more));
+        without = without.min(time(count, &mut less));
+    }
+    (with.as_secs_f64() - without.as_secs_f64()) / f64::from(count)
+}
+
+fn calls_in(round: Duration, call: &mut impl FnMut()) -> u32 {
+    let mut count = 1;
+    while time(count, call) < round {
+        count *= 2;
+    }
+    count
+}
+
+fn time(count: u32, call: &mut impl FnMut()) -> Duration {
+    let begin = Instant::now();
+    for _ in 0..count {
+        call();
+    }
+    begin.elapsed()
+}
