@@ -1,5 +1,5 @@
 /*
- * The exported function at lengths of every kind. Each buffer ends where a page begins that no one may touch, so a read or a write past a length ends
+ * The exported functions at lengths of every kind. Each buffer ends where a page begins that no one may touch, so a read or a write past a length ends
  * this program; what lies before a buffer, and what a run may not change, is compared. The expected numbers are those of the table of refusals.
  */
 #define _DEFAULT_SOURCE
@@ -51,7 +51,15 @@ static int same(int k, size_t from, size_t to) {
     return 1;
 }
 
-/* One call. `length` is in elements; the script is the text given, in a buffer of its own. */
+/* The text, with blanks up to the length, in the script's buffer. */
+static void write_script(const char *script, size_t length) {
+    if (length <= most[SCRIPT]) {
+        memset(buffer(SCRIPT, length), ' ', length);
+        memcpy(buffer(SCRIPT, length), script, strlen(script) < length ? strlen(script) : length);
+    }
+}
+
+/* One run. `length` is in elements. */
 static void call(const char *title, const char *script, uint32_t fuel, const size_t length[BUFFERS], uint32_t refused, const char *gives) {
     tests++;
     for (int k = 0; k < BUFFERS; k++) {
@@ -63,10 +71,7 @@ static void call(const char *title, const char *script, uint32_t fuel, const siz
     for (int k = 0; k < BUFFERS; k++) {
         b[k] = buffer(k, length[k]);
     }
-    if (length[SCRIPT] <= most[SCRIPT]) {
-        memset(b[SCRIPT], ' ', length[SCRIPT]);
-        memcpy(b[SCRIPT], script, strlen(script) < length[SCRIPT] ? strlen(script) : length[SCRIPT]);
-    }
+    write_script(script, length[SCRIPT]);
     floo_reply r = floo_run(b[SCRIPT], length[SCRIPT], fuel, (uint32_t *)b[STACK], length[STACK], (uint32_t *)b[EXECUTION], length[EXECUTION],
                             (uint32_t *)b[DICTIONARY], length[DICTIONARY], (uint32_t *)b[CELLS], length[CELLS], b[LOG], length[LOG], b[OUTCOME],
                             length[OUTCOME]);
@@ -113,8 +118,81 @@ static void with(const char *title, int k, size_t length, uint32_t refused, cons
     call(title, hello, 12, lengths, refused, gives);
 }
 
+/* Lengths that no buffer has. */
+static const size_t huge[] = {(size_t)1 << 31, (size_t)1 << 32, (size_t)1 << 61, (size_t)1 << 62, ((size_t)1 << 62) + 8, (size_t)1 << 63,
+                              SIZE_MAX - 1, SIZE_MAX};
+
+/* One reading of a token: the reply, and that no byte of the script changes. */
+static void reading(const char *title, const char *script, size_t length, size_t offset, floo_token_reply expected) {
+    static uint8_t before[FLOO_SCRIPT_BYTES_MAX + 1];
+    size_t lent = length <= most[SCRIPT] ? length : 0;
+    tests++;
+    write_script(script, length);
+    memcpy(before, buffer(SCRIPT, length), lent);
+    floo_token_reply r = floo_token(buffer(SCRIPT, length), length, offset);
+    if (r.refused != expected.refused || r.fault != expected.fault || r.kind != expected.kind || r.next != expected.next || r.start != expected.start ||
+        r.size != expected.size) {
+        printf("%s: refused %u, fault %u, kind %u, next %zu, start %zu, size %zu\n", title, r.refused, r.fault, r.kind, r.next, r.start, r.size);
+        faults++;
+    }
+    if (memcmp(before, buffer(SCRIPT, length), lent) != 0) {
+        fail("a reading changed the script", title);
+    }
+}
+
+static floo_token_reply token(uint32_t kind, size_t next, size_t start, size_t size) {
+    return (floo_token_reply){.kind = kind, .next = next, .start = start, .size = size};
+}
+
+static floo_token_reply no_token(uint32_t refused, uint32_t fault, size_t offset) {
+    return (floo_token_reply){.refused = refused, .fault = fault, .next = offset};
+}
+
+/* A script that ends with its token or in the midst of it, right before the page that no one may touch. */
+static void cut(const char *script, floo_token_reply expected) { reading(script, script, strlen(script), 0, expected); }
+
+static void readings(void) {
+    const size_t bytes = sizeof hello - 1, limit = FLOO_SCRIPT_BYTES_MAX;
+    reading("the first token", hello, bytes, 0, token(FLOO_INTEGER, 7, 6, 1));
+    reading("a literal name", hello, bytes, 7, token(FLOO_LITERAL_NAME, 12, 9, 3));
+    reading("the last byte", hello, bytes, bytes - 1, token(FLOO_END, bytes, bytes, 0));
+    reading("at the length", hello, bytes, bytes, token(FLOO_END, bytes, bytes, 0));
+    reading("one past the length", hello, bytes, bytes + 1, no_token(FLOO_OFFSET_PAST_END, 0, bytes + 1));
+    reading("an offset of SIZE_MAX", hello, bytes, SIZE_MAX, no_token(FLOO_OFFSET_PAST_END, 0, SIZE_MAX));
+    reading("no bytes", "", 0, 0, token(FLOO_END, 0, 0, 0));
+    reading("no bytes, offset 1", "", 0, 1, no_token(FLOO_OFFSET_PAST_END, 0, 1));
+    reading("no bytes, offset SIZE_MAX", "", 0, SIZE_MAX, no_token(FLOO_OFFSET_PAST_END, 0, SIZE_MAX));
+    reading("a script of 32768", hello, limit, 0, token(FLOO_INTEGER, 7, 6, 1));
+    reading("a script of 32768, its end", hello, limit, bytes, token(FLOO_END, limit, limit, 0));
+    reading("a script of 32768, at the length", hello, limit, limit, token(FLOO_END, limit, limit, 0));
+    reading("a script of 32768, one past", hello, limit, limit + 1, no_token(FLOO_OFFSET_PAST_END, 0, limit + 1));
+    reading("a script of 32769", hello, limit + 1, 0, no_token(FLOO_SCRIPT_TOO_LONG, 0, 0));
+    reading("a script of 32769, one past", hello, limit + 1, limit + 2, no_token(FLOO_SCRIPT_TOO_LONG, 0, limit + 2));
+    cut("#", token(FLOO_END, 1, 1, 0));
+    cut("x", token(FLOO_EXECUTABLE_NAME, 1, 0, 1));
+    cut("-", token(FLOO_EXECUTABLE_NAME, 1, 0, 1));
+    cut("-1", token(FLOO_INTEGER, 2, 0, 2));
+    cut("0x", no_token(0, FLOO_SYNTAXERROR, 0));
+    cut("4294967296", no_token(0, FLOO_LIMITCHECK, 0));
+    cut("/", no_token(0, FLOO_SYNTAXERROR, 0));
+    cut("/x", token(FLOO_LITERAL_NAME, 2, 1, 1));
+    cut("[", token(FLOO_EXECUTABLE_NAME, 1, 0, 1));
+    cut("{", token(FLOO_OPEN_BRACE, 1, 0, 1));
+    cut("}", token(FLOO_CLOSE_BRACE, 1, 0, 1));
+    cut("\"", no_token(0, FLOO_SYNTAXERROR, 0));
+    cut("\"\\", no_token(0, FLOO_SYNTAXERROR, 0));
+    cut("\"\\1", no_token(0, FLOO_SYNTAXERROR, 0));
+    cut("\"\\12", no_token(0, FLOO_SYNTAXERROR, 0));
+    cut("\"\\\r", no_token(0, FLOO_SYNTAXERROR, 0));
+    cut("\"\\\r\n", no_token(0, FLOO_SYNTAXERROR, 0));
+    cut("\"\\123\"", token(FLOO_STRING, 6, 1, 4));
+    for (size_t i = 0; i < sizeof huge / sizeof huge[0]; i++) {
+        reading("a huge length", hello, huge[i], 0, no_token(FLOO_SCRIPT_TOO_LONG, 0, 0));
+        reading("a huge length, offset SIZE_MAX", hello, huge[i], SIZE_MAX, no_token(FLOO_SCRIPT_TOO_LONG, 0, SIZE_MAX));
+    }
+}
+
 int main(void) {
-    static const size_t huge[] = {(size_t)1 << 31, (size_t)1 << 32, (size_t)1 << 61, (size_t)1 << 62, ((size_t)1 << 62) + 8, (size_t)1 << 63, SIZE_MAX - 1, SIZE_MAX};
     for (int k = 0; k < BUFFERS; k++) {
         lend(k);
     }
@@ -153,13 +231,14 @@ int main(void) {
     with("outcome of 1343", OUTCOME, 1343, 9, NULL);
     with("outcome of 1344", OUTCOME, 1344, 0, all);
     with("outcome of 1345", OUTCOME, 1345, 0, all);
-    /* lengths that no buffer has are refused before a byte is touched */
+    /* huge lengths are refused before a byte is touched */
     static const uint32_t numbers[BUFFERS] = {1, 4, 5, 6, 7, 8, 0};
     for (int k = 0; k < OUTCOME; k++) {
         for (size_t i = 0; i < sizeof huge / sizeof huge[0]; i++) {
             with("a huge length", k, huge[i], numbers[k], NULL);
         }
     }
+    readings();
     printf("%d calls, %d faults\n", tests, faults);
     return faults != 0;
 }

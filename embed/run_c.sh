@@ -1,5 +1,5 @@
 #!/usr/bin/env bash
-# Proves and builds the static library, builds the example in C over it and runs it, and tries the exported function at lengths of every kind.
+# Proves and builds the static library, builds the example in C over it and runs it, and tries the exported functions at lengths of every kind.
 set -euo pipefail
 cd "$(dirname "${BASH_SOURCE[0]}")/.."
 rt staticlib floo_c

@@ -1,6 +1,6 @@
 /*
- * floo.h: runs Floo 0.5 scripts in room that the caller lends. Nothing is allocated and nothing is kept between calls.
- * The function is the one exported by crates/floo_c, which is proved; link target/staticlib/libfloo_c.a.
+ * floo.h: runs Floo 0.5 scripts in room that the caller lends, and reads their tokens. Nothing is allocated and nothing is kept between calls.
+ * The two functions are those exported by crates/floo_c, which are proved; link target/staticlib/libfloo_c.a.
  */
 #ifndef FLOO_H
 #define FLOO_H
@@ -36,7 +36,10 @@ extern "C" {
 #define FLOO_ARRAY_CELLS(n) (1u + (n))
 #define FLOO_STRING_CELLS(m) (1u + ((m) + 7u) / 8u)
 
-/* The numbers of the refusals. They are looked for in this order, and the first that applies is given. */
+/*
+ * The numbers of the refusals. They are looked for in this order, and the first that applies is given: by floo_run of 1 to 9, by floo_token of
+ * 1 and 10.
+ */
 enum floo_refusal {
     FLOO_NOT_REFUSED = 0,
     FLOO_SCRIPT_TOO_LONG = 1,      /* over FLOO_SCRIPT_BYTES_MAX bytes */
@@ -47,7 +50,27 @@ enum floo_refusal {
     FLOO_DICTIONARY_SLOTS = 6,     /* too few or too many */
     FLOO_CELLS = 7,                /* none or too many */
     FLOO_LOG_TOO_LONG = 8,         /* over FLOO_LOG_BYTES_MAX bytes */
-    FLOO_OUTCOME_TOO_SHORT = 9     /* under FLOO_OUTCOME_BYTES of the stack's slots */
+    FLOO_OUTCOME_TOO_SHORT = 9,    /* under FLOO_OUTCOME_BYTES of the stack's slots */
+    FLOO_OFFSET_PAST_END = 10      /* the offset exceeds the script's length */
+};
+
+/* The kinds of tokens. */
+enum floo_kind {
+    FLOO_NO_TOKEN = 0,
+    FLOO_INTEGER = 1,
+    FLOO_STRING = 2,
+    FLOO_LITERAL_NAME = 3,
+    FLOO_EXECUTABLE_NAME = 4,
+    FLOO_OPEN_BRACE = 5,
+    FLOO_CLOSE_BRACE = 6,
+    FLOO_END = 7
+};
+
+/* The errors that the reading of a token can give. */
+enum floo_fault {
+    FLOO_NO_FAULT = 0,
+    FLOO_SYNTAXERROR = 1,
+    FLOO_LIMITCHECK = 2
 };
 
 typedef struct floo_reply {
@@ -78,6 +101,27 @@ floo_reply floo_run(const uint8_t *script, size_t script_bytes, uint32_t fuel,
                     uint32_t *cells, size_t cell_words,
                     uint8_t *log, size_t log_bytes,
                     uint8_t *outcome, size_t outcome_bytes);
+
+typedef struct floo_token_reply {
+    uint32_t refused; /* an enum floo_refusal */
+    uint32_t fault;   /* an enum floo_fault */
+    uint32_t kind;    /* an enum floo_kind; of these three exactly one is not 0 */
+    size_t next;      /* the offset after the token: the script's length at FLOO_END, and the offset given where there is no token */
+    size_t start;     /* where in the script the token's own bytes begin, and 0 where there is no token */
+    size_t size;      /* how many they are: 0 at FLOO_END and where there is no token */
+} floo_token_reply;
+
+/*
+ * Reads the next token of a script from an offset on, past space and comment. A script's tokens are read one after another by giving `next` as the
+ * offset, until FLOO_END.
+ *
+ * A token's own bytes are script[start] to script[start + size - 1]: a string's without its quotes, with its escapes as they are written, and a
+ * literal name's without its slash. The function does not look for #FLOO, nor whether braces match.
+ *
+ * The length and the offset may be any numbers. What the caller promises is that the pointer is to as many bytes as the length says and is not
+ * NULL, even if the length is 0, and that nothing writes them during the call.
+ */
+floo_token_reply floo_token(const uint8_t *script, size_t script_bytes, size_t offset);
 
 #ifdef __cplusplus
 }

@@ -8,6 +8,9 @@ use crate::sizes;
 
 const MARGIN: usize = 24;
 
+/// A header's word 3 has it, and no body cell's.
+pub const HEADER_MARK: u32 = 1 << 31;
+
 #[derive(Clone, PartialEq)]
 pub struct Buffer<T> {
     all: Vec<T>,
@@ -63,6 +66,8 @@ pub struct Lent {
     pub exec: Buffer<u32>,
     pub dictionary: Buffer<u32>,
     pub cells: Buffer<u32>,
+    /// Whether no word 3 of the cells had the mark of a header before.
+    pub unmarked: bool,
     pub log: Buffer<u8>,
     pub outcome: Buffer<u8>,
 }
@@ -77,12 +82,19 @@ impl Lent {
         let stack = words(random, sizes.stack, 2);
         let exec = words(random, sizes.exec, 8);
         let dictionary = words(random, sizes.dictionary, 12);
-        let cells = words(random, sizes.cells, 4);
+        let mut cells = words(random, sizes.cells, 4);
+        let unmarked = random.below(2) == 0;
+        if unmarked {
+            for word in cells.lend().iter_mut().skip(3).step_by(4) {
+                *word %= HEADER_MARK;
+            }
+        }
         Lent {
             stack,
             exec,
             dictionary,
             cells,
+            unmarked,
             log: Buffer::new(sizes.log, || random.byte()),
             outcome: Buffer::new(sizes.outcome, || random.byte()),
         }

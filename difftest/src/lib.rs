@@ -1,5 +1,5 @@
 //! Random scripts, fuel and room, run by the proved runner and by the reference interpreter: the answers, every lent byte outside what is promised to
-//! change, and the objects that the runner's words show.
+//! change, and the objects that the runner's words show. And the tokens of these scripts and of rows of bytes, read by both at every offset.
 
 #![forbid(unsafe_code)]
 
@@ -8,12 +8,15 @@ pub mod random;
 #[path = "../../reference/tests/hostile/scripts.rs"]
 pub mod scripts;
 
+mod circles;
 mod lent;
+mod readings;
 mod shown;
 
 use floo_reference::{run, Answer, Sizes};
 use lent::Lent;
 use random::Random;
+pub use readings::Readings;
 
 /// What was compared.
 #[derive(Default)]
@@ -22,24 +25,40 @@ pub struct Tally {
     pub refused: usize,
     pub steps: u64,
     pub objects: usize,
+    /// Of these, the ones that only circles name.
+    pub circled: usize,
+    pub readings: Readings,
 }
 
 /// One case, or how the two differ.
 pub fn compare(random: &mut Random, tally: &mut Tally) -> Result<(), String> {
-    let script = scripts::hostile(random);
+    let script = match random.below(8) {
+        0 => circles::script(random),
+        _ => scripts::hostile(random),
+    };
+    compare_run(&script, random, tally)?;
+    readings::compare(&script, &mut tally.readings)?;
+    readings::compare(&readings::row(random), &mut tally.readings)?;
+    if random.below(100) == 0 {
+        readings::compare_long(random, &mut tally.readings)?;
+    }
+    Ok(())
+}
+
+fn compare_run(script: &[u8], random: &mut Random, tally: &mut Tally) -> Result<(), String> {
     let fuel = fuel(random);
     let mut lent = Lent::new(random);
     let sizes = lent.sizes();
     let before = lent.clone();
-    let reply = lent.run(&script, fuel);
+    let reply = lent.run(script, fuel);
     let told = |what: &str| {
         format!(
             "{what}\nfuel {fuel} {sizes:?}\n{}",
-            String::from_utf8_lossy(&script)
+            String::from_utf8_lossy(script)
         )
     };
     tally.scripts += 1;
-    match run(&script, fuel.into(), &sizes) {
+    match run(script, fuel.into(), &sizes) {
         Answer::Refused(number) => {
             tally.refused += 1;
             if reply.refused != number.into() {
@@ -67,7 +86,9 @@ pub fn compare(random: &mut Random, tally: &mut Tally) -> Result<(), String> {
                 .check("outcome", reply.outcome, &outcome, &before.outcome)
                 .map_err(|what| told(&what))?;
             lent.check_tails(&before).map_err(|what| told(&what))?;
-            tally.objects += shown::check(&lent, &mut machine).map_err(|what| told(&what))?;
+            let shown = shown::check(&lent, &mut machine).map_err(|what| told(&what))?;
+            tally.objects += shown.objects;
+            tally.circled += shown.circled;
         }
     }
     Ok(())

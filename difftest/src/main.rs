@@ -1,4 +1,4 @@
-//! `floo-difftest N SEED`: N random cases, and what was compared.
+//! `floo-difftest N SEED`: N random cases, runs and token readings, and what was compared.
 
 use std::process::ExitCode;
 
@@ -13,8 +13,19 @@ fn main() -> ExitCode {
     match compare_all(count as usize, seed) {
         Ok(tally) => {
             println!(
-                "{} scripts from seed {seed}, {} refused, {} steps, {} objects: no difference",
-                tally.scripts, tally.refused, tally.steps, tally.objects
+                "{} scripts from seed {seed}, {} refused, {} steps, {} objects, {} of them in circles alone: no difference",
+                tally.scripts, tally.refused, tally.steps, tally.objects, tally.circled
+            );
+            let read = tally.readings;
+            let [integers, strings, literal, executable, open, close, ends] = read.kinds;
+            println!(
+                "{} tokens: {integers} integers, {strings} strings, {literal} literal names, {executable} executable names, {open} open braces, \
+                 {close} close braces, {ends} ends, {} syntaxerror, {} limitcheck, {} refused with 1, {} with 10: no difference",
+                read.total(),
+                read.syntaxerrors,
+                read.limitchecks,
+                read.too_long,
+                read.past_end
             );
             ExitCode::SUCCESS
         }

@@ -1,72 +1,74 @@
-//! The objects that the runner's words show, from the places that name them, against those of the reference interpreter: one to one, in kind and length, with
-//! the same elements and bytes, each with its own cells and as many places as its stored count says.
+//! The objects that the runner's words show, against those of the reference interpreter: one to one, in kind and length, with the same elements and bytes, each
+//! with its own cells and as many places as its stored count says.
+//!
+//! The words are walked from the stack, the execution stack and the bindings. What these do not lead to, circles and what only circles name, is looked for in
+//! the other cells: a header has a mark in its word 3, and a freed one has no body cells. Where the cells' earlier contents have no mark, these headers must
+//! be as many as the objects; elsewhere a cell that was never used may look like one.
+//!
+//! Not compared, since the words do not show it: that each other cell is on the free list, and that an empty object which nothing names has been freed. Both
+//! show in `held` of the outcome alone.
 
 use std::collections::{HashMap, HashSet};
 
 use floo_reference::machine::{Frame, Machine};
 use floo_reference::value::{Object, ObjectId, Value};
 
-use crate::lent::Lent;
+use crate::lent::{Lent, HEADER_MARK};
 
 const UNBOUND: u32 = 7;
 const STRING: u32 = 8;
-const HEADER_MARK: u32 = 1 << 31;
+
+/// Headers that are tried for the objects of circles: many more than it takes where they match.
+const MOST_TRIES: usize = 10_000;
+
+/// How many objects were compared, and how many of them no place outside leads to.
+pub struct Shown {
+    pub objects: usize,
+    pub circled: usize,
+}
+
+/// Headers and objects by each other, the cells of those compared, and those still to be compared.
+#[derive(Clone, Default)]
+struct Matched {
+    objects: HashMap<u32, ObjectId>,
+    headers: HashMap<ObjectId, u32>,
+    cells: HashSet<u32>,
+    waiting: Vec<(u32, ObjectId)>,
+}
 
 struct Walk<'a> {
     cells: &'a [u32],
     slots: HashMap<Vec<u8>, usize>,
     machine: &'a Machine,
     counts: HashMap<ObjectId, usize>,
-    headers: HashMap<u32, ObjectId>,
-    numbers: HashMap<ObjectId, u32>,
-    taken: HashSet<u32>,
-    waiting: Vec<(u32, ObjectId)>,
+    matched: Matched,
+    tries: usize,
 }
 
-/// How many objects were compared, or what differs.
-pub fn check(lent: &Lent, machine: &mut Machine) -> Result<usize, String> {
+/// What was compared, or what differs.
+pub fn check(lent: &Lent, machine: &mut Machine) -> Result<Shown, String> {
     let held = machine.held();
-    let held_cells: usize = held.iter().map(|one| machine.store[one.id].cells()).sum();
+    let held_cells = machine.held_cells();
     let mut walk = Walk {
         cells: lent.cells.lent(),
         slots: slots(lent.dictionary.lent(), machine.dictionary.len()),
         machine,
         counts: held.iter().map(|one| (one.id, one.count)).collect(),
-        headers: HashMap::new(),
-        numbers: HashMap::new(),
-        taken: HashSet::new(),
-        waiting: Vec::new(),
+        matched: Matched::default(),
+        tries: MOST_TRIES,
     };
-    for (i, &value) in walk.machine.stack.iter().enumerate() {
-        walk.place(lent.stack.lent(), 2 * i, value)?;
+    walk.places(lent)?;
+    walk.objects()?;
+    let reached = walk.matched.objects.len();
+    walk.circles(lent.unmarked)?;
+    let (objects, cells) = (walk.matched.objects.len(), walk.matched.cells.len());
+    if (objects, cells) != (held.len(), held_cells) {
+        return Err(format!("{objects} objects of {cells} cells for {} of {held_cells}", held.len()));
     }
-    for (i, &frame) in walk.machine.frames.iter().enumerate() {
-        let value = match frame {
-            Frame::Pending(value) => value,
-            Frame::Running { array, .. } => Value::Array {
-                id: array,
-                executable: true,
-            },
-            Frame::Loop { body, .. } => body,
-        };
-        walk.place(lent.exec.lent(), 8 * i + 1, value)?;
-    }
-    for entry in &walk.machine.dictionary {
-        let at = 12 * walk.slot(&entry.name)? + 9;
-        match entry.binding {
-            Some(value) => walk.place(lent.dictionary.lent(), at, value)?,
-            None if lent.dictionary.lent()[at] == UNBOUND => {}
-            None => return Err(format!("{:?} is bound", entry.name)),
-        }
-    }
-    while let Some((header, id)) = walk.waiting.pop() {
-        walk.object(header, id)?;
-    }
-    // a circle that no place outside names is held too, and not met here
-    if walk.taken.len() > held_cells {
-        return Err(format!("{} cells are taken and {held_cells} held", walk.taken.len()));
-    }
-    Ok(walk.headers.len())
+    Ok(Shown {
+        objects,
+        circled: objects - reached,
+    })
 }
 
 /// The names by their slots: a length, and the bytes, four to a word.
@@ -79,6 +81,101 @@ fn slots(words: &[u32], names: usize) -> HashMap<Vec<u8>, usize> {
 }
 
 impl Walk<'_> {
+    /// Stack items, execution slots and bindings.
+    fn places(&mut self, lent: &Lent) -> Result<(), String> {
+        let machine = self.machine;
+        for (i, &value) in machine.stack.iter().enumerate() {
+            self.place(lent.stack.lent(), 2 * i, value)?;
+        }
+        for (i, &frame) in machine.frames.iter().enumerate() {
+            let value = match frame {
+                Frame::Pending(value) => value,
+                Frame::Running { array, .. } => Value::Array {
+                    id: array,
+                    executable: true,
+                },
+                Frame::Loop { body, .. } => body,
+            };
+            self.place(lent.exec.lent(), 8 * i + 1, value)?;
+        }
+        for entry in &machine.dictionary {
+            let at = 12 * self.slot(&entry.name)? + 9;
+            match entry.binding {
+                Some(value) => self.place(lent.dictionary.lent(), at, value)?,
+                None if lent.dictionary.lent()[at] == UNBOUND => {}
+                None => return Err(format!("{:?} is bound", entry.name)),
+            }
+        }
+        Ok(())
+    }
+
+    /// The objects met, and those that they name.
+    fn objects(&mut self) -> Result<(), String> {
+        while let Some((header, id)) = self.matched.waiting.pop() {
+            self.object(header, id)?;
+        }
+        Ok(())
+    }
+
+    /// The held objects that have not been met.
+    fn circles(&mut self, unmarked: bool) -> Result<(), String> {
+        let headers: Vec<u32> = (0..self.cells.len() as u32 / 4).filter(|&c| self.is_left(c)).collect();
+        let mut left: Vec<ObjectId> = self.counts.keys().copied().collect();
+        left.retain(|id| !self.matched.headers.contains_key(id) && self.machine.store[*id].cells() > 1);
+        if unmarked && headers.len() != left.len() {
+            return Err(format!("{} headers for {} objects that no place leads to", headers.len(), left.len()));
+        }
+        // what leads to more comes first: most of the others are then met on the way
+        left.sort_by_cached_key(|&id| (usize::MAX - self.reach(id), id));
+        if !self.find(&left, &headers) {
+            return Err(format!("no headers match the {} objects that no place leads to", left.len()));
+        }
+        Ok(())
+    }
+
+    /// Whether the cell is the header of a body that has not been met.
+    fn is_left(&self, c: u32) -> bool {
+        let at = 4 * c as usize;
+        self.cells[at + 3] >= HEADER_MARK && self.cells[at + 1] > 0 && !self.matched.cells.contains(&c)
+    }
+
+    /// How many objects can be met from this one.
+    fn reach(&self, id: ObjectId) -> usize {
+        let mut met = HashSet::from([id]);
+        let mut waiting = vec![id];
+        while let Some(id) = waiting.pop() {
+            if let Object::Array(elements) = &self.machine.store[id] {
+                waiting.extend(elements.iter().filter_map(|element| element.object()).filter(|&id| met.insert(id)));
+            }
+        }
+        met.len()
+    }
+
+    /// Matches each object with a header, where all match; alike ones are tried one after another.
+    fn find(&mut self, left: &[ObjectId], headers: &[u32]) -> bool {
+        let Some((&id, rest)) = left.split_first() else {
+            return true;
+        };
+        if self.matched.headers.contains_key(&id) {
+            return self.find(rest, headers);
+        }
+        for &header in headers {
+            if self.matched.objects.contains_key(&header) || self.header(header, id).is_err() {
+                continue;
+            }
+            if self.tries == 0 {
+                return false;
+            }
+            self.tries -= 1;
+            let before = self.matched.clone();
+            if self.meet(header, id).is_ok() && self.objects().is_ok() && self.find(rest, headers) {
+                return true;
+            }
+            self.matched = before;
+        }
+        false
+    }
+
     fn slot(&self, name: &[u8]) -> Result<usize, String> {
         self.slots.get(name).copied().ok_or(format!("{name:?} has no slot"))
     }
@@ -105,12 +202,14 @@ impl Walk<'_> {
     }
 
     fn meet(&mut self, header: u32, id: ObjectId) -> Result<u32, String> {
-        let new = !self.headers.contains_key(&header);
-        if *self.headers.entry(header).or_insert(id) != id || *self.numbers.entry(id).or_insert(header) != header {
+        let matched = &mut self.matched;
+        let new = !matched.objects.contains_key(&header);
+        let object = *matched.objects.entry(header).or_insert(id);
+        if (object, *matched.headers.entry(id).or_insert(header)) != (id, header) {
             return Err(format!("header {header} and object {id} do not match one to one"));
         }
         if new {
-            self.waiting.push((header, id));
+            matched.waiting.push((header, id));
         }
         Ok(header)
     }
@@ -121,27 +220,33 @@ impl Walk<'_> {
     }
 
     fn take(&mut self, c: u32) -> Result<(), String> {
-        if !self.taken.insert(c) {
+        if !self.matched.cells.insert(c) {
             return Err(format!("cell {c} is shared"));
         }
         Ok(())
     }
 
-    fn object(&mut self, header: u32, id: ObjectId) -> Result<(), String> {
-        let words = self.cell(header)?.to_vec();
-        self.take(header)?;
-        let machine = self.machine;
-        let object = &machine.store[id];
+    /// The number of body cells, where the header's words are this object's.
+    fn header(&self, header: u32, id: ObjectId) -> Result<u32, String> {
+        let words = &self.cell(header)?[..3];
+        let object = &self.machine.store[id];
         let kind = match object {
             Object::Array(_) => 0,
             Object::String(bytes) => 1 + bytes.len() as u32,
         };
         let count = self.counts.get(&id).copied().unwrap_or(0) as u32;
         let size = object.cells() as u32 - 1;
-        if words[..3] != [kind, size, count] {
-            return Err(format!("header {:?} for kind {kind}, {size} cells, count {count}", &words[..3]));
+        if words != [kind, size, count] {
+            return Err(format!("header {words:?} for kind {kind}, {size} cells, count {count}"));
         }
-        let mut next = words[3].wrapping_sub(HEADER_MARK);
+        Ok(size)
+    }
+
+    fn object(&mut self, header: u32, id: ObjectId) -> Result<(), String> {
+        let size = self.header(header, id)?;
+        self.take(header)?;
+        let object = &self.machine.store[id];
+        let mut next = self.cell(header)?[3].wrapping_sub(HEADER_MARK);
         for q in 0..size as usize {
             let cell = self.cell(next)?.to_vec();
             self.take(next)?;

@@ -42,7 +42,7 @@ use Rattle.acting.proofs.Via.{via, roots-dropped, roots-moved}
 
 -- ---- the answer of what stands for the step
 
-alike : (Q : Machine → Floo.Machine → Type 0) (S : Type 0) (r : Did) {p q : Result Floo.Machine} → p ≡ q → Answer Q S r q → Answer Q S r p
+pub alike : (Q : Machine → Floo.Machine → Type 0) (S : Type 0) (r : Did) {p q : Result Floo.Machine} → p ≡ q → Answer Q S r q → Answer Q S r p
 alike Q S r e A = subst (λ x. Answer Q S r x) (sym e) A
 
 -- ---- what is pending
@@ -88,7 +88,7 @@ module _ {m : Machine} {s e d c l : List ℕ} {μ : Floo.Machine} (R : Rep m s e
         let w = is-executable (waits .2 .stands) six in
         (w .0, w .2, slot R k h .split ∙ ap (λ f. f ∷ rest) (waits .1 ∙ ap pending (w .1)))
 
-    operator-fits : getD e (8 * k + 1) 0 ≡ 4 → fitted (lent s e d c l) resumed μ ≡ fitted (lent s e d c l) (performAt (getD e (8 * k + 2) 0)) (frameDropped μ)
+    pub operator-fits : getD e (8 * k + 1) 0 ≡ 4 → fitted (lent s e d c l) resumed μ ≡ fitted (lent s e d c l) (performAt (getD e (8 * k + 2) 0)) (frameDropped μ)
     unfolding resume execute
     operator-fits four =
         let w = operator-waits four in
@@ -245,10 +245,10 @@ module _ (m : Machine) (e e₁ e′ d c c′ : List ℕ) (slots : 1 ≤ m .frame
   cell = getD e (8 * (m .frames - 1) + 3) 0
 
   module _ (s l : List ℕ) (μ : Floo.Machine) (R : Rep m s e d c l μ) where
-    abbrev after : Floo.Machine
+    abbrev pub after : Floo.Machine
     after = moved R (m .frames - 1) (omega (arith, slots)) kind left
 
-    stands : Rep m s e₁ d c l after
+    pub stands : Rep m s e₁ d c l after
     stands = A .moves s d l μ R _ _ (at-top R (m .frames - 1) (omega (arith, slots)) kind left)
 
     same-room : (f : Floo.Machine → Result Floo.Machine)
@@ -257,7 +257,7 @@ module _ (m : Machine) (e e₁ e′ d c c′ : List ℕ) (slots : 1 ≤ m .frame
     same-room f q = q ∙ ap (λ lim. fitted lim f after) (lent-same s d c l e e₁ long)
 
   module _ (four : word c cell 0 ≡ 4) {p : ℕ} (number : p ≡ word c cell 1) (s s′ d′ l l′ : List ℕ) where
-    fits : (μ : Floo.Machine) (R : Rep m s e d c l μ) → fitted (lent s e d c l) resumed μ ≡ fitted (lent s e₁ d c l) (performAt (word c cell 1)) (after s l μ R)
+    pub fits : (μ : Floo.Machine) (R : Rep m s e d c l μ) → fitted (lent s e d c l) resumed μ ≡ fitted (lent s e₁ d c l) (performAt (word c cell 1)) (after s l μ R)
     fits μ R = same-room s l μ R (performAt (word c cell 1)) (operator-next R (m .frames - 1) (omega (arith, slots)) kind left four)
 
     pub element-ready : {μ : Floo.Machine} → Rep m s e d c l μ → (p < 54) × Everywhere m s e₁ d c l

@@ -2,3 +2,4 @@
 pub mod Before
 pub mod Via
 pub mod Executing
+pub mod Choosing

@@ -1,15 +1,16 @@
 // One step on the topmost execution slot: what is pending is executed, a procedure goes on, a loop turns. It does exactly what the definition's step does to
 // that slot, and then the definition's test of room; where it fails, no word has changed.
 ghost use mathlib.Core.Path.{_≡_};
-ghost use Prim.Native.Nat.{_+_, _-_, _*_, _≤_, _<_};
-ghost use lib.ListN.{length, getD};
+ghost use mathlib.Core.List.{List};
+ghost use Prim.Native.Nat.{ℕ, _+_, _-_, _*_, _≤_};
+ghost use lib.ListN.{getD};
 ghost use Rattle.heap.specs.Word.{word};
-ghost use Rattle.frames.specs.Moves.{SomewhereAll};
+ghost use Rattle.frames.specs.Moves.{Somewhere, SomewhereAll};
 ghost use Rattle.taking.specs.Promises.{Bindings, DoesBinding};
 ghost use Rattle.operators.specs.Titles.{Everywhere, DoesAll};
 ghost use Rattle.control_operators.specs.Promises.{DoesFrames};
 ghost use Rattle.turns.specs.Turns.{resumed};
-use frames::FOR;
+ghost use Rattle.acting.specs.Nexts.{NextIs, Infrequent};
 use frames::LOOP;
 use frames::PENDING;
 use frames::REPEAT;
@@ -19,6 +20,13 @@ use machine::Machine;
 use machine::TAG_EXECUTABLE;
 use machine::TAG_OPERATOR;
 use machine::TAG_PROCEDURE;
+use operators::RARE;
+
+// The operator that a step executes, if it is one of the frequent, with the state in which it does: its slot has gone, or the procedure has moved on.
+enum Next {
+    Frequent(u32, Machine),
+    Other,
+}
 
 // The topmost slot acts.
 // Ruled out: a slot that acts twice; an operator's operands gone where it fails.
@@ -31,6 +39,91 @@ pub fn act(
     log: &mut [u8],
 ) -> Did
     requires { ⌜ (1 ≤ m .frames) × Everywhere m (now stack) (now exec) (now dict) (now cells) (now log) ⌝ }
+    ensures { λ r. ⌜ DoesAll resumed m (now (stack .entry)) (now (stack .exit)) (now (exec .entry)) (now (exec .exit)) (now (dict .entry)) (now (dict .exit)) (now (cells .entry)) (now (cells .exit)) (now (log .entry)) (now (log .exit)) r ⌝ }
+{
+    let k = m.frames - 1;
+    let kind = exec[8 * k];
+    let c = exec[8 * k + 3];
+    let left = exec[8 * k + 4];
+    match next_frequent(m, exec, cells) {
+        Next::Frequent(number, after) => {
+            match operators::frequent(number, after, stack, exec, dict, cells) {
+                Did::Ok(r) => Did::Ok(r),
+                // a procedure that has moved on is put back
+                Did::Fail(e) => {
+                    frames::reset_top(m, exec, kind, c, left);
+                    Did::Fail(e)
+                }
+            }
+        }
+        Next::Other => other(m, stack, exec, dict, cells, log),
+    }
+}
+
+// The frequent operator that the topmost slot executes.
+fn next_frequent(m: Machine, exec: &mut [u32], cells: &[u32]) -> Next
+    requires { ⌜ (1 ≤ m .frames) × Somewhere m (now exec) (now cells) ⌝ }
+    ensures { λ r. ⌜ NextIs m (now (exec .entry)) (now (exec .exit)) (now (cells .entry)) r ⌝ }
+{
+    let k = m.frames - 1;
+    let kind = exec[8 * k];
+    if kind == PENDING {
+        return frequent_pending(m, exec);
+    }
+    if kind == RUNNING {
+        return frequent_element(m, exec, cells);
+    }
+    Next::Other
+}
+
+// One that is pending.
+fn frequent_pending(m: Machine, exec: &[u32]) -> Next
+    requires { ⌜ (1 ≤ m .frames) × (getD (now exec) (8 * (m .frames - 1)) 0 ≡ 0) × ((c : List ℕ) × Somewhere m (now exec) c) ⌝ }
+    ensures { λ r. ⌜ ((c : List ℕ) → NextIs m (now (exec .entry)) (now (exec .entry)) c r) ⌝ }
+{
+    let k = m.frames - 1;
+    let number = exec[8 * k + 2];
+    if exec[8 * k + 1] != TAG_OPERATOR {
+        return Next::Other;
+    }
+    if RARE <= number {
+        return Next::Other;
+    }
+    Next::Frequent(number, frames::forget_frame(m))
+}
+
+// One that is the next element of the running procedure, which moves on.
+fn frequent_element(m: Machine, exec: &mut [u32], cells: &[u32]) -> Next
+    requires { ⌜ (1 ≤ m .frames) × (getD (now exec) (8 * (m .frames - 1)) 0 ≡ 1) × Somewhere m (now exec) (now cells) ⌝ }
+    ensures { λ r. ⌜ NextIs m (now (exec .entry)) (now (exec .exit)) (now (cells .entry)) r ⌝ }
+{
+    let k = m.frames - 1;
+    let c = exec[8 * k + 3];
+    let left = exec[8 * k + 4];
+    if left == 0 {
+        return Next::Other;
+    }
+    if heap::get(cells, c, 0) != TAG_OPERATOR {
+        return Next::Other;
+    }
+    let number = heap::get(cells, c, 1);
+    if RARE <= number {
+        return Next::Other;
+    }
+    frames::advance(m, exec, cells);
+    Next::Frequent(number, m)
+}
+
+// The slot acts otherwise.
+fn other(
+    m: Machine,
+    stack: &mut [u32],
+    exec: &mut [u32],
+    dict: &mut [u32],
+    cells: &mut [u32],
+    log: &mut [u8],
+) -> Did
+    requires { ⌜ (1 ≤ m .frames) × Infrequent m (now exec) (now cells) × Everywhere m (now stack) (now exec) (now dict) (now cells) (now log) ⌝ }
     ensures { λ r. ⌜ DoesAll resumed m (now (stack .entry)) (now (stack .exit)) (now (exec .entry)) (now (exec .exit)) (now (dict .entry)) (now (dict .exit)) (now (cells .entry)) (now (cells .exit)) (now (log .entry)) (now (log .exit)) r ⌝ }
 {
     let k = m.frames - 1;
@@ -53,7 +146,7 @@ fn pending(
     cells: &mut [u32],
     log: &mut [u8],
 ) -> Did
-    requires { ⌜ (1 ≤ m .frames) × (getD (now exec) (8 * (m .frames - 1)) 0 ≡ 0) × Everywhere m (now stack) (now exec) (now dict) (now cells) (now log) ⌝ }
+    requires { ⌜ (1 ≤ m .frames) × (getD (now exec) (8 * (m .frames - 1)) 0 ≡ 0) × Infrequent m (now exec) (now cells) × Everywhere m (now stack) (now exec) (now dict) (now cells) (now log) ⌝ }
     ensures { λ r. ⌜ DoesAll resumed m (now (stack .entry)) (now (stack .exit)) (now (exec .entry)) (now (exec .exit)) (now (dict .entry)) (now (dict .exit)) (now (cells .entry)) (now (cells .exit)) (now (log .entry)) (now (log .exit)) r ⌝ }
 {
     let k = m.frames - 1;
@@ -61,7 +154,7 @@ fn pending(
     let pay = exec[8 * k + 2];
     if tag == TAG_OPERATOR {
         let left = frames::forget_frame(m);
-        return operators::perform(pay, left, stack, exec, dict, cells, log);
+        return operators::settled(operators::rare(pay, left, stack, dict, cells, log));
     }
     if tag == TAG_EXECUTABLE {
         return name_pending(m, exec, dict, cells);
@@ -92,7 +185,7 @@ fn running(
     cells: &mut [u32],
     log: &mut [u8],
 ) -> Did
-    requires { ⌜ (1 ≤ m .frames) × (getD (now exec) (8 * (m .frames - 1)) 0 ≡ 1) × Everywhere m (now stack) (now exec) (now dict) (now cells) (now log) ⌝ }
+    requires { ⌜ (1 ≤ m .frames) × (getD (now exec) (8 * (m .frames - 1)) 0 ≡ 1) × Infrequent m (now exec) (now cells) × Everywhere m (now stack) (now exec) (now dict) (now cells) (now log) ⌝ }
     ensures { λ r. ⌜ DoesAll resumed m (now (stack .entry)) (now (stack .exit)) (now (exec .entry)) (now (exec .exit)) (now (dict .entry)) (now (dict .exit)) (now (cells .entry)) (now (cells .exit)) (now (log .entry)) (now (log .exit)) r ⌝ }
 {
     let k = m.frames - 1;
@@ -120,7 +213,7 @@ fn perform_element(
     cells: &mut [u32],
     log: &mut [u8],
 ) -> Did
-    requires { ⌜ (1 ≤ m .frames) × (getD (now exec) (8 * (m .frames - 1)) 0 ≡ 1) × (1 ≤ getD (now exec) (8 * (m .frames - 1) + 4) 0) × (word (now cells) (getD (now exec) (8 * (m .frames - 1) + 3) 0) 0 ≡ 4) × Everywhere m (now stack) (now exec) (now dict) (now cells) (now log) ⌝ }
+    requires { ⌜ (1 ≤ m .frames) × (getD (now exec) (8 * (m .frames - 1)) 0 ≡ 1) × (1 ≤ getD (now exec) (8 * (m .frames - 1) + 4) 0) × (word (now cells) (getD (now exec) (8 * (m .frames - 1) + 3) 0) 0 ≡ 4) × (42 ≤ word (now cells) (getD (now exec) (8 * (m .frames - 1) + 3) 0) 1) × Everywhere m (now stack) (now exec) (now dict) (now cells) (now log) ⌝ }
     ensures { λ r. ⌜ DoesAll resumed m (now (stack .entry)) (now (stack .exit)) (now (exec .entry)) (now (exec .exit)) (now (dict .entry)) (now (dict .exit)) (now (cells .entry)) (now (cells .exit)) (now (log .entry)) (now (log .exit)) r ⌝ }
 {
     let k = m.frames - 1;
@@ -128,7 +221,8 @@ fn perform_element(
     let left = exec[8 * k + 4];
     let number = heap::get(cells, c, 1);
     frames::advance(m, exec, cells);
-    match operators::perform(number, m, stack, exec, dict, cells, log) {
+    let whole = m;
+    match operators::rare(number, whole, stack, dict, cells, log) {
         Did::Ok(r) => Did::Ok(r),
         Did::Fail(e) => {
             frames::reset_top(m, exec, RUNNING, c, left);

@@ -1,12 +1,12 @@
 -- eq and ne by one law of the definition's `equality f`: both operands give way to what f makes of the comparison.
 -- Assumes nothing.
 use mathlib.Core.Path.{_≡_, refl, sym, ap, _∙_, subst}
-use mathlib.Core.Bool.{Bool, not}
+use mathlib.Core.Bool.{Bool, true, false}
 use mathlib.Core.List.{List, _∷_}
 use Prim.Native.Nat.{ℕ, _-_, _+_, _*_, _≤_, _<_}
 use native.Mathlib.Omega.{arith}
 use lib.ListN.{length, drop}
-use Rattle.semantics.specs.Text.{bytes, textual, same}
+use Rattle.semantics.specs.Text.{textual, same}
 use Rattle.semantics.specs.Values.{Value, boolean, Result, ok, fault, _>>=_}
 use Rattle.semantics.specs.Machine as Floo
 use Rattle.semantics.specs.Machine.{withStack, push}
@@ -22,15 +22,12 @@ use Rattle.machine.specs.declared.Machine.{Machine}
 use Rattle.machine.specs.declared.Did.the-variants.{Ok, Fail}
 use Rattle.machine.proofs.Operands.{pop2-some, pop2-under}
 use Rattle.machine.proofs.Outcomes.{stack-depth, two-items, fails-heap, moves-heap, KeepsStore}
-use Rattle.equality.specs.Comparing.{Compares, answered}
+use Rattle.equality.specs.Comparing.{Compares, answered, nameOf, turnedBy}
 
-pub eq-is : (μ : Floo.Machine) → perform (bytes "eq") μ ≡ equality (λ b. b) μ
-unfolding textual perform find table _is_
-eq-is μ = refl
-
-pub ne-is : (μ : Floo.Machine) → perform (bytes "ne") μ ≡ equality not μ
-unfolding textual perform find table _is_
-ne-is μ = refl
+pub named-is : (negated : Bool) (μ : Floo.Machine) → perform (nameOf negated) μ ≡ equality (turnedBy negated) μ
+unfolding textual perform find table _is_ nameOf turnedBy
+named-is false μ = refl
+named-is true μ = refl
 
 answered-store : (b : Bool) → KeepsStore (answered b)
 unfolding answered dropped push withStack
@@ -57,14 +54,15 @@ module _ {op : Floo.Machine → Result Floo.Machine} (f : Bool → Bool) (named 
   pub equality-short : m .depth < 2 → DoesHeap op m s s c c (Fail StackUnderflow)
   equality-short h = fails-heap (λ e d l μ R. named μ ∙ equality-none f μ (omega (arith, stack-depth R)))
 
-  pub equality-good : {r : Bool} {m′ : Machine} {s′ c′ : List ℕ}
+  pub equality-good : {r b : Bool} {m′ : Machine} {s′ c′ : List ℕ}
       → 2 ≤ m .depth
       → Compares m s c r
-      → MovesHeap (answered (f r)) m m′ s s′ c c′
+      → b ≡ f r
+      → MovesHeap (answered b) m m′ s s′ c c′
       → length s′ ≡ length s
       → DoesHeap op m s s′ c c′ (Ok m′)
-  equality-good {r} deep K M long =
-      moves-heap M (answered-store (f r)) long (λ e d l μ R.
+  equality-good {r} {m′ = m′} {s′ = s′} {c′ = c′} deep K q M long =
+      moves-heap (subst (λ a. MovesHeap (answered a) m m′ s s′ c c′) q M) (answered-store (f r)) long (λ e d l μ R.
       let t = two-items (μ .stack) (omega (arith, deep, stack-depth R)) in
       named μ ∙ equality-gives f μ (t .3) (K .says e d l μ R (t .1) (t .0) (t .2) (t .3)))
 

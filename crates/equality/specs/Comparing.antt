@@ -1,11 +1,11 @@
 -- What a comparison of the two topmost items reads, and what its answer does to a machine of the definition.
 -- Assumes nothing.
 use mathlib.Core.Path.{_≡_}
-use mathlib.Core.Bool.{Bool}
+use mathlib.Core.Bool.{Bool, true, false, not}
 use mathlib.Core.List.{List, _∷_}
 use Prim.Native.Nat.{ℕ}
 use lib.ListN.{getD}
-use Rattle.semantics.specs.Text.{same}
+use Rattle.semantics.specs.Text.{bytes, same}
 use Rattle.semantics.specs.Values.{Value, null, boolean, string, current}
 use Rattle.semantics.specs.Machine as Floo
 use Rattle.semantics.specs.Machine.{withStack, push, object, bytesOf}
@@ -39,3 +39,13 @@ pub record SameBytes (m : Machine) (s c : List ℕ) (r : Bool) : Type 0 where
 -- They give way to a truth value.
 unfoldable pub answered : Bool → Floo.Machine → Floo.Machine
 answered b μ = push (boolean b) (dropped (dropped μ))
+
+-- ---- eq, or ne where the answer is negated
+
+unfoldable pub nameOf : Bool → List ℕ
+nameOf false = bytes "eq"
+nameOf true = bytes "ne"
+
+unfoldable pub turnedBy : Bool → Bool → Bool
+turnedBy false b = b
+turnedBy true b = not b

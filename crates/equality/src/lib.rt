@@ -3,13 +3,12 @@
 ghost use mathlib.Core.Path.{_≡_};
 ghost use mathlib.Core.Bool.{false};
 ghost use Prim.Native.Nat.{_≤_, _<_};
-ghost use Rattle.semantics.specs.Text.{bytes};
 ghost use Rattle.semantics.specs.Operators.{perform};
 ghost use Rattle.machine.specs.Rep.{Somewhere, MovesHeap};
 ghost use Rattle.machine.specs.Room.{DoesHeap};
 ghost use Rattle.machine.specs.Moves.{tagAs};
 ghost use Rattle.elements.specs.Elements.{HasString, ByteOf, SomewhereThat};
-ghost use Rattle.equality.specs.Comparing.{Compares, HasStrings, SameBytes, answered};
+ghost use Rattle.equality.specs.Comparing.{Compares, HasStrings, SameBytes, answered, nameOf, turnedBy};
 use machine::Did;
 use machine::Machine;
 use machine::TAG_ARRAY;
@@ -22,28 +21,17 @@ use machine::TAG_PROCEDURE;
 use machine::TAG_STRING;
 use semantics::Error;
 
-// Ruled out: a literal and an executable name that differ, and two strings that are equal only where they are one.
-pub fn eq(m: Machine, stack: &mut [u32], cells: &mut [u32]) -> Did
+// eq, or ne where `negated` holds. In one, so that the comparison stands once in the code.
+// Ruled out: a literal and an executable name that differ; two strings that are equal only where they are one; an error for operands of two kinds.
+pub fn compare(m: Machine, stack: &mut [u32], cells: &mut [u32], negated: bool) -> Did
     requires { ⌜ Somewhere m (now stack) (now cells) ⌝ }
-    ensures { λ r. ⌜ DoesHeap (perform (bytes "eq")) m (now (stack .entry)) (now (stack .exit)) (now (cells .entry)) (now (cells .exit)) r ⌝ }
+    ensures { λ r. ⌜ DoesHeap (perform (nameOf negated)) m (now (stack .entry)) (now (stack .exit)) (now (cells .entry)) (now (cells .exit)) r ⌝ }
 {
     if m.depth < 2 {
         return Did::Fail(Error::StackUnderflow);
     }
-    let truth = equal(m, stack, cells);
+    let truth = turned(equal(m, stack, cells), negated);
     Did::Ok(answer(m, stack, cells, truth))
-}
-
-// Ruled out: an error for operands of two kinds, and operands that stay counted.
-pub fn ne(m: Machine, stack: &mut [u32], cells: &mut [u32]) -> Did
-    requires { ⌜ Somewhere m (now stack) (now cells) ⌝ }
-    ensures { λ r. ⌜ DoesHeap (perform (bytes "ne")) m (now (stack .entry)) (now (stack .exit)) (now (cells .entry)) (now (cells .exit)) r ⌝ }
-{
-    if m.depth < 2 {
-        return Did::Fail(Error::StackUnderflow);
-    }
-    let truth = equal(m, stack, cells);
-    Did::Ok(answer(m, stack, cells, !truth))
 }
 
 // Whether the two topmost items are equal. Of null and mark the payload says nothing.
@@ -114,6 +102,16 @@ fn kind_of(tag: u32) -> u32
         return TAG_ARRAY;
     }
     tag
+}
+
+// The truth value, or the other one.
+fn turned(truth: bool, negated: bool) -> bool
+    ensures { λ r. ⌜ r ≡ turnedBy negated truth ⌝ }
+{
+    if negated {
+        return !truth;
+    }
+    truth
 }
 
 // The two topmost items give way to a truth value.

@@ -2,11 +2,15 @@
 -- Assumes nothing.
 use mathlib.Core.Path.{_≡_, refl, subst, sym, ap, _∙_}
 use mathlib.Core.List.{List, []}
-use Prim.Native.Nat.{ℕ}
+use mathlib.Core.Logic.{⊎-elim}
+use Prim.Native.Nat.{ℕ, _≤_, _<_}
+use native.Mathlib.Omega.{arith}
 use lib.ListN.{getD}
+use lib.Dec.{eqb}
 use Rattle.semantics.specs.Values.{Result}
 use Rattle.semantics.specs.Machine as Floo
-use Rattle.semantics.specs.Operators.{perform}
+use Rattle.semantics.specs.Operators.{perform, table, _is_}
+use Rattle.heap.proofs.Upds.{same?}
 use Rattle.store.specs.Rep.{titles}
 use Rattle.machine.specs.Room.{DoesStack, DoesHeap}
 use Rattle.machine.specs.declared.Machine.{Machine}
@@ -15,6 +19,7 @@ use Rattle.machine.specs.declared.Did.the-variants.{Ok, Fail}
 use Rattle.control_operators.specs.Promises.{DoesState, DoesCells, DoesFrames}
 use Rattle.control_operators.proofs.Promising.{cells-frames}
 use Rattle.dictionary_operators.specs.Promises.{DoesDictionary}
+use Rattle.equality.specs.Comparing.{nameOf}
 use Rattle.conversions.specs.Texts.{DoesNamedHeap}
 use Rattle.output_operators.specs.Output.{LogRest, DoesLog}
 use Rattle.operators.specs.Titles.{performAt, DoesAll}
@@ -63,6 +68,28 @@ pub dictionary-named : {m : Machine} {s s′ d d′ c c′ : List ℕ} {r : Did}
     → DoesDictionary (perform n) m s s′ d d′ c c′ r
     → DoesDictionary (performAt k) m s s′ d d′ c c′ r
 dictionary-named {m} {s} {s′} {d} {d′} {c} {c′} {r} {k} j n e t D = subst (λ f. DoesDictionary f m s s′ d d′ c c′ r) (named k j n e t) D
+
+pub heap-frames : {f : Floo.Machine → Result Floo.Machine} {m : Machine} {s s′ c c′ : List ℕ} (r : Did) → DoesHeap f m s s′ c c′ r → (e : List ℕ) → DoesFrames f m s s′ e e c c′ r
+heap-frames (Fail x) D e = record { does = λ d l μ R. let a = D .does e d l μ R in (a .0, (a .1 .0, refl, a .1 .1)) }
+heap-frames (Ok m′) D e = record { does = λ d l μ R. D .does e d l μ R }
+
+-- The same of an answer that was made anew.
+pub settled-frames : {f : Floo.Machine → Result Floo.Machine} {m : Machine} {s s′ c c′ : List ℕ} {did r : Did}
+    → r ≡ did
+    → DoesHeap f m s s′ c c′ did
+    → (e : List ℕ)
+    → DoesFrames f m s s′ e e c c′ r
+settled-frames {f} {m} {s} {s′} {c} {c′} {r = r} q D e = heap-frames r (subst (DoesHeap f m s s′ c c′) (sym q) D) e
+
+-- eq and ne by their numbers.
+pub equality-name : (k : ℕ) → 18 ≤ k → k < 20 → getD titles k [] ≡ nameOf (eqb k 19)
+unfolding titles table _is_ nameOf
+equality-name k low high =
+    ⊎-elim
+    (λ (e : k ≡ 18). subst (λ j. getD titles j [] ≡ nameOf (eqb j 19)) (sym e) refl)
+    (λ (n : k ≡ 18 → ⊥).
+    let e : k ≡ 19 = omega (arith, n, low, high) in
+    subst (λ j. getD titles j [] ≡ nameOf (eqb j 19)) (sym e) refl) (same? k 18)
 
 -- ---- all words
 

@@ -1,4 +1,6 @@
-// The 54 operators by their numbers, which are their places in the definition's table. Each family is lent only what its operators touch.
+// The 54 operators by their numbers, which are their places in the definition's table: `frequent` those below getinterval, `rare` the rest. Each family is lent
+// only what its operators touch.
+ghost use mathlib.Core.Path.{_≡_};
 ghost use Prim.Native.Nat.{_*_, _≤_, _<_};
 ghost use lib.ListN.{length};
 ghost use Rattle.machine.specs.Rep.{Somewhere as StackSomewhere};
@@ -7,9 +9,13 @@ ghost use Rattle.frames.specs.Moves.{Somewhere, SomewhereAll};
 ghost use Rattle.control_operators.specs.Promises.{DoesFrames, DoesCells};
 ghost use Rattle.dictionary_operators.specs.Promises.{Represented, DoesDictionary};
 ghost use Rattle.output_operators.specs.Output.{SomewhereLog, DoesLog};
-ghost use Rattle.operators.specs.Titles.{performAt, Everywhere, DoesAll};
+ghost use Rattle.operators.specs.Titles.{performAt, EverywhereButLog, DoesButLog, EverywhereButSlots, DoesButSlots};
+use heap::Lists;
 use machine::Did;
 use machine::Machine;
+
+// The number of getinterval, the first of the operators that a run meets seldom.
+pub const RARE: u32 = 42;
 
 // add, sub, mul, idiv, mod and abs.
 fn arithmetic(k: u32, m: Machine, stack: &mut [u32]) -> Did
@@ -101,10 +107,7 @@ fn equalities(k: u32, m: Machine, stack: &mut [u32], cells: &mut [u32]) -> Did
     requires { ⌜ (18 ≤ k) × (k < 20) × StackSomewhere m (now stack) (now cells) ⌝ }
     ensures { λ r. ⌜ DoesHeap (performAt k) m (now (stack .entry)) (now (stack .exit)) (now (cells .entry)) (now (cells .exit)) r ⌝ }
 {
-    match k {
-        18 => equality::eq(m, stack, cells),
-        _ => equality::ne(m, stack, cells),
-    }
+    equality::compare(m, stack, cells, k == 19)
 }
 
 // array, mark, ], length, get and put.
@@ -202,18 +205,11 @@ fn converters(k: u32, m: Machine, stack: &mut [u32], dict: &mut [u32], cells: &m
         _ => dictionary_operators::cvn(m, stack, dict, cells),
     }
 }
-// The operators from exec on.
-fn upper(
-    k: u32,
-    m: Machine,
-    stack: &mut [u32],
-    exec: &mut [u32],
-    dict: &mut [u32],
-    cells: &mut [u32],
-    log: &mut [u8],
-) -> Did
-    requires { ⌜ (27 ≤ k) × (k < 54) × Everywhere m (now stack) (now exec) (now dict) (now cells) (now log) ⌝ }
-    ensures { λ r. ⌜ DoesAll (performAt k) m (now (stack .entry)) (now (stack .exit)) (now (exec .entry)) (now (exec .exit)) (now (dict .entry)) (now (dict .exit)) (now (cells .entry)) (now (cells .exit)) (now (log .entry)) (now (log .exit)) r ⌝ }
+
+// The operators from exec to put.
+fn upper(k: u32, m: Machine, stack: &mut [u32], exec: &mut [u32], cells: &mut [u32]) -> Did
+    requires { ⌜ (27 ≤ k) × (k < 42) × SomewhereAll m (now stack) (now exec) (now cells) ⌝ }
+    ensures { λ r. ⌜ DoesFrames (performAt k) m (now (stack .entry)) (now (stack .exit)) (now (exec .entry)) (now (exec .exit)) (now (cells .entry)) (now (cells .exit)) r ⌝ }
 {
     if k < 33 {
         return bodies(k, m, stack, exec, cells);
@@ -221,9 +217,41 @@ fn upper(
     if k < 36 {
         return endings(k, m, exec, cells);
     }
-    if k < 42 {
-        return arrays(k, m, stack, cells);
+    settled(arrays(k, m, stack, cells))
+}
+
+// The operators below getinterval, which a run meets most. They are kept apart from the rest so that the compiler puts them into the loop of steps.
+// Ruled out: two operators exchanged; one that is not in the table.
+pub fn frequent(
+    k: u32,
+    m: Machine,
+    stack: &mut [u32],
+    exec: &mut [u32],
+    dict: &mut [u32],
+    cells: &mut [u32],
+) -> Did
+    requires { ⌜ (k < 42) × EverywhereButLog m (now stack) (now exec) (now dict) (now cells) ⌝ }
+    ensures { λ r. ⌜ DoesButLog (performAt k) m (now (stack .entry)) (now (stack .exit)) (now (exec .entry)) (now (exec .exit)) (now (dict .entry)) (now (dict .exit)) (now (cells .entry)) (now (cells .exit)) r ⌝ }
+{
+    if k < 27 {
+        return lower(k, m, stack, dict, cells);
     }
+    upper(k, m, stack, exec, cells)
+}
+
+// The operators from getinterval on.
+// Ruled out: two operators exchanged; one that is not in the table.
+pub fn rare(
+    k: u32,
+    m: Machine,
+    stack: &mut [u32],
+    dict: &mut [u32],
+    cells: &mut [u32],
+    log: &mut [u8],
+) -> Did
+    requires { ⌜ (42 ≤ k) × (k < 54) × EverywhereButSlots m (now stack) (now dict) (now cells) (now log) ⌝ }
+    ensures { λ r. ⌜ DoesButSlots (performAt k) m (now (stack .entry)) (now (stack .exit)) (now (dict .entry)) (now (dict .exit)) (now (cells .entry)) (now (cells .exit)) (now (log .entry)) (now (log .exit)) r ⌝ }
+{
     if k < 47 {
         return intervals(k, m, stack, cells);
     }
@@ -233,22 +261,33 @@ fn upper(
     outputs(k, m, stack, dict, cells, log)
 }
 
-// The operator of this number.
-// Ruled out: two operators exchanged; one that is not in the table.
-pub fn perform(
-    k: u32,
-    m: Machine,
-    stack: &mut [u32],
-    exec: &mut [u32],
-    dict: &mut [u32],
-    cells: &mut [u32],
-    log: &mut [u8],
-) -> Did
-    requires { ⌜ (k < 54) × Everywhere m (now stack) (now exec) (now dict) (now cells) (now log) ⌝ }
-    ensures { λ r. ⌜ DoesAll (performAt k) m (now (stack .entry)) (now (stack .exit)) (now (exec .entry)) (now (exec .exit)) (now (dict .entry)) (now (dict .exit)) (now (cells .entry)) (now (cells .exit)) (now (log .entry)) (now (log .exit)) r ⌝ }
+// The same answer, made anew field by field: the compiler then keeps the fields of a state apart, and none of them in memory.
+pub fn settled(did: Did) -> Did
+    ensures { λ r. ⌜ r ≡ did ⌝ }
 {
-    if k < 27 {
-        return lower(k, m, stack, dict, cells);
+    match did {
+        Did::Ok(m) => Did::Ok(fields(m)),
+        Did::Fail(e) => Did::Fail(e),
     }
-    upper(k, m, stack, exec, dict, cells, log)
+}
+
+pub fn fields(m: Machine) -> Machine
+    ensures { λ r. ⌜ r ≡ m ⌝ }
+{
+    let l = m.lists;
+    let lists = Lists {
+        free: l.free,
+        listed: l.listed,
+        edge: l.edge,
+        work: l.work,
+        dead: l.dead,
+    };
+    Machine {
+        depth: m.depth,
+        frames: m.frames,
+        names: m.names,
+        written: m.written,
+        lists: lists,
+        stopped: m.stopped,
+    }
 }

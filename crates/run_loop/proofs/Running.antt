@@ -74,10 +74,12 @@ pub record Running (script : List ℕ) (fuel : ℕ) (first here : Moment) (left 
 
 pub begin : {script : List ℕ} {fuel : ℕ} {m : Machine} {s e d c l : List ℕ}
     → Begun script fuel m s e d c l
-    → Running script fuel (moment (begun m) s e d c l) (moment (begun m) s e d c l) fuel
+    → Running script fuel (moment (begun m) s e d c l) (moment (begun m) s e d c l) (fuel - 0)
 unfolding initial
 begin {script} {fuel} {m} {s} {e} {d} {c} {l} B =
-    record {
+    let whole : fuel ≡ fuel - 0 = omega arith in
+    subst (Running script fuel (moment (begun m) s e d c l) (moment (begun m) s e d c l)) whole
+    (record {
       short = B .short;
       fueled = B .fueled;
       machine = initial .machine;
@@ -96,7 +98,7 @@ begin {script} {fuel} {m} {s} {e} {d} {c} {l} B =
       chain = start;
       exact = cons (exactly (B .rep)) nil;
       rest = refl;
-    }
+    })
 
 -- ---- what is asked
 
@@ -209,16 +211,23 @@ module _ {script : List ℕ} {fuel : ℕ} {m : Machine} {s₀ e₀ d₀ c₀ l�
           by : laws.Stepped (stateOf st (R .machine)) (steps.goes (stateOf τ new)) → τ .steps ≡ suc (st .steps)
           by (went h) = h
 
-      pub go-on : τ .machine .stopped ≡ false
+      pub goes-less : {ρ : State} → ρ ≡ τ → fuel - ρ .steps < left
+      goes-less same = omega (arith, R .count, counted, some, ap (λ σ. σ .steps) same)
+
+      pub go-on : {ρ : State}
+          → ρ ≡ τ
+          → τ .machine .stopped ≡ false
           → length s′ ≡ length s
           → length e′ ≡ length e
           → length d′ ≡ length d
           → length c′ ≡ length c
           → length l′ ≡ length l
-          → Running script fuel (moment (begun m) s₀ e₀ d₀ c₀ l₀) (moment τ s′ e′ d′ c′ l′) (left - 1)
+          → Running script fuel (moment (begun m) s₀ e₀ d₀ c₀ l₀) (moment ρ s′ e′ d′ c′ l′) (fuel - ρ .steps)
       unfolding new
-      go-on runs a b f g h =
-          record {
+      go-on same runs a b f g h =
+          let one-less : left - 1 ≡ fuel - τ .steps = omega (arith, R .count, counted, some) in
+          subst (λ ρ. Running script fuel (moment (begun m) s₀ e₀ d₀ c₀ l₀) (moment ρ s′ e′ d′ c′ l′) (fuel - ρ .steps)) (sym same)
+          (record {
             short = R .short;
             fueled = R .fueled;
             machine = new;
@@ -232,15 +241,16 @@ module _ {script : List ℕ} {fuel : ℕ} {m : Machine} {s₀ e₀ d₀ c₀ l�
             lc = g ∙ R .lc;
             ll = h ∙ R .ll;
             before = R .before ++ (stateOf st (R .machine) ∷ []);
-            reached = reached-goes again more goes-is (sym (new-rep .stopped) ∙ runs);
+            reached = subst (λ n. Reached (lent s₀ e₀ d₀ c₀ l₀) script fuel initial (R .before ++ (stateOf st (R .machine) ∷ [])) n (stateOf τ new)) one-less
+                (reached-goes again more goes-is (sym (new-rep .stopped) ∙ runs));
             moments = R .moments ++ (moment τ s′ e′ d′ c′ l′ ∷ []);
             chain = then (R .chain) goes-leads;
             exact = along-snoc (R .exact) (exactly new-rep);
             rest = goes-rest;
-          }
+          })
 
-    module _ {x : Error} {command : Command} {τ : State} (g : answer ≡ Fails x command τ) where
-      fails-as : SteppedAs script st s s′ e e′ d d′ c c′ l l′ (R .machine) (Fails x command τ)
+    module _ {x : Error} {command : Command} {τ : State} (g : answer ≡ Fails τ x command) where
+      fails-as : SteppedAs script st s s′ e e′ d d′ c c′ l l′ (R .machine) (Fails τ x command)
       fails-as = subst (SteppedAs script st s s′ e e′ d d′ c c′ l l′ (R .machine)) g (S .steps (R .machine) (R .rep))
 
       fails-is : steps.step (lent s₀ e₀ d₀ c₀ l₀) script (stateOf st (R .machine)) ≡ steps.fails x (commandText script (keys (R .machine)) command) (stateOf τ (R .machine))
@@ -271,6 +281,28 @@ module _ {script : List ℕ} {fuel : ℕ} {m : Machine} {s₀ e₀ d₀ c₀ l�
             };
             rest = fails-rest;
           }
+
+-- ---- a step of either kind
+
+-- The buffers after it are as long as before.
+pub record Went (script : List ℕ) (st : State) (s s′ e e′ d d′ c c′ l l′ : List ℕ) (answer : Stepped) : Type 0 where
+  pub steps : Steps script st s s′ e e′ d d′ c c′ l l′ answer
+  pub ls : length s′ ≡ length s
+  pub le : length e′ ≡ length e
+  pub ld : length d′ ≡ length d
+  pub lc : length c′ ≡ length c
+  pub ll : length l′ ≡ length l
+
+pub went-by : {script : List ℕ} {st : State} {s s₁ s′ e e₁ e′ d d₁ d′ c c₁ c′ l l₁ l′ : List ℕ} {a answer : Stepped}
+    → Went script st s s₁ e e₁ d d₁ c c₁ l l₁ a
+    → s′ ≡ s₁
+    → e′ ≡ e₁
+    → d′ ≡ d₁
+    → c′ ≡ c₁
+    → l′ ≡ l₁
+    → answer ≡ a
+    → Went script st s s′ e e′ d d′ c c′ l l′ answer
+went-by W p q r t u v = rw (p, q, r, t, u, v) W
 
 -- ---- whether the run is finished
 

@@ -42,7 +42,7 @@ limitsOf x = lent (x .stack) (x .exec) (x .dict) (x .cells) (x .log)
 -- The state that a step left.
 abbrev pub leftBy : Stepped → State
 leftBy (Goes τ) = τ
-leftBy (Fails e command τ) = τ
+leftBy (Fails τ e command) = τ
 
 -- A step of the runner leads from x to y.
 pub record Leads (script : List ℕ) (x y : Moment) : Type 0 where

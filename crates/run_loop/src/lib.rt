@@ -36,7 +36,6 @@ pub fn advance(
         at: 0,
         steps: 0,
     };
-    let mut left = fuel;
     loop {
         if is_finished(st, script) {
             return Ended {
@@ -44,13 +43,19 @@ pub fn advance(
                 ending: Ending::Finished,
             };
         }
-        if left == 0 {
+        if st.steps == fuel {
             return Ended {
                 state: st,
                 ending: Ending::OutOfFuel,
             };
         }
-        match st.step(script, stack, exec, dict, cells, log) {
+        let m = st.machine;
+        let stepped = if m.frames == 0 {
+            st.take(script, stack, exec, dict, cells)
+        } else {
+            st.resume(script, stack, exec, dict, cells, log)
+        };
+        match stepped {
             Stepped::Goes(next) => {
                 let now = next.machine;
                 if now.stopped {
@@ -59,16 +64,28 @@ pub fn advance(
                         ending: Ending::Stopped,
                     };
                 }
-                st = next;
-                left = left - 1;
+                st = by_fields(next);
             }
-            Stepped::Fails(e, command, next) => {
+            Stepped::Fails(next, e, command) => {
                 return Ended {
                     state: next,
                     ending: Ending::Failed(e, command),
                 };
             }
         }
+    }
+}
+
+// The same state, made anew field by field: the compiler then keeps them apart, and the state of the loop in registers.
+fn by_fields(st: State) -> State
+    ensures { λ r. ⌜ r ≡ st ⌝ }
+{
+    let m = operators::fields(st.machine);
+    State {
+        machine: m,
+        next: st.next,
+        at: st.at,
+        steps: st.steps,
     }
 }
 

@@ -31,7 +31,7 @@ use Rattle.step.proofs.Moving.{ends-step, frame-step}
 
 same-left : (l : List ℕ) (r : Stepped) → LogLeft l l r
 same-left l (Goes τ) = refl
-same-left l (Fails x command τ) = refl
+same-left l (Fails τ x command) = refl
 
 -- Taking a token leaves the log.
 pub token-steps : {script : List ℕ} {σ : State} {s s′ e e′ d d′ c c′ : List ℕ} (l : List ℕ) (r : Stepped)

@@ -26,19 +26,19 @@ stateOf σ μ = record { machine = μ; next = σ .next; at = σ .at; steps = σ 
 
 -- ---- what a step answers
 
--- The state after it; or the error, the command, and the state before it with the step counted and `at` set.
+-- The state after it; or the state before it with the step counted and `at` set, the error, and the command.
 abbrev pub SteppedAs : List ℕ → State → List ℕ → List ℕ → List ℕ → List ℕ → List ℕ → List ℕ → List ℕ → List ℕ → List ℕ → List ℕ → Floo.Machine → Stepped → Type 0
 SteppedAs script σ s s′ e e′ d d′ c c′ l l′ μ (Goes τ) =
     (ν : Floo.Machine) × (steps.step (lent s e d c l) script (stateOf σ μ) ≡ steps.goes (stateOf τ ν))
     × Rep (τ .machine) s′ e′ d′ c′ l′ ν × (τ .next ≤ length script) × (τ .at ≤ length script)
-SteppedAs script σ s s′ e e′ d d′ c c′ l l′ μ (Fails x command τ) =
+SteppedAs script σ s s′ e e′ d d′ c c′ l l′ μ (Fails τ x command) =
     (steps.step (lent s e d c l) script (stateOf σ μ) ≡ steps.fails x (commandText script (keys μ) command) (stateOf τ μ))
     × Rep (τ .machine) s′ e′ d′ c′ l′ μ × IsCommand script (keys μ) command × (τ .at ≤ length script)
 
 -- The log past what is written is as before.
 abbrev pub LogLeft : List ℕ → List ℕ → Stepped → Type 0
 LogLeft l l′ (Goes τ) = drop (τ .machine .written) l′ ≡ drop (τ .machine .written) l
-LogLeft l l′ (Fails x command τ) = l′ ≡ l
+LogLeft l l′ (Fails τ x command) = l′ ≡ l
 
 pub record Steps (script : List ℕ) (σ : State) (s s′ e e′ d d′ c c′ l l′ : List ℕ) (r : Stepped) : Type 0 where
   pub steps : (μ : Floo.Machine) → Rep (σ .machine) s e d c l μ → SteppedAs script σ s s′ e e′ d d′ c c′ l l′ μ r
@@ -65,8 +65,8 @@ ReadyToken script σ s e d c = (l : List ℕ) × Ready script σ s e d c l × (�
 
 abbrev pub endedBy : State → ℕ → ℕ → Command → Did → Stepped
 endedBy σ at next command (did.Ok r) = Goes (record { machine = r; next = next; at = at; steps = σ .steps + 1 })
-endedBy σ at next command (did.Fail e) = Fails e command (record { machine = σ .machine; next = σ .next; at = at; steps = σ .steps + 1 })
+endedBy σ at next command (did.Fail e) = Fails (record { machine = σ .machine; next = σ .next; at = at; steps = σ .steps + 1 }) e command
 
 abbrev pub groupedBy : State → ℕ → Grouped → Stepped
 groupedBy σ at (grouped.Done r next) = Goes (record { machine = r; next = next; at = at; steps = σ .steps + 1 })
-groupedBy σ at (grouped.Fail e) = Fails e Nothing (record { machine = σ .machine; next = σ .next; at = at; steps = σ .steps + 1 })
+groupedBy σ at (grouped.Fail e) = Fails (record { machine = σ .machine; next = σ .next; at = at; steps = σ .steps + 1 }) e Nothing

@@ -1,7 +1,7 @@
-// One step of a run: the topmost execution slot acts, or the next token of the script is taken. The answer is the definition's step, errors and their order,
-// the count of steps and the offsets included; where it fails, the words stand for what they stood for.
+// One step of a run: `resume` where there is an execution slot, which acts, else `take`, which takes the next token of the script. The answer is the definition's
+// step, errors and their order, the count of steps and the offsets included; where it fails, the words stand for what they stood for.
 ghost use mathlib.Core.Path.{_≡_};
-ghost use Prim.Native.Nat.{_<_};
+ghost use Prim.Native.Nat.{_<_, _≤_};
 ghost use Rattle.step.specs.Stepping.{Ready, ReadyToken, Steps, StepsToken, endedBy, groupedBy};
 use ending::Command;
 use group_taking::Grouped;
@@ -21,13 +21,13 @@ pub struct State {
 
 pub enum Stepped {
     Goes(State),
-    Fails(Error, Command, State),
+    Fails(State, Error, Command),
 }
 
 impl State {
-    // One step.
-    // Rules out: a failing step that is not counted; the offset moved past a token that failed.
-    pub fn step(
+    // The topmost execution slot acts.
+    // Rules out: a failing step that is not counted; the offset moved.
+    pub fn resume(
         self,
         script: &[u8],
         stack: &mut [u32],
@@ -36,13 +36,10 @@ impl State {
         cells: &mut [u32],
         log: &mut [u8],
     ) -> Stepped
-        requires { ⌜ Ready (now script) self (now stack) (now exec) (now dict) (now cells) (now log) ⌝ }
+        requires { ⌜ (1 ≤ self .machine .frames) × Ready (now script) self (now stack) (now exec) (now dict) (now cells) (now log) ⌝ }
         ensures { λ r. ⌜ Steps (now (script .entry)) self (now (stack .entry)) (now (stack .exit)) (now (exec .entry)) (now (exec .exit)) (now (dict .entry)) (now (dict .exit)) (now (cells .entry)) (now (cells .exit)) (now (log .entry)) (now (log .exit)) r ⌝ }
     {
         let m = self.machine;
-        if m.frames == 0 {
-            return self.take(script, stack, exec, dict, cells);
-        }
         match acting::act(m, stack, exec, dict, cells, log) {
             Did::Ok(r) => self.ended(self.at, self.next, Command::Nothing, Did::Ok(r)),
             // no word has changed: the command is where it was
@@ -54,7 +51,8 @@ impl State {
     }
 
     // With no execution slot the next token is taken.
-    fn take(
+    // Rules out: a token that is taken twice; the offset moved past a token that failed.
+    pub fn take(
         self,
         script: &[u8],
         stack: &mut [u32],
@@ -123,14 +121,14 @@ impl State {
                 steps: self.steps + 1,
             }),
             Did::Fail(e) => Stepped::Fails(
-                e,
-                command,
                 State {
                     machine: m,
                     next: self.next,
                     at: at,
                     steps: self.steps + 1,
                 },
+                e,
+                command,
             ),
         }
     }

@@ -1,6 +1,6 @@
 // The reading of one token of a script, where it stands: space and comment, names, numbers, strings and braces. `token_at` answers as
-// the definition's `lex` does, and the public reading, `read` and `part`, as its `reading`, on every script and at every offset. No byte is
-// copied: an answer says where a token's bytes are, and `unescape` gives a string's bytes one by one.
+// the definition's `lex` does, and the public reading, `read`, `part` and `locate`, as its `reading`, on every script and at every offset.
+// No byte is copied: an answer says where a token's bytes are, and `unescape` gives a string's bytes one by one.
 ghost use mathlib.Core.Path.{_≡_};
 ghost use Prim.Native.Nat.{_≤_};
 ghost use lib.ListN.{length};
@@ -60,7 +60,7 @@ pub enum Reading {
 }
 
 // The same with where the token's own bytes begin and how many they are.
-enum Located {
+pub enum Located {
     TooLong,
     PastEnd,
     Faulty(Error),
@@ -90,6 +90,25 @@ pub fn part(script: &[u8], offset: usize) -> &[u8]
         return &script[0..0];
     };
     &script[start..start + size]
+}
+
+// The definition's reading, whole: the kind, the offset after it, and where the token's own bytes are, for a caller that can be handed no slice.
+// Ruled out: the bytes of a string counted after its escapes are read; an end whose part begins at the offset given and not at the length.
+pub fn locate(script: &[u8], offset: usize) -> Located
+    ensures { λ r. ⌜ LocatedAt (now (script .entry)) offset r ⌝ }
+{
+    if SCRIPT_BYTES < script.len() {
+        return Located::TooLong;
+    }
+    if script.len() < offset {
+        return Located::PastEnd;
+    }
+    let start = skip(script, offset);
+    let lexed = token_at(script, start);
+    let Lexed::Token(token, next) = lexed else {
+        return Located::Faulty(fault_of(lexed));
+    };
+    own_part(token, start, next)
 }
 
 // The offset of the first byte from `at` on that is neither space nor comment, or the script's length.
@@ -184,24 +203,6 @@ fn string_at(script: &[u8], start: usize) -> Lexed
         return Lexed::Fault(Error::SyntaxError);
     };
     Lexed::Token(Token::String(at, size), next)
-}
-
-// The definition's reading, whole.
-fn locate(script: &[u8], offset: usize) -> Located
-    ensures { λ r. ⌜ LocatedAt (now (script .entry)) offset r ⌝ }
-{
-    if SCRIPT_BYTES < script.len() {
-        return Located::TooLong;
-    }
-    if script.len() < offset {
-        return Located::PastEnd;
-    }
-    let start = skip(script, offset);
-    let lexed = token_at(script, start);
-    let Lexed::Token(token, next) = lexed else {
-        return Located::Faulty(fault_of(lexed));
-    };
-    own_part(token, start, next)
 }
 
 // A token's kind and its own bytes, for one from `start` to `next`.

@@ -1,4 +1,4 @@
-//! The exported function of `libfloo_c.a`, as `include/floo.h` has it: the one place here that is not safe Rust.
+//! The exported functions of `libfloo_c.a`, as `include/floo.h` has them: the one place here that is not safe Rust.
 
 /// The number of the refusal, or 0 and what the run came to.
 #[repr(C)]
@@ -7,6 +7,19 @@ pub struct Reply {
     pub steps: u32,
     pub log: usize,
     pub outcome: usize,
+}
+
+/// The number of the refusal, of the fault or of the token's kind, the other two being 0; the offset after the token, and where in the script its own bytes
+/// begin and how many they are.
+#[repr(C)]
+#[derive(Clone, Copy, Debug, PartialEq, Eq)]
+pub struct TokenReply {
+    pub refused: u32,
+    pub fault: u32,
+    pub kind: u32,
+    pub next: usize,
+    pub start: usize,
+    pub size: usize,
 }
 
 extern "C" {
@@ -27,6 +40,8 @@ extern "C" {
         outcome: *mut u8,
         outcome_bytes: usize,
     ) -> Reply;
+
+    fn floo_token(script: *const u8, script_bytes: usize, offset: usize) -> TokenReply;
 }
 
 /// Runs a script in buffers that the caller lends: 2 words for a stack slot, 8 for an execution slot, 12 for a dictionary slot, 4 for a cell, and an outcome of at
@@ -63,4 +78,11 @@ pub fn run(
             outcome.len(),
         )
     }
+}
+
+/// Reads the next token of a script from `offset` on, and answers in numbers.
+#[allow(unsafe_code)]
+pub fn token(script: &[u8], offset: usize) -> TokenReply {
+    // SAFETY: pointer and length are those of a slice, which no one writes during the call. Nothing else is asked.
+    unsafe { floo_token(script.as_ptr(), script.len(), offset) }
 }

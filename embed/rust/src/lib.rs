@@ -1,4 +1,4 @@
-//! Runs Floo 0.5 scripts by the proved runner of this repository.
+//! Runs Floo 0.5 scripts by the proved runner of this repository, and reads their tokens.
 //!
 //! A [`Runner`] owns the room for runs and can be used for one script after another; a run neither allocates nor depends on
 //! the runs before it.
@@ -11,16 +11,27 @@
 //! assert_eq!(report.log(), b"3\n");
 //! assert_eq!(report.value("ending"), Some("finished"));
 //! ```
+//!
+//! [`token`] reads one token, wherever it stands in a script:
+//!
+//! ```
+//! use floo::{token, Kind};
+//!
+//! let name = token(b"#FLOO\n/two 2 def", 6).unwrap();
+//! assert_eq!((name.kind, name.part, name.next), (Kind::LiteralName, &b"two"[..], 10));
+//! ```
 
 #![deny(unsafe_code)]
 
 mod exported;
 mod refusal;
 mod report;
+mod token;
 
-pub use exported::{run as run_lent, Reply};
+pub use exported::{run as run_lent, token as token_reply, Reply, TokenReply};
 pub use refusal::Refusal;
 pub use report::Report;
+pub use token::{token, Kind, Token, TokenError};
 
 /// Fuel that is accepted at most.
 pub const FUEL_MAX: u32 = 1_000_000;

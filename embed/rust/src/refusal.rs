@@ -1,7 +1,8 @@
 use std::error::Error;
 use std::fmt;
 
-/// Why no run was made. Refusals are looked for in this order, and the first that applies is given.
+/// Why no run was made, or no token read. Refusals are looked for in this order, and the first that applies is given: by a run of 1 to 9, by the reading
+/// of a token of 1 and 10.
 #[derive(Clone, Copy, Debug, PartialEq, Eq)]
 pub enum Refusal {
     /// The script has over 32,768 bytes.
@@ -22,9 +23,11 @@ pub enum Refusal {
     LogTooLong = 8,
     /// The outcome has under 256 + 136 × stack slots bytes.
     OutcomeTooShort = 9,
+    /// The offset exceeds the script's length.
+    OffsetPastEnd = 10,
 }
 
-const ALL: [Refusal; 9] = [
+const ALL: [Refusal; 10] = [
     Refusal::ScriptTooLong,
     Refusal::NotAScript,
     Refusal::TooMuchFuel,
@@ -34,10 +37,11 @@ const ALL: [Refusal; 9] = [
     Refusal::Cells,
     Refusal::LogTooLong,
     Refusal::OutcomeTooShort,
+    Refusal::OffsetPastEnd,
 ];
 
 impl Refusal {
-    /// Its number, 1 to 9.
+    /// Its number, 1 to 10.
     pub fn number(self) -> u32 {
         self as u32
     }
@@ -60,6 +64,7 @@ impl fmt::Display for Refusal {
             Refusal::Cells => "the cells are not 1 to 32768",
             Refusal::LogTooLong => "the log is over 65536 bytes",
             Refusal::OutcomeTooShort => "the outcome is under 256 + 136 x stack slots bytes",
+            Refusal::OffsetPastEnd => "the offset exceeds the script's length",
         };
         write!(f, "refused={}: {reason}", self.number())
     }

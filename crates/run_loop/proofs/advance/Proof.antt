@@ -1,18 +1,43 @@
 -- `advance` meets its contract: the loop keeps `Running`, and each way out is a law of it. The measure is the fuel that is left.
 -- Assumes nothing.
-use mathlib.Core.Path.{_∙_}
-use native.Mathlib.Omega.{arith}
-use Rattle.run_loop.specs.History.{moment, begun}
-use Rattle.run_loop.proofs.Running.{Running, begin, ready, end-finished, end-spent, end-stopped, go-on, end-failed}
 use borrow.Author.Needs.{needs}
+use Rattle.run_loop.proofs.Running.{Running, begin, ready, end-finished, end-spent, end-stopped, goes-less, go-on, end-failed, Went, went-by}
+use Rattle.run_loop.specs.History.{moment, begun}
+use Rattle.step.proofs.FrameSteps.{token-steps}
+use native.Mathlib.Omega.{arith}
+use Prim.Native.Nat.{_-_}
+use mathlib.Core.Logic.{⊎-elim}
+use mathlib.Core.Path.{refl, _∙_}
 use Rattle.run_loop.proofs.advance.Statement.{statement}
 use Rattle.run_loop.proofs.advance.Tie as tie
 
 abbrev Inv-loop : tie.InvT-loop
-Inv-loop script fuel stack₀ exec₀ dict₀ cells₀ log₀ st₀ left₀ stack exec dict cells log st left = Running script fuel (moment (begun (st₀ .machine)) stack₀ exec₀ dict₀ cells₀ log₀) (moment st stack exec dict cells log) left
+Inv-loop script fuel stack₀ exec₀ dict₀ cells₀ log₀ st₀ stack exec dict cells log st = Running script fuel (moment (begun (st₀ .machine)) stack₀ exec₀ dict₀ cells₀ log₀) (moment st stack exec dict cells log) (fuel - st .steps)
 
 abbrev μ-loop : tie.MeasureT-loop
-μ-loop script fuel stack₀ exec₀ dict₀ cells₀ log₀ st₀ left₀ stack exec dict cells log st left = left
+μ-loop script fuel stack₀ exec₀ dict₀ cells₀ log₀ st₀ stack exec dict cells log st = fuel - st .steps
+
+-- What holds where the two kinds of steps meet.
+went : (j : tie.Joined3 Inv-loop μ-loop)
+    → Went (j .before .before .before .before .before .before .before .before .before .before .before .before .before .before .args .script .now) (j .before .before .before .before .before .before .before .loop .st) (j .before .before .before .before .before .before .before .loop .stack) (j .if3 .stack) (j .before .before .before .before .before .before .before .loop .exec) (j .if3 .exec) (j .before .before .before .before .before .before .before .loop .dict) (j .if3 .dict) (j .before .before .before .before .before .before .before .loop .cells) (j .if3 .cells) (j .before .before .before .before .before .before .before .loop .log) (j .if3 .log) (j .if3 .stepped)
+went j =
+    ⊎-elim
+    (λ w. went-by (record {
+      steps = token-steps _ _ (w .5 .ensures);
+      ls = w .5 .kept .1 .1 .0;
+      le = w .5 .kept .1 .1 .1 .0;
+      ld = w .5 .kept .1 .1 .1 .1 .0;
+      lc = w .5 .kept .1 .1 .1 .1 .1 .0;
+      ll = refl;
+    }) (w .14) (w .15) (w .16) (w .17) (w .18) (w .19))
+    (λ w. went-by (record {
+      steps = w .6 .ensures;
+      ls = w .6 .kept .1 .1 .0;
+      le = w .6 .kept .1 .1 .1 .0;
+      ld = w .6 .kept .1 .1 .1 .1 .0;
+      lc = w .6 .kept .1 .1 .1 .1 .1 .0;
+      ll = w .6 .kept .1 .1 .1 .1 .1 .1 .0;
+    }) (w .17) (w .18) (w .19) (w .20) (w .21) (w .22)) (j .if3 .came)
 
 loop-holds : tie.Need-loop-holds Inv-loop μ-loop
 loop-holds c = begin (c .before .before .before .before .before .before .pre)
@@ -42,76 +67,79 @@ returns : tie.Need-returns Inv-loop μ-loop
 returns c = end-finished (c .before .before .before .loop .inv) (c .before .before .is-finished .ensures) (c .before .if1 .taken) (c .finish .ensures)
 
 same-length-6 : tie.Need-same-length-6 Inv-loop μ-loop
-same-length-6 c = c .before .before .before .loop .inv .ls
+same-length-6 c = c .before .before .before .before .loop .inv .ls
 
 same-length-7 : tie.Need-same-length-7 Inv-loop μ-loop
-same-length-7 c = c .before .before .before .loop .inv .le
+same-length-7 c = c .before .before .before .before .loop .inv .le
 
 same-length-8 : tie.Need-same-length-8 Inv-loop μ-loop
-same-length-8 c = c .before .before .before .loop .inv .ld
+same-length-8 c = c .before .before .before .before .loop .inv .ld
 
 same-length-9 : tie.Need-same-length-9 Inv-loop μ-loop
-same-length-9 c = c .before .before .before .loop .inv .lc
+same-length-9 c = c .before .before .before .before .loop .inv .lc
 
 same-length-10 : tie.Need-same-length-10 Inv-loop μ-loop
-same-length-10 c = c .before .before .before .loop .inv .ll
+same-length-10 c = c .before .before .before .before .loop .inv .ll
 
 returns-2 : tie.Need-returns-2 Inv-loop μ-loop
-returns-2 c = end-spent (c .before .before .before .loop .inv) (c .before .before .is-finished .ensures) (c .before .if1 .left) (c .if2 .taken)
+returns-2 c = end-spent (c .before .before .before .before .loop .inv) (c .before .before .before .is-finished .ensures) (c .before .before .if1 .left) (omega (arith, c .if2 .taken))
 
-step-requires : tie.Need-step-requires Inv-loop μ-loop
-step-requires c κs = ready (c .before .before .before .before .before .before .before .before .loop .inv) (omega (arith, c .before .before .before .before .before .if2 .left))
+take-requires : tie.Need-take-requires Inv-loop μ-loop
+take-requires c κs = (_, ready (c .before .before .before .before .before .before .before .before .before .before .before .loop .inv) (omega (arith, c .before .before .before .before .before .before .before .before .before .before .before .loop .inv .count, c .before .before .before .before .before .before .before .if2 .left)), c .before .before .before .before .if3 .taken)
 
-enum-known-next : tie.Need-enum-known-next Inv-loop μ-loop
-enum-known-next c = c .match .keys1
+resume-requires : tie.Need-resume-requires Inv-loop μ-loop
+resume-requires c κs = (omega (arith, c .before .before .before .before .before .if3 .left), ready (c .before .before .before .before .before .before .before .before .before .before .before .before .loop .inv) (omega (arith, c .before .before .before .before .before .before .before .before .before .before .before .before .loop .inv .count, c .before .before .before .before .before .before .before .before .if2 .left)))
+
+enum-known-stepped : tie.Need-enum-known-stepped Inv-loop μ-loop
+enum-known-stepped c = c .match .keys1
 
 same-length-11 : tie.Need-same-length-11 Inv-loop μ-loop
-same-length-11 c = c .before .before .before .before .before .before .before .before .before .before .before .before .before .before .before .step .kept .1 .1 .0 ∙ c .before .before .before .before .before .before .before .before .before .before .before .before .before .before .before .before .before .before .before .before .before .before .before .before .loop .inv .ls
+same-length-11 c = went (c .before .before .before .before .before) .ls ∙ c .before .before .before .before .before .before .before .before .before .before .before .before .loop .inv .ls
 
 same-length-12 : tie.Need-same-length-12 Inv-loop μ-loop
-same-length-12 c = c .before .before .before .before .before .before .before .before .before .before .before .before .before .before .before .step .kept .1 .1 .1 .0 ∙ c .before .before .before .before .before .before .before .before .before .before .before .before .before .before .before .before .before .before .before .before .before .before .before .before .loop .inv .le
+same-length-12 c = went (c .before .before .before .before .before) .le ∙ c .before .before .before .before .before .before .before .before .before .before .before .before .loop .inv .le
 
 same-length-13 : tie.Need-same-length-13 Inv-loop μ-loop
-same-length-13 c = c .before .before .before .before .before .before .before .before .before .before .before .before .before .before .before .step .kept .1 .1 .1 .1 .0 ∙ c .before .before .before .before .before .before .before .before .before .before .before .before .before .before .before .before .before .before .before .before .before .before .before .before .loop .inv .ld
+same-length-13 c = went (c .before .before .before .before .before) .ld ∙ c .before .before .before .before .before .before .before .before .before .before .before .before .loop .inv .ld
 
 same-length-14 : tie.Need-same-length-14 Inv-loop μ-loop
-same-length-14 c = c .before .before .before .before .before .before .before .before .before .before .before .before .before .before .before .step .kept .1 .1 .1 .1 .1 .0 ∙ c .before .before .before .before .before .before .before .before .before .before .before .before .before .before .before .before .before .before .before .before .before .before .before .before .loop .inv .lc
+same-length-14 c = went (c .before .before .before .before .before) .lc ∙ c .before .before .before .before .before .before .before .before .before .before .before .before .loop .inv .lc
 
 same-length-15 : tie.Need-same-length-15 Inv-loop μ-loop
-same-length-15 c = c .before .before .before .before .before .before .before .before .before .before .before .before .before .before .before .step .kept .1 .1 .1 .1 .1 .1 .0 ∙ c .before .before .before .before .before .before .before .before .before .before .before .before .before .before .before .before .before .before .before .before .before .before .before .before .loop .inv .ll
+same-length-15 c = went (c .before .before .before .before .before) .ll ∙ c .before .before .before .before .before .before .before .before .before .before .before .before .loop .inv .ll
 
 returns-3 : tie.Need-returns-3 Inv-loop μ-loop
-returns-3 c = end-stopped (c .before .before .before .before .before .before .before .before .before .before .before .before .before .before .before .before .before .before .before .before .before .before .before .before .loop .inv) (c .before .before .before .before .before .before .before .before .before .before .before .before .before .before .before .before .before .before .before .before .before .before .before .is-finished .ensures) (c .before .before .before .before .before .before .before .before .before .before .before .before .before .before .before .before .before .before .before .before .before .before .if1 .left) (omega (arith, c .before .before .before .before .before .before .before .before .before .before .before .before .before .before .before .before .before .before .before .before .before .if2 .left)) (c .before .before .before .before .before .before .before .before .before .before .before .before .before .before .before .step .ensures) (c .before .before .before .next .given .1) (c .if3 .taken)
+returns-3 c = end-stopped (c .before .before .before .before .before .before .before .before .before .before .before .before .loop .inv) (c .before .before .before .before .before .before .before .before .before .before .before .is-finished .ensures) (c .before .before .before .before .before .before .before .before .before .before .if1 .left) (omega (arith, c .before .before .before .before .before .before .before .before .before .before .before .before .loop .inv .count, c .before .before .before .before .before .before .before .before .if2 .left)) (went (c .before .before .before .before .before) .steps) (c .before .before .before .stepped .given .1) (c .if4 .taken)
 
-sub-left : tie.Need-sub-left Inv-loop μ-loop
-sub-left c = omega (arith, c .before .before .before .before .before .before .before .before .before .before .before .before .before .before .before .before .before .before .before .before .before .if2 .left)
+by-fields-requires : tie.Need-by-fields-requires Inv-loop μ-loop
+by-fields-requires c κs = search needs
 
 loop-less : tie.Need-loop-less Inv-loop μ-loop
-loop-less c = omega (arith, c .before .before .before .before .before .before .before .before .before .before .before .before .before .before .before .before .before .before .before .before .before .if2 .left)
+loop-less c = goes-less (c .before .before .before .before .before .before .before .before .before .before .before .before .before .loop .inv) (c .before .before .before .before .before .before .before .before .before .before .before .before .is-finished .ensures) (c .before .before .before .before .before .before .before .before .before .before .before .if1 .left) (omega (arith, c .before .before .before .before .before .before .before .before .before .before .before .before .before .loop .inv .count, c .before .before .before .before .before .before .before .before .before .if2 .left)) (went (c .before .before .before .before .before .before) .steps) (c .before .before .before .before .stepped .given .1) (c .by-fields .ensures)
 
 loop-again : tie.Need-loop-again Inv-loop μ-loop
-loop-again c = go-on (c .before .before .before .before .before .before .before .before .before .before .before .before .before .before .before .before .before .before .before .before .before .before .before .before .loop .inv) (c .before .before .before .before .before .before .before .before .before .before .before .before .before .before .before .before .before .before .before .before .before .before .before .is-finished .ensures) (c .before .before .before .before .before .before .before .before .before .before .before .before .before .before .before .before .before .before .before .before .before .before .if1 .left) (omega (arith, c .before .before .before .before .before .before .before .before .before .before .before .before .before .before .before .before .before .before .before .before .before .if2 .left)) (c .before .before .before .before .before .before .before .before .before .before .before .before .before .before .before .step .ensures) (c .before .before .before .next .given .1) (c .if3 .left) (c .before .before .before .before .before .before .before .before .before .before .before .before .before .before .before .step .kept .1 .1 .0) (c .before .before .before .before .before .before .before .before .before .before .before .before .before .before .before .step .kept .1 .1 .1 .0) (c .before .before .before .before .before .before .before .before .before .before .before .before .before .before .before .step .kept .1 .1 .1 .1 .0) (c .before .before .before .before .before .before .before .before .before .before .before .before .before .before .before .step .kept .1 .1 .1 .1 .1 .0) (c .before .before .before .before .before .before .before .before .before .before .before .before .before .before .before .step .kept .1 .1 .1 .1 .1 .1 .0)
+loop-again c = let w = went (c .before .before .before .before .before .before) in go-on (c .before .before .before .before .before .before .before .before .before .before .before .before .before .loop .inv) (c .before .before .before .before .before .before .before .before .before .before .before .before .is-finished .ensures) (c .before .before .before .before .before .before .before .before .before .before .before .if1 .left) (omega (arith, c .before .before .before .before .before .before .before .before .before .before .before .before .before .loop .inv .count, c .before .before .before .before .before .before .before .before .before .if2 .left)) (w .steps) (c .before .before .before .before .stepped .given .1) (c .by-fields .ensures) (c .before .if4 .left) (w .ls) (w .le) (w .ld) (w .lc) (w .ll)
 
-enum-known-e : tie.Need-enum-known-e Inv-loop μ-loop
-enum-known-e c = c .match .keys2
+enum-known-stepped-2 : tie.Need-enum-known-stepped-2 Inv-loop μ-loop
+enum-known-stepped-2 c = c .match .keys2
 
 same-length-16 : tie.Need-same-length-16 Inv-loop μ-loop
-same-length-16 c = c .before .before .before .before .before .before .before .before .before .before .before .before .before .step .kept .1 .1 .0 ∙ c .before .before .before .before .before .before .before .before .before .before .before .before .before .before .before .before .before .before .before .before .before .before .loop .inv .ls
+same-length-16 c = went (c .before .before .before) .ls ∙ c .before .before .before .before .before .before .before .before .before .before .loop .inv .ls
 
 same-length-17 : tie.Need-same-length-17 Inv-loop μ-loop
-same-length-17 c = c .before .before .before .before .before .before .before .before .before .before .before .before .before .step .kept .1 .1 .1 .0 ∙ c .before .before .before .before .before .before .before .before .before .before .before .before .before .before .before .before .before .before .before .before .before .before .loop .inv .le
+same-length-17 c = went (c .before .before .before) .le ∙ c .before .before .before .before .before .before .before .before .before .before .loop .inv .le
 
 same-length-18 : tie.Need-same-length-18 Inv-loop μ-loop
-same-length-18 c = c .before .before .before .before .before .before .before .before .before .before .before .before .before .step .kept .1 .1 .1 .1 .0 ∙ c .before .before .before .before .before .before .before .before .before .before .before .before .before .before .before .before .before .before .before .before .before .before .loop .inv .ld
+same-length-18 c = went (c .before .before .before) .ld ∙ c .before .before .before .before .before .before .before .before .before .before .loop .inv .ld
 
 same-length-19 : tie.Need-same-length-19 Inv-loop μ-loop
-same-length-19 c = c .before .before .before .before .before .before .before .before .before .before .before .before .before .step .kept .1 .1 .1 .1 .1 .0 ∙ c .before .before .before .before .before .before .before .before .before .before .before .before .before .before .before .before .before .before .before .before .before .before .loop .inv .lc
+same-length-19 c = went (c .before .before .before) .lc ∙ c .before .before .before .before .before .before .before .before .before .before .loop .inv .lc
 
 same-length-20 : tie.Need-same-length-20 Inv-loop μ-loop
-same-length-20 c = c .before .before .before .before .before .before .before .before .before .before .before .before .before .step .kept .1 .1 .1 .1 .1 .1 .0 ∙ c .before .before .before .before .before .before .before .before .before .before .before .before .before .before .before .before .before .before .before .before .before .before .loop .inv .ll
+same-length-20 c = went (c .before .before .before) .ll ∙ c .before .before .before .before .before .before .before .before .before .before .loop .inv .ll
 
 returns-4 : tie.Need-returns-4 Inv-loop μ-loop
-returns-4 c = end-failed (c .before .before .before .before .before .before .before .before .before .before .before .before .before .before .before .before .before .before .before .before .before .before .loop .inv) (c .before .before .before .before .before .before .before .before .before .before .before .before .before .before .before .before .before .before .before .before .before .is-finished .ensures) (c .before .before .before .before .before .before .before .before .before .before .before .before .before .before .before .before .before .before .before .before .if1 .left) (omega (arith, c .before .before .before .before .before .before .before .before .before .before .before .before .before .before .before .before .before .before .before .if2 .left)) (c .before .before .before .before .before .before .before .before .before .before .before .before .before .step .ensures) (c .before .e .given .1)
+returns-4 c = end-failed (c .before .before .before .before .before .before .before .before .before .before .loop .inv) (c .before .before .before .before .before .before .before .before .before .is-finished .ensures) (c .before .before .before .before .before .before .before .before .if1 .left) (omega (arith, c .before .before .before .before .before .before .before .before .before .before .loop .inv .count, c .before .before .before .before .before .before .if2 .left)) (went (c .before .before .before) .steps) (c .before .stepped2 .given .1)
 
 pub advance-spec : {M : Type 1} → statement M
 advance-spec =
@@ -134,18 +162,19 @@ advance-spec =
     same-length-9
     same-length-10
     returns-2
-    step-requires
-    enum-known-next
+    take-requires
+    resume-requires
+    enum-known-stepped
     same-length-11
     same-length-12
     same-length-13
     same-length-14
     same-length-15
     returns-3
-    sub-left
+    by-fields-requires
     loop-less
     loop-again
-    enum-known-e
+    enum-known-stepped-2
     same-length-16
     same-length-17
     same-length-18

@@ -1,0 +1,71 @@
+-- `operators::rare` meets its contract: each branch by the family that it calls.
+-- Assumes nothing.
+use Rattle.operators.proofs.Named.{heap-all, dictionary-all, log-all}
+use borrow.Author.Needs.{needs}
+use Rattle.operators.proofs.rare.Statement.{statement}
+use Rattle.operators.proofs.rare.Tie as tie
+
+intervals-requires : tie.Need-intervals-requires
+intervals-requires c κs = search needs
+
+same-length : tie.Need-same-length
+same-length c = search needs
+
+same-length-2 : tie.Need-same-length-2
+same-length-2 c = search needs
+
+returns : tie.Need-returns
+returns c = record { all = λ e. heap-all _ (c .before .before .before .before .intervals .ensures) e _ _ }
+
+converters-requires : tie.Need-converters-requires
+converters-requires c κs = search needs
+
+same-length-3 : tie.Need-same-length-3
+same-length-3 c = search needs
+
+same-length-4 : tie.Need-same-length-4
+same-length-4 c = search needs
+
+same-length-5 : tie.Need-same-length-5
+same-length-5 c = search needs
+
+returns-2 : tie.Need-returns-2
+returns-2 c = record { all = λ e. dictionary-all _ (c .before .before .before .before .before .before .converters .ensures) e _ }
+
+outputs-requires : tie.Need-outputs-requires
+outputs-requires c κs = search needs
+
+same-length-6 : tie.Need-same-length-6
+same-length-6 c = search needs
+
+same-length-7 : tie.Need-same-length-7
+same-length-7 c = search needs
+
+same-length-8 : tie.Need-same-length-8
+same-length-8 c = search needs
+
+same-length-9 : tie.Need-same-length-9
+same-length-9 c = search needs
+
+returns-3 : tie.Need-returns-3
+returns-3 c = record { all = λ e. log-all _ (c .before .before .before .before .outputs .ensures) e }
+
+pub rare-spec : {M : Type 1} → statement M
+rare-spec =
+    tie.close
+    (tie.spec
+    intervals-requires
+    same-length
+    same-length-2
+    returns
+    converters-requires
+    same-length-3
+    same-length-4
+    same-length-5
+    returns-2
+    outputs-requires
+    same-length-6
+    same-length-7
+    same-length-8
+    same-length-9
+    returns-3)
