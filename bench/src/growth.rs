@@ -12,6 +12,9 @@ const LINKS: [usize; 5] = [10, 100, 1_000, 10_000, 16_000];
 /// As many as a run may have.
 const CELLS: usize = 32_768;
 
+/// Cells for the bodies of the loops, and the header of the interval.
+const SPARE: usize = 32;
+
 /// Elements got or put in a run.
 const TURNS: usize = 20_000;
 
@@ -20,7 +23,7 @@ pub fn table() -> f64 {
     let pop = pop();
     let get = LENGTHS.map(|n| element(n, "get pop", "pop pop") + pop);
     let put = LENGTHS.map(|n| element(n, "0 put", "0 pop pop pop") + 3.0 * pop);
-    let arrays = LENGTHS.map(|n| interval(n, "array", n.min(CELLS - n - 2)));
+    let arrays = LENGTHS.map(|n| interval(n, "array", n.min(CELLS - n - SPARE)));
     let strings = LENGTHS.map(|n| interval(n, "string", n));
     head(&LENGTHS);
     row("get of any element of an array", &get);

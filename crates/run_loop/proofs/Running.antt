@@ -27,8 +27,8 @@ use Rattle.exactness.specs.Traces.{Along, nil, cons}
 use Rattle.exactness.proofs.Showing.{shows}
 use Rattle.exactness.proofs.Lists.{along-snoc}
 use Rattle.exactness.proofs.Reaching.{Reached, reached-start, reached-goes, over-finished, over-spent, over-fails, over-stops}
-use Rattle.log_growth.proofs.Logs.{rest-on}
-use Rattle.log_growth.proofs.StepGrowth.{step-log-length}
+use Rattle.growth.proofs.Logs.{rest-on}
+use Rattle.growth.proofs.StepGrowth.{step-log-length}
 use Rattle.step.specs.Stepping.{stateOf, SteppedAs, LogLeft, Steps, Ready}
 use Rattle.step.specs.declared.State.{State}
 use Rattle.step.specs.declared.Stepped.{Stepped}

@@ -6,7 +6,7 @@ use Prim.Native.Nat.{ℕ, _+_, _-_, _≤_}
 use native.Mathlib.Omega.{arith}
 use lib.ListN.{length, drop, length-append}
 use lib.Seq.{drop-drop}
-use Rattle.log_growth.specs.Growth.{Extends}
+use Rattle.growth.specs.Growth.{Extends}
 
 pub extends-itself : (l : List ℕ) → Extends l l
 extends-itself l = record { added = []; whole = sym (append-nil l) }

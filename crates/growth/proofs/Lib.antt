@@ -1,0 +1,10 @@
+pub mod Kept
+pub mod Logs
+pub mod Naming
+pub mod Objects
+pub mod Operands
+pub mod OperatorsKeep
+pub mod RunStore
+pub mod StepGrowth
+pub mod StepStore
+pub mod StepsKeep

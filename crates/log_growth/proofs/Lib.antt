@@ -1,3 +1,0 @@
-pub mod Logs
-pub mod OperatorGrowth
-pub mod StepGrowth
