@@ -19,6 +19,9 @@ const START_SECONDS: f64 = 3e-6;
 const TEXT_BYTES: usize = 96 * 1024;
 const GET_RATIO: f64 = 10.0;
 
+/// Each program is timed so often, with the others in between: a machine that others use too is slow for seconds at a time.
+const PASSES: usize = 8;
+
 const PROGRAMS: [(&str, &str); 6] = [
     ("arithmetic", "counted loop with arithmetic"),
     ("calls", "procedure calls"),
@@ -40,7 +43,7 @@ fn main() -> ExitCode {
 
 fn report() -> io::Result<()> {
     let version = ghostscript::version().map_err(|_| io::Error::other("gs is not there: install Debian's package ghostscript"))?;
-    println!("Processor: {}. Ghostscript {version}. Times are the best of several rounds.\n", processor());
+    println!("Processor: {}. Ghostscript {version}. Times are the best of many rounds.\n", processor());
     let least = programs()?;
     let start = start()?;
     let get = growth::table();
@@ -57,53 +60,102 @@ fn target(what: &str, met: bool, figure: String) {
     println!("Target {}: {what} ({figure}).", if met { "met" } else { "missed" });
 }
 
+/// A program and its best times so far.
+struct Race {
+    what: &'static str,
+    script: Vec<u8>,
+    ghostscript: ghostscript::Program,
+    steps: u32,
+    proved: f64,
+    other: f64,
+    reference: f64,
+}
+
+impl Race {
+    fn new(name: &str, what: &'static str) -> io::Result<Race> {
+        let script = fs::read(program(name))?;
+        Ok(Race {
+            what,
+            ghostscript: ghostscript::Program::new(&script)?,
+            script,
+            steps: 0,
+            proved: f64::INFINITY,
+            other: f64::INFINITY,
+            reference: f64::INFINITY,
+        })
+    }
+
+    /// Once more, one after the other. All must leave the same integer.
+    fn run(&mut self) -> io::Result<()> {
+        let (proved, steps, result) = time_proved(&self.script);
+        let other = self.ghostscript.time()?;
+        let (reference, reference_result) = time_reference(&self.script);
+        for found in [other.result, reference_result] {
+            if found != result {
+                return Err(io::Error::other(format!("{}: {result} and {found}", self.what)));
+            }
+        }
+        self.steps = steps;
+        self.proved = self.proved.min(proved);
+        self.other = self.other.min(other.seconds);
+        self.reference = self.reference.min(reference);
+        Ok(())
+    }
+
+    fn times(&self) -> f64 {
+        self.other / self.proved
+    }
+}
+
 /// The table of programs; the least ratio to Ghostscript.
 fn programs() -> io::Result<f64> {
+    let mut races = Vec::new();
+    for (name, what) in PROGRAMS {
+        races.push(Race::new(name, what)?);
+    }
+    for _ in 0..PASSES {
+        for race in &mut races {
+            race.run()?;
+        }
+    }
     println!("| Program | Steps | ns a step | Million steps a second | Run, ms | Ghostscript, ms | Times | Reference, ms | Times |");
     println!("|---|---|---|---|---|---|---|---|---|");
-    let mut least = f64::INFINITY;
-    for (name, what) in PROGRAMS {
-        let script = fs::read(program(name))?;
-        let (proved, steps, result) = time_proved(&script);
-        let gs = ghostscript::run(&script)?;
-        agree(name, &result, &gs.result)?;
-        let (slow, slow_result) = time_reference(&script);
-        agree(name, &result, &slow_result)?;
-        least = least.min(gs.seconds / proved);
+    for race in &races {
+        let steps = f64::from(race.steps);
         println!(
-            "| {what} | {steps} | {:.2} | {:.0} | {:.3} | {:.3} | {:.2} | {:.1} | {:.1} |",
-            proved / f64::from(steps) * 1e9,
-            f64::from(steps) / proved / 1e6,
-            proved * 1e3,
-            gs.seconds * 1e3,
-            gs.seconds / proved,
-            slow * 1e3,
-            slow / proved,
+            "| {} | {} | {:.2} | {:.0} | {:.3} | {:.3} | {:.2} | {:.1} | {:.1} |",
+            race.what,
+            race.steps,
+            race.proved / steps * 1e9,
+            steps / race.proved / 1e6,
+            race.proved * 1e3,
+            race.other * 1e3,
+            race.times(),
+            race.reference * 1e3,
+            race.reference / race.proved,
         );
     }
-    Ok(least)
+    Ok(races.iter().map(Race::times).fold(f64::INFINITY, f64::min))
 }
 
 /// A script of 40 bytes: one more run of it in a process that has started, and a whole process for it. The seconds of such a run.
 fn start() -> io::Result<f64> {
-    let path = program("start");
-    let script = fs::read(&path)?;
-    assert_eq!(script.len(), 40);
-    let (proved, steps, result) = time_proved(&script);
-    let gs = ghostscript::run(&script)?;
-    agree("start", &result, &gs.result)?;
-    let (slow, slow_result) = time_reference(&script);
-    agree("start", &result, &slow_result)?;
-    println!("\n| A script of 40 bytes, {steps} steps | Microseconds | Ghostscript | Times | Reference | Times |");
+    let mut race = Race::new("start", "start")?;
+    assert_eq!(race.script.len(), 40);
+    for _ in 0..PASSES {
+        race.run()?;
+    }
+    println!("\n| A script of 40 bytes, {} steps | Microseconds | Ghostscript | Times | Reference | Times |", race.steps);
     println!("|---|---|---|---|---|---|");
     println!(
         "| run in a process that has started | {:.2} | {:.2} | {:.2} | {:.2} | {:.2} |",
-        proved * 1e6,
-        gs.seconds * 1e6,
-        gs.seconds / proved,
-        slow * 1e6,
-        slow / proved
+        race.proved * 1e6,
+        race.other * 1e6,
+        race.times(),
+        race.reference * 1e6,
+        race.reference / race.proved
     );
+    let path = program("start");
     let own = timing::seconds(|| {
         let script = fs::File::open(&path).expect("the script is there");
         process(Command::new(root().join("target/bin/floo")).stdin(script));
@@ -112,7 +164,7 @@ fn start() -> io::Result<f64> {
         process(ghostscript::batch().args(["-c", "/#FLOO { } def", "-f"]).arg(&path));
     });
     println!("| a process for it | {:.0} | {:.0} | {:.1} | | |", own * 1e6, other * 1e6, other / own);
-    Ok(proved)
+    Ok(race.proved)
 }
 
 fn process(command: &mut Command) {
@@ -149,13 +201,6 @@ fn time_reference(script: &[u8]) -> (f64, String) {
 fn integer(item: Option<&str>) -> String {
     let digits = item.and_then(|item| item.strip_prefix("integer:"));
     digits.expect("the program leaves an integer").to_owned()
-}
-
-fn agree(name: &str, proved: &str, other: &str) -> io::Result<()> {
-    if proved == other {
-        return Ok(());
-    }
-    Err(io::Error::other(format!("{name}: {proved} and {other}")))
 }
 
 /// The bytes of all sections of code in the static library, as binutils counts them.

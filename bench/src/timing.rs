@@ -2,8 +2,11 @@
 
 use std::time::{Duration, Instant};
 
-const ROUNDS: usize = 7;
-const ROUND: Duration = Duration::from_millis(100);
+const ROUNDS: usize = 4;
+const ROUND: Duration = Duration::from_millis(50);
+
+/// Rounds of a difference: it is small against what it is a difference of.
+const PAIRS: usize = 30;
 
 /// Seconds that one call takes, in the best of the rounds.
 pub fn seconds(mut call: impl FnMut()) -> f64 {
@@ -17,7 +20,7 @@ pub fn seconds(mut call: impl FnMut()) -> f64 {
 pub fn difference(mut more: impl FnMut(), mut less: impl FnMut()) -> f64 {
     let count = calls_in(ROUND, &mut more);
     let (mut with, mut without) = (Duration::MAX, Duration::MAX);
-    for _ in 0..2 * ROUNDS {
+    for _ in 0..PAIRS {
         with = with.min(time(count, &mut more));
         without = without.min(time(count, &mut less));
     }
