@@ -221,6 +221,7 @@ fn perform_element(
     let left = exec[8 * k + 4];
     let number = heap::get(cells, c, 1);
     frames::advance(m, exec, cells);
+    // lent on is a copy, so that the compiler can keep m itself in registers
     let whole = m;
     match operators::rare(number, whole, stack, dict, cells, log) {
         Did::Ok(r) => Did::Ok(r),

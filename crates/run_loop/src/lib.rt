@@ -53,7 +53,7 @@ pub fn advance(
         let stepped = if m.frames == 0 {
             st.take(script, stack, exec, dict, cells)
         } else {
-            st.resume(script, stack, exec, dict, cells, log)
+            st.resume(stack, exec, dict, cells, log)
         };
         match stepped {
             Stepped::Goes(next) => {

@@ -48,6 +48,10 @@ pub record Steps (script : List ℕ) (σ : State) (s s′ e e′ d d′ c c′ l
 pub record StepsToken (script : List ℕ) (σ : State) (s s′ e e′ d d′ c c′ : List ℕ) (r : Stepped) : Type 0 where
   pub steps : (l : List ℕ) (μ : Floo.Machine) → Rep (σ .machine) s e d c l μ → SteppedAs script σ s s′ e e′ d d′ c c′ l l μ r
 
+-- A step of the topmost slot: it does not read the script.
+pub record StepsSlot (σ : State) (s s′ e e′ d d′ c c′ l l′ : List ℕ) (r : Stepped) : Type 0 where
+  pub steps : (script : List ℕ) → σ .next ≤ length script → σ .at ≤ length script → Steps script σ s s′ e e′ d d′ c c′ l l′ r
+
 -- ---- what is asked
 
 -- The script and the counts are as setup has them, and the words stand for some machine.
@@ -57,6 +61,9 @@ pub record Ready (script : List ℕ) (σ : State) (s e d c l : List ℕ) : Type 
   pub within : σ .at ≤ length script
   pub few : σ .steps < 1000000
   pub machine : (μ : Floo.Machine) × Rep (σ .machine) s e d c l μ
+
+abbrev pub ReadySlot : State → List ℕ → List ℕ → List ℕ → List ℕ → List ℕ → Type 0
+ReadySlot σ s e d c l = (script : List ℕ) × Ready script σ s e d c l
 
 abbrev pub ReadyToken : List ℕ → State → List ℕ → List ℕ → List ℕ → List ℕ → Type 0
 ReadyToken script σ s e d c = (l : List ℕ) × Ready script σ s e d c l × (σ .machine .frames ≡ 0)

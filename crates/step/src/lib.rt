@@ -2,7 +2,7 @@
 // step, errors and their order, the count of steps and the offsets included; where it fails, the words stand for what they stood for.
 ghost use mathlib.Core.Path.{_≡_};
 ghost use Prim.Native.Nat.{_<_, _≤_};
-ghost use Rattle.step.specs.Stepping.{Ready, ReadyToken, Steps, StepsToken, endedBy, groupedBy};
+ghost use Rattle.step.specs.Stepping.{ReadySlot, ReadyToken, StepsSlot, StepsToken, endedBy, groupedBy};
 use ending::Command;
 use group_taking::Grouped;
 use machine::Did;
@@ -29,15 +29,14 @@ impl State {
     // Rules out: a failing step that is not counted; the offset moved.
     pub fn resume(
         self,
-        script: &[u8],
         stack: &mut [u32],
         exec: &mut [u32],
         dict: &mut [u32],
         cells: &mut [u32],
         log: &mut [u8],
     ) -> Stepped
-        requires { ⌜ (1 ≤ self .machine .frames) × Ready (now script) self (now stack) (now exec) (now dict) (now cells) (now log) ⌝ }
-        ensures { λ r. ⌜ Steps (now (script .entry)) self (now (stack .entry)) (now (stack .exit)) (now (exec .entry)) (now (exec .exit)) (now (dict .entry)) (now (dict .exit)) (now (cells .entry)) (now (cells .exit)) (now (log .entry)) (now (log .exit)) r ⌝ }
+        requires { ⌜ (1 ≤ self .machine .frames) × ReadySlot self (now stack) (now exec) (now dict) (now cells) (now log) ⌝ }
+        ensures { λ r. ⌜ StepsSlot self (now (stack .entry)) (now (stack .exit)) (now (exec .entry)) (now (exec .exit)) (now (dict .entry)) (now (dict .exit)) (now (cells .entry)) (now (cells .exit)) (now (log .entry)) (now (log .exit)) r ⌝ }
     {
         let m = self.machine;
         match acting::act(m, stack, exec, dict, cells, log) {

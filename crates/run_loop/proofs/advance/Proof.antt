@@ -31,12 +31,12 @@ went j =
       ll = refl;
     }) (w .14) (w .15) (w .16) (w .17) (w .18) (w .19))
     (λ w. went-by (record {
-      steps = w .6 .ensures;
-      ls = w .6 .kept .1 .1 .0;
-      le = w .6 .kept .1 .1 .1 .0;
-      ld = w .6 .kept .1 .1 .1 .1 .0;
-      lc = w .6 .kept .1 .1 .1 .1 .1 .0;
-      ll = w .6 .kept .1 .1 .1 .1 .1 .1 .0;
+      steps = w .6 .ensures .steps _ (j .before .before .before .before .before .before .before .loop .inv .inside) (j .before .before .before .before .before .before .before .loop .inv .within);
+      ls = w .6 .kept .1 .0;
+      le = w .6 .kept .1 .1 .0;
+      ld = w .6 .kept .1 .1 .1 .0;
+      lc = w .6 .kept .1 .1 .1 .1 .0;
+      ll = w .6 .kept .1 .1 .1 .1 .1 .0;
     }) (w .17) (w .18) (w .19) (w .20) (w .21) (w .22)) (j .if3 .came)
 
 loop-holds : tie.Need-loop-holds Inv-loop μ-loop
@@ -88,7 +88,7 @@ take-requires : tie.Need-take-requires Inv-loop μ-loop
 take-requires c κs = (_, ready (c .before .before .before .before .before .before .before .before .before .before .before .loop .inv) (omega (arith, c .before .before .before .before .before .before .before .before .before .before .before .loop .inv .count, c .before .before .before .before .before .before .before .if2 .left)), c .before .before .before .before .if3 .taken)
 
 resume-requires : tie.Need-resume-requires Inv-loop μ-loop
-resume-requires c κs = (omega (arith, c .before .before .before .before .before .if3 .left), ready (c .before .before .before .before .before .before .before .before .before .before .before .before .loop .inv) (omega (arith, c .before .before .before .before .before .before .before .before .before .before .before .before .loop .inv .count, c .before .before .before .before .before .before .before .before .if2 .left)))
+resume-requires c κs = (omega (arith, c .before .before .before .before .before .if3 .left), (_, ready (c .before .before .before .before .before .before .before .before .before .before .before .before .loop .inv) (omega (arith, c .before .before .before .before .before .before .before .before .before .before .before .before .loop .inv .count, c .before .before .before .before .before .before .before .before .if2 .left))))
 
 enum-known-stepped : tie.Need-enum-known-stepped Inv-loop μ-loop
 enum-known-stepped c = c .match .keys1
