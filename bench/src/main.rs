@@ -22,8 +22,9 @@ const GET_RATIO: f64 = 10.0;
 /// Each program is timed so often, with the others in between: a machine that others use too is slow for seconds at a time.
 const PASSES: usize = 8;
 
-const PROGRAMS: [(&str, &str); 6] = [
+const PROGRAMS: [(&str, &str); 7] = [
     ("arithmetic", "counted loop with arithmetic"),
+    ("bound", "the same after bind"),
     ("calls", "procedure calls"),
     ("fibonacci", "recursion, Fibonacci"),
     ("scan", "string scanned by get"),

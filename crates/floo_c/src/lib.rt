@@ -1,5 +1,7 @@
 // The runner and the token reading for programs in C and Rust: two exported functions, which include/floo.h declares. A slice is a pointer and a length there.
 ghost use mathlib.Core.Path.{_≡_};
+ghost use Prim.Native.Nat.{_+_, _≤_};
+ghost use lib.ListN.{length};
 ghost use Rattle.semantics.specs.Setup as setup;
 ghost use Rattle.floo_c.specs.Reply.{Replies};
 ghost use Rattle.floo_c.specs.TokenReply.{tokenReplyOf, errorNumber, kindNumber};
@@ -74,6 +76,7 @@ pub extern "C" fn floo_run(
 #[no_mangle]
 pub extern "C" fn floo_token(script: &[u8], offset: usize) -> TokenReply
     ensures { λ r. ⌜ r ≡ tokenReplyOf offset (setup.reading (now (script .entry)) offset) ⌝ }
+    ensures { λ r. ⌜ r .start + r .size ≤ length (now (script .entry)) ⌝ }
 {
     match token::locate(script, offset) {
         Located::TooLong => no_token(1, 0, offset),
