@@ -17,13 +17,12 @@ use Rattle.machine.specs.declared.Machine.{Machine}
 use Rattle.machine.specs.declared.Did.{Did}
 use Rattle.machine.specs.declared.Did.the-variants.{Ok, Fail}
 use Rattle.frames.specs.Moves.{frameDropped, resetWords, Turned, ForgetsFrame, Advances}
-use Rattle.frames.proofs.Undoing.{undone}
 use Rattle.operators.specs.Titles.{performAt, Everywhere, DoesAll, EverywhereButLog, DoesButLog, DoesButSlots}
 use Rattle.turns.specs.Turns.{resumed}
 use Rattle.acting.specs.Nexts.{Executes, Infrequent, NextIs}
 use Rattle.acting.specs.declared.Next.{Next}
 use Rattle.acting.specs.declared.Next.the-variants.{Frequent, Other}
-use Rattle.acting.proofs.Executing.{alike, operator-fits, after, stands, fits}
+use Rattle.acting.proofs.Executing.{alike, operator-fits, back, after, stands, fits}
 
 -- ---- found
 
@@ -76,9 +75,7 @@ element-executes {m} {e} {e₁} {c} slots kind left T long A four {p} number few
       );
       back =
           let i = 8 * (m .frames - 1) in
-          ap (λ x. resetWords x (getD e (i + 3) 0) (getD e (i + 4) 0) m e₁) kind
-          ∙ ap (resetWords 1 (getD e (i + 3) 0) (getD e (i + 4) 0) m) (T .2)
-          ∙ undone m e (T .0) (T .1) kind;
+          ap (λ x. resetWords x (getD e (i + 3) 0) (getD e (i + 4) 0) m e₁) kind ∙ back m e e₁ e₁ _ kind T refl refl;
     }
 
 -- A pending object that is no frequent operator.

@@ -229,7 +229,7 @@ unfolding lent
 lent-same s d c l e e₁ q = ap (λ n. record { stackSlots = length s / 2; execSlots = n / 8; dictionarySlots = length d / 12; cellCount = cells c; logBytes = length l }) (sym q)
 
 -- A procedure that had moved on is put back.
-back : (m : Machine) (e e₁ e′ e″ : List ℕ)
+pub back : (m : Machine) (e e₁ e′ e″ : List ℕ)
     → getD e (8 * (m .frames - 1)) 0 ≡ 1
     → Turned m e e₁
     → e′ ≡ e₁

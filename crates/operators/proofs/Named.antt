@@ -17,7 +17,6 @@ use Rattle.machine.specs.declared.Machine.{Machine}
 use Rattle.machine.specs.declared.Did.{Did}
 use Rattle.machine.specs.declared.Did.the-variants.{Ok, Fail}
 use Rattle.control_operators.specs.Promises.{DoesState, DoesCells, DoesFrames}
-use Rattle.control_operators.proofs.Promising.{cells-frames}
 use Rattle.dictionary_operators.specs.Promises.{DoesDictionary}
 use Rattle.equality.specs.Comparing.{nameOf}
 use Rattle.conversions.specs.Texts.{DoesNamedHeap}
@@ -131,6 +130,3 @@ pub log-all : {f : Floo.Machine → Result Floo.Machine} {m : Machine} {s d c c�
     → DoesAll f m s s e e d d c c′ l l′ r
 log-all (Fail x) D e = record { does = λ μ R. let a = D .does e μ R in (a .0, (refl, refl, refl, a .1 .0, a .1 .1)); rest = D .rest }
 log-all (Ok m′) D e = record { does = λ μ R. D .does e μ R; rest = D .rest }
-
-pub cells-all : {f : Floo.Machine → Result Floo.Machine} {m : Machine} {e c c′ : List ℕ} (r : Did) → DoesCells f m e c c′ r → (s d l : List ℕ) → DoesAll f m s s e e d d c c′ l l r
-cells-all r D s d l = frames-all r (cells-frames r D s) d l

@@ -261,7 +261,7 @@ pub fn rare(
     outputs(k, m, stack, dict, cells, log)
 }
 
-// The same answer, made anew field by field: the compiler then keeps the fields of a state apart, and none of them in memory.
+// The same answer, made anew field by field: the compiler then keeps the fields of the state apart.
 pub fn settled(did: Did) -> Did
     ensures { λ r. ⌜ r ≡ did ⌝ }
 {
@@ -271,6 +271,7 @@ pub fn settled(did: Did) -> Did
     }
 }
 
+// The same state, made anew.
 pub fn fields(m: Machine) -> Machine
     ensures { λ r. ⌜ r ≡ m ⌝ }
 {

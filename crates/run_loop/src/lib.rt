@@ -76,7 +76,7 @@ pub fn advance(
     }
 }
 
-// The same state, made anew field by field: the compiler then keeps them apart, and the state of the loop in registers.
+// The same state, made anew field by field: the compiler then keeps the fields of the loop's state apart.
 fn by_fields(st: State) -> State
     ensures { λ r. ⌜ r ≡ st ⌝ }
 {
