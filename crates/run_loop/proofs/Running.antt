@@ -50,6 +50,34 @@ lent-same : (s s′ e e′ d d′ c c′ l l′ : List ℕ)
 unfolding lent
 lent-same s s′ e e′ d d′ c c′ l l′ a b f g h = rw (a, b, f, g, h) refl
 
+-- ---- a step of either kind
+
+-- The buffers after it are as long as before.
+pub record Went (script : List ℕ) (st : State) (s s′ e e′ d d′ c c′ l l′ : List ℕ) (answer : Stepped) : Type 0 where
+  pub steps : Steps script st s s′ e e′ d d′ c c′ l l′ answer
+  pub ls : length s′ ≡ length s
+  pub le : length e′ ≡ length e
+  pub ld : length d′ ≡ length d
+  pub lc : length c′ ≡ length c
+  pub ll : length l′ ≡ length l
+
+pub went-by : {script : List ℕ} {st : State} {s s₁ s′ e e₁ e′ d d₁ d′ c c₁ c′ l l₁ l′ : List ℕ} {a answer : Stepped}
+    → Went script st s s₁ e e₁ d d₁ c c₁ l l₁ a
+    → s′ ≡ s₁
+    → e′ ≡ e₁
+    → d′ ≡ d₁
+    → c′ ≡ c₁
+    → l′ ≡ l₁
+    → answer ≡ a
+    → Went script st s s′ e e′ d d′ c c′ l l′ answer
+went-by W p q r t u v = rw (p, q, r, t, u, v) W
+
+pub went-room : {script : List ℕ} {st : State} {s s′ e e′ d d′ c c′ l l′ : List ℕ} {answer : Stepped}
+    → Went script st s s′ e e′ d d′ c c′ l l′ answer
+    → lent s′ e′ d′ c′ l′ ≡ lent s e d c l
+went-room {s = s} {s′ = s′} {e = e} {e′ = e′} {d = d} {d′ = d′} {c = c} {c′ = c′} {l = l} {l′ = l′} W =
+    lent-same s s′ e e′ d d′ c c′ l l′ (W .ls) (W .le) (W .ld) (W .lc) (W .ll)
+
 -- ---- the invariant
 
 pub record Running (script : List ℕ) (fuel : ℕ) (first here : Moment) (left : ℕ) : Type 0 where
@@ -150,7 +178,7 @@ module _ {script : List ℕ} {fuel : ℕ} {m : Machine} {s₀ e₀ d₀ c₀ l�
 
   -- ---- a step
 
-  module _ {r : Bool} (F : Finished script st r) (t : r ≡ false) (some : 0 < left) {answer : Stepped} {s′ e′ d′ c′ l′ : List ℕ} (S : Steps script st s s′ e e′ d d′ c c′ l l′ answer) where
+  module _ {r : Bool} (F : Finished script st r) (t : r ≡ false) (some : 0 < left) {answer : Stepped} {s′ e′ d′ c′ l′ : List ℕ} (W : Went script st s s′ e e′ d d′ c c′ l l′ answer) where
     limits-same : lent s e d c l ≡ lent s₀ e₀ d₀ c₀ l₀
     limits-same = lent-same s₀ s e₀ e d₀ d c₀ c l₀ l (R .ls) (R .le) (R .ld) (R .lc) (R .ll)
 
@@ -164,7 +192,7 @@ module _ {script : List ℕ} {fuel : ℕ} {m : Machine} {s₀ e₀ d₀ c₀ l�
 
     module _ {τ : State} (g : answer ≡ Goes τ) where
       goes-as : SteppedAs script st s s′ e e′ d d′ c c′ l l′ (R .machine) (Goes τ)
-      goes-as = subst (SteppedAs script st s s′ e e′ d d′ c c′ l l′ (R .machine)) g (S .steps (R .machine) (R .rep))
+      goes-as = subst (SteppedAs script st s s′ e e′ d d′ c c′ l l′ (R .machine)) g (W .steps .steps (R .machine) (R .rep))
 
       new : Floo.Machine
       new = goes-as .0
@@ -178,12 +206,12 @@ module _ {script : List ℕ} {fuel : ℕ} {m : Machine} {s₀ e₀ d₀ c₀ l�
       new-rep = goes-as .2
 
       goes-leads : Leads script (moment st s e d c l) (moment τ s′ e′ d′ c′ l′)
-      goes-leads = record { answer = answer; steps = S; left = ap leftBy g }
+      goes-leads = record { answer = answer; steps = W .steps; left = ap leftBy g; room = went-room W }
 
       goes-rest : drop (τ .machine .written) l′ ≡ drop (τ .machine .written) l₀
       goes-rest =
           let longer = step-log-length (lent s₀ e₀ d₀ c₀ l₀) script (stateOf st (R .machine)) (stateOf τ new) goes-is in
-          rest-on {w = st .machine .written} {w′ = τ .machine .written} l₀ l l′ (R .rest) (omega (arith, longer, logged-length (R .rep), logged-length new-rep)) (subst (LogLeft l l′) g (S .left))
+          rest-on {w = st .machine .written} {w′ = τ .machine .written} l₀ l l′ (R .rest) (omega (arith, longer, logged-length (R .rep), logged-length new-rep)) (subst (LogLeft l l′) g (W .steps .left))
 
       pub end-stopped : τ .machine .stopped ≡ true → Ends script fuel m s₀ s′ e₀ e′ d₀ d′ c₀ c′ l₀ l′ τ ending.Stopped
       unfolding endingOf new
@@ -217,14 +245,9 @@ module _ {script : List ℕ} {fuel : ℕ} {m : Machine} {s₀ e₀ d₀ c₀ l�
       pub go-on : {ρ : State}
           → ρ ≡ τ
           → τ .machine .stopped ≡ false
-          → length s′ ≡ length s
-          → length e′ ≡ length e
-          → length d′ ≡ length d
-          → length c′ ≡ length c
-          → length l′ ≡ length l
           → Running script fuel (moment (begun m) s₀ e₀ d₀ c₀ l₀) (moment ρ s′ e′ d′ c′ l′) (fuel - ρ .steps)
       unfolding new
-      go-on same runs a b f g h =
+      go-on same runs =
           let one-less : left - 1 ≡ fuel - τ .steps = omega (arith, R .count, counted, some) in
           subst (λ ρ. Running script fuel (moment (begun m) s₀ e₀ d₀ c₀ l₀) (moment ρ s′ e′ d′ c′ l′) (fuel - ρ .steps)) (sym same)
           (record {
@@ -235,11 +258,11 @@ module _ {script : List ℕ} {fuel : ℕ} {m : Machine} {s₀ e₀ d₀ c₀ l�
             inside = goes-as .3;
             within = goes-as .4;
             count = omega (arith, R .count, counted, some);
-            ls = a ∙ R .ls;
-            le = b ∙ R .le;
-            ld = f ∙ R .ld;
-            lc = g ∙ R .lc;
-            ll = h ∙ R .ll;
+            ls = W .ls ∙ R .ls;
+            le = W .le ∙ R .le;
+            ld = W .ld ∙ R .ld;
+            lc = W .lc ∙ R .lc;
+            ll = W .ll ∙ R .ll;
             before = R .before ++ (stateOf st (R .machine) ∷ []);
             reached = subst (λ n. Reached (lent s₀ e₀ d₀ c₀ l₀) script fuel initial (R .before ++ (stateOf st (R .machine) ∷ [])) n (stateOf τ new)) one-less
                 (reached-goes again more goes-is (sym (new-rep .stopped) ∙ runs));
@@ -251,7 +274,7 @@ module _ {script : List ℕ} {fuel : ℕ} {m : Machine} {s₀ e₀ d₀ c₀ l�
 
     module _ {x : Error} {command : Command} {τ : State} (g : answer ≡ Fails τ x command) where
       fails-as : SteppedAs script st s s′ e e′ d d′ c c′ l l′ (R .machine) (Fails τ x command)
-      fails-as = subst (SteppedAs script st s s′ e e′ d d′ c c′ l l′ (R .machine)) g (S .steps (R .machine) (R .rep))
+      fails-as = subst (SteppedAs script st s s′ e e′ d d′ c c′ l l′ (R .machine)) g (W .steps .steps (R .machine) (R .rep))
 
       fails-is : steps.step (lent s₀ e₀ d₀ c₀ l₀) script (stateOf st (R .machine)) ≡ steps.fails x (commandText script (keys (R .machine)) command) (stateOf τ (R .machine))
       fails-is = ap (λ n. steps.step n script (stateOf st (R .machine))) (sym limits-same) ∙ fails-as .0
@@ -260,7 +283,7 @@ module _ {script : List ℕ} {fuel : ℕ} {m : Machine} {s₀ e₀ d₀ c₀ l�
       fails-rest : drop (τ .machine .written) l′ ≡ drop (τ .machine .written) l₀
       fails-rest =
           let same : τ .machine .written ≡ st .machine .written = sym (logged-length (fails-as .1)) ∙ logged-length (R .rep) in
-          subst (λ n. drop n l′ ≡ drop n l₀) (sym same) (ap (drop (st .machine .written)) (subst (LogLeft l l′) g (S .left)) ∙ R .rest)
+          subst (λ n. drop n l′ ≡ drop n l₀) (sym same) (ap (drop (st .machine .written)) (subst (LogLeft l l′) g (W .steps .left)) ∙ R .rest)
 
       pub end-failed : Ends script fuel m s₀ s′ e₀ e′ d₀ d′ c₀ c′ l₀ l′ τ (ending.Failed x command)
       unfolding endingOf
@@ -276,33 +299,11 @@ module _ {script : List ℕ} {fuel : ℕ} {m : Machine} {s₀ e₀ d₀ c₀ l�
             same = (refl, refl);
             history = record {
               moments = R .moments ++ (moment τ s′ e′ d′ c′ l′ ∷ []);
-              chain = then (R .chain) (record { answer = answer; steps = S; left = ap leftBy g });
+              chain = then (R .chain) (record { answer = answer; steps = W .steps; left = ap leftBy g; room = went-room W });
               exact = subst (Along Exactly (R .moments ++ (moment τ s′ e′ d′ c′ l′ ∷ []))) (sym (O .states)) (along-snoc (R .exact) (exactly (fails-as .1)));
             };
             rest = fails-rest;
           }
-
--- ---- a step of either kind
-
--- The buffers after it are as long as before.
-pub record Went (script : List ℕ) (st : State) (s s′ e e′ d d′ c c′ l l′ : List ℕ) (answer : Stepped) : Type 0 where
-  pub steps : Steps script st s s′ e e′ d d′ c c′ l l′ answer
-  pub ls : length s′ ≡ length s
-  pub le : length e′ ≡ length e
-  pub ld : length d′ ≡ length d
-  pub lc : length c′ ≡ length c
-  pub ll : length l′ ≡ length l
-
-pub went-by : {script : List ℕ} {st : State} {s s₁ s′ e e₁ e′ d d₁ d′ c c₁ c′ l l₁ l′ : List ℕ} {a answer : Stepped}
-    → Went script st s s₁ e e₁ d d₁ c c₁ l l₁ a
-    → s′ ≡ s₁
-    → e′ ≡ e₁
-    → d′ ≡ d₁
-    → c′ ≡ c₁
-    → l′ ≡ l₁
-    → answer ≡ a
-    → Went script st s s′ e e′ d d′ c c′ l l′ answer
-went-by W p q r t u v = rw (p, q, r, t, u, v) W
 
 -- ---- whether the run is finished
 

@@ -44,11 +44,12 @@ abbrev pub leftBy : Stepped → State
 leftBy (Goes τ) = τ
 leftBy (Fails τ e command) = τ
 
--- A step of the runner leads from x to y.
+-- A step of the runner leads from x to y, with the room that is lent.
 pub record Leads (script : List ℕ) (x y : Moment) : Type 0 where
   pub answer : Stepped
   pub steps : Steps script (x .state) (x .stack) (y .stack) (x .exec) (y .exec) (x .dict) (y .dict) (x .cells) (y .cells) (x .log) (y .log) answer
   pub left : leftBy answer ≡ y .state
+  pub room : limitsOf y ≡ limitsOf x
 
 -- The list of moments from the first to the last: each step gets what the last one left.
 pub data Chain (script : List ℕ) (first : Moment) : List Moment → Moment → Type 0 where

@@ -109,16 +109,16 @@ same-length-15 : tie.Need-same-length-15 Inv-loop μ-loop
 same-length-15 c = went (c .before .before .before .before .before) .ll ∙ c .before .before .before .before .before .before .before .before .before .before .before .before .loop .inv .ll
 
 returns-3 : tie.Need-returns-3 Inv-loop μ-loop
-returns-3 c = end-stopped (c .before .before .before .before .before .before .before .before .before .before .before .before .loop .inv) (c .before .before .before .before .before .before .before .before .before .before .before .is-finished .ensures) (c .before .before .before .before .before .before .before .before .before .before .if1 .left) (omega (arith, c .before .before .before .before .before .before .before .before .before .before .before .before .loop .inv .count, c .before .before .before .before .before .before .before .before .if2 .left)) (went (c .before .before .before .before .before) .steps) (c .before .before .before .stepped .given .1) (c .if4 .taken)
+returns-3 c = end-stopped (c .before .before .before .before .before .before .before .before .before .before .before .before .loop .inv) (c .before .before .before .before .before .before .before .before .before .before .before .is-finished .ensures) (c .before .before .before .before .before .before .before .before .before .before .if1 .left) (omega (arith, c .before .before .before .before .before .before .before .before .before .before .before .before .loop .inv .count, c .before .before .before .before .before .before .before .before .if2 .left)) (went (c .before .before .before .before .before)) (c .before .before .before .stepped .given .1) (c .if4 .taken)
 
 by-fields-requires : tie.Need-by-fields-requires Inv-loop μ-loop
 by-fields-requires c κs = search needs
 
 loop-less : tie.Need-loop-less Inv-loop μ-loop
-loop-less c = goes-less (c .before .before .before .before .before .before .before .before .before .before .before .before .before .loop .inv) (c .before .before .before .before .before .before .before .before .before .before .before .before .is-finished .ensures) (c .before .before .before .before .before .before .before .before .before .before .before .if1 .left) (omega (arith, c .before .before .before .before .before .before .before .before .before .before .before .before .before .loop .inv .count, c .before .before .before .before .before .before .before .before .before .if2 .left)) (went (c .before .before .before .before .before .before) .steps) (c .before .before .before .before .stepped .given .1) (c .by-fields .ensures)
+loop-less c = goes-less (c .before .before .before .before .before .before .before .before .before .before .before .before .before .loop .inv) (c .before .before .before .before .before .before .before .before .before .before .before .before .is-finished .ensures) (c .before .before .before .before .before .before .before .before .before .before .before .if1 .left) (omega (arith, c .before .before .before .before .before .before .before .before .before .before .before .before .before .loop .inv .count, c .before .before .before .before .before .before .before .before .before .if2 .left)) (went (c .before .before .before .before .before .before)) (c .before .before .before .before .stepped .given .1) (c .by-fields .ensures)
 
 loop-again : tie.Need-loop-again Inv-loop μ-loop
-loop-again c = let w = went (c .before .before .before .before .before .before) in go-on (c .before .before .before .before .before .before .before .before .before .before .before .before .before .loop .inv) (c .before .before .before .before .before .before .before .before .before .before .before .before .is-finished .ensures) (c .before .before .before .before .before .before .before .before .before .before .before .if1 .left) (omega (arith, c .before .before .before .before .before .before .before .before .before .before .before .before .before .loop .inv .count, c .before .before .before .before .before .before .before .before .before .if2 .left)) (w .steps) (c .before .before .before .before .stepped .given .1) (c .by-fields .ensures) (c .before .if4 .left) (w .ls) (w .le) (w .ld) (w .lc) (w .ll)
+loop-again c = let w = went (c .before .before .before .before .before .before) in go-on (c .before .before .before .before .before .before .before .before .before .before .before .before .before .loop .inv) (c .before .before .before .before .before .before .before .before .before .before .before .before .is-finished .ensures) (c .before .before .before .before .before .before .before .before .before .before .before .if1 .left) (omega (arith, c .before .before .before .before .before .before .before .before .before .before .before .before .before .loop .inv .count, c .before .before .before .before .before .before .before .before .before .if2 .left)) w (c .before .before .before .before .stepped .given .1) (c .by-fields .ensures) (c .before .if4 .left)
 
 enum-known-stepped-2 : tie.Need-enum-known-stepped-2 Inv-loop μ-loop
 enum-known-stepped-2 c = c .match .keys2
@@ -139,7 +139,7 @@ same-length-20 : tie.Need-same-length-20 Inv-loop μ-loop
 same-length-20 c = went (c .before .before .before) .ll ∙ c .before .before .before .before .before .before .before .before .before .before .loop .inv .ll
 
 returns-4 : tie.Need-returns-4 Inv-loop μ-loop
-returns-4 c = end-failed (c .before .before .before .before .before .before .before .before .before .before .loop .inv) (c .before .before .before .before .before .before .before .before .before .is-finished .ensures) (c .before .before .before .before .before .before .before .before .if1 .left) (omega (arith, c .before .before .before .before .before .before .before .before .before .before .loop .inv .count, c .before .before .before .before .before .before .if2 .left)) (went (c .before .before .before) .steps) (c .before .stepped2 .given .1)
+returns-4 c = end-failed (c .before .before .before .before .before .before .before .before .before .before .loop .inv) (c .before .before .before .before .before .before .before .before .before .is-finished .ensures) (c .before .before .before .before .before .before .before .before .if1 .left) (omega (arith, c .before .before .before .before .before .before .before .before .before .before .loop .inv .count, c .before .before .before .before .before .before .if2 .left)) (went (c .before .before .before)) (c .before .stepped2 .given .1)
 
 pub advance-spec : {M : Type 1} → statement M
 advance-spec =
