@@ -29,6 +29,14 @@ unfolding last
 last-snoc d [] x = refl
 last-snoc d (y ∷ l) x = last-snoc y l x
 
+pub last-at : {A : Type 0} (d e : A) (l : List A) (n : ℕ) → length l ≡ suc n → last d l ≡ getD l n e
+unfolding last
+last-at d e [] n q = absurd (omega (arith, q))
+last-at d e (x ∷ []) zero q = refl
+last-at d e (x ∷ []) (suc n) q = absurd (omega (arith, q))
+last-at d e (x ∷ y ∷ l) zero q = absurd (omega (arith, q))
+last-at d e (x ∷ y ∷ l) (suc n) q = last-at x e (y ∷ l) n (omega (arith, q))
+
 module _ {A B : Type 0} {P : A → B → Type 0} where
   pub along-length : {xs : List A} {ys : List B} → Along P xs ys → length xs ≡ length ys
   along-length nil = refl
@@ -42,3 +50,9 @@ module _ {A B : Type 0} {P : A → B → Type 0} where
   unfolding last
   along-last nil q = q
   along-last (cons p a) q = along-last a p
+
+  -- The elements at one place.
+  pub along-at : {xs : List A} {ys : List B} → Along P xs ys → (x : A) (y : B) (n : ℕ) → n < length xs → P (getD xs n x) (getD ys n y)
+  along-at nil x y n b = absurd (omega (arith, b))
+  along-at (cons p a) x y zero b = p
+  along-at (cons p a) x y (suc n) b = along-at a x y n (omega (arith, b))

@@ -1,17 +1,17 @@
 -- The list of a run's states is tied to the run: both ask the same tests in the same order, so that they agree on each way on, on the number of steps and
 -- on the state at the end.
 -- Assumes nothing.
-use mathlib.Core.Path.{_≡_, refl, ap, _∙_}
+use mathlib.Core.Path.{_≡_, refl, sym, ap, _∙_}
 use mathlib.Core.Bool.{Bool, true, false}
 use mathlib.Core.List.{List, [], _∷_}
-use Prim.Native.Nat.{ℕ, zero, suc, _+_}
+use Prim.Native.Nat.{ℕ, zero, suc, _+_, _≤_, _<_}
 use native.Mathlib.Omega.{arith}
-use lib.ListN.{length}
+use lib.ListN.{length, getD, take}
 use Rattle.semantics.specs.Steps.{Limits, State, Step, goes, fails, step, Run, stopped, outOfFuel, failed, isFinished, finish, goOn, run}
 use Rattle.semantics.specs.RunLaws.{Stepped, went, stuck, step-stepped}
 use Rattle.semantics.specs.ResultLaws.{choose}
 use Rattle.semantics.specs.declared.Error.{Error}
-use Rattle.exactness.specs.Traces.{traceOn, trace, last}
+use Rattle.exactness.specs.Traces.{leaves, traceOn, trace, last}
 
 -- ---- choices
 
@@ -73,6 +73,69 @@ trace-last l script (suc fuel) d σ =
     alike (λ (xs : List State) (r : Run). Agrees (last d xs) (r .final)) (isFinished script σ)
     (σ ∷ []) (σ ∷ traceOn (trace l script fuel) (step l script σ)) (finish script σ) (goOn (run l script fuel) (step l script σ))
     (refl, refl) (traceOn-last (trace l script fuel) (run l script fuel) (trace-last l script fuel) σ (step l script σ))
+
+-- ---- one state after another
+
+traceOn-first : (rest : State → List State) (d : State) → ((τ : State) → getD (rest τ) 0 d ≡ τ) → (s : Step) → getD (traceOn rest s) 0 d ≡ leaves s
+unfolding traceOn
+traceOn-first rest d h (fails e c τ) = refl
+traceOn-first rest d h (goes τ) = choose (λ (xs : List State). getD xs 0 d ≡ τ) (τ .machine .stopped) (τ ∷ []) (rest τ) (λ t. refl) (λ t. h τ)
+
+-- The first state is the one at the start.
+pub trace-first : (l : Limits) (script : List ℕ) (fuel : ℕ) (d σ : State) → getD (trace l script fuel σ) 0 d ≡ σ
+unfolding trace
+trace-first l script zero d σ = refl
+trace-first l script (suc fuel) d σ =
+    choose (λ (xs : List State). getD xs 0 d ≡ σ) (isFinished script σ) (σ ∷ []) (σ ∷ traceOn (trace l script fuel) (step l script σ)) (λ t. refl) (λ t. refl)
+
+-- State n + 1, if there is one, is what a step leaves of state n.
+abbrev Next : Limits → List ℕ → State → ℕ → List State → Type 0
+Next l script d n xs = suc n < length xs → getD xs (suc n) d ≡ leaves (step l script (getD xs n d))
+
+one-only : (l : Limits) (script : List ℕ) (d : State) (n : ℕ) (σ : State) → Next l script d n (σ ∷ [])
+one-only l script d n σ h = absurd (omega (arith, h))
+
+traceOn-next : (l : Limits) (script : List ℕ) (d : State) (n : ℕ) (rest : State → List State) → ((τ : State) → Next l script d n (rest τ))
+    → (s : Step) → Next l script d n (traceOn rest s)
+unfolding traceOn
+traceOn-next l script d n rest h (fails e c τ) = one-only l script d n τ
+traceOn-next l script d n rest h (goes τ) =
+    choose (Next l script d n) (τ .machine .stopped) (τ ∷ []) (rest τ) (λ t. one-only l script d n τ) (λ t. h τ)
+
+pub trace-next : (l : Limits) (script : List ℕ) (d : State) (n fuel : ℕ) (σ : State) → Next l script d n (trace l script fuel σ)
+unfolding trace
+trace-next l script d n zero σ = one-only l script d n σ
+trace-next l script d zero (suc fuel) σ =
+    choose (Next l script d 0) (isFinished script σ) (σ ∷ []) (σ ∷ traceOn (trace l script fuel) (step l script σ))
+    (λ t. one-only l script d 0 σ) (λ t h. traceOn-first (trace l script fuel) d (trace-first l script fuel d) (step l script σ))
+trace-next l script d (suc n) (suc fuel) σ =
+    choose (Next l script d (suc n)) (isFinished script σ) (σ ∷ []) (σ ∷ traceOn (trace l script fuel) (step l script σ))
+    (λ t. one-only l script d (suc n) σ)
+    (λ t h. traceOn-next l script d n (trace l script fuel) (trace-next l script d n fuel) (step l script σ) (omega (arith, h)))
+
+-- ---- less fuel
+
+front-one : (k : ℕ) (σ : State) → σ ∷ [] ≡ take (suc k) (σ ∷ [])
+front-one zero σ = refl
+front-one (suc k) σ = refl
+
+traceOn-take : (k : ℕ) (rest more : State → List State) → ((τ : State) → rest τ ≡ take (suc k) (more τ)) → (s : Step) → traceOn rest s ≡ take (suc k) (traceOn more s)
+unfolding traceOn
+traceOn-take k rest more h (fails e c τ) = front-one k τ
+traceOn-take k rest more h (goes τ) =
+    alike (λ (xs ys : List State). xs ≡ take (suc k) ys) (τ .machine .stopped) (τ ∷ []) (rest τ) (τ ∷ []) (more τ) (front-one k τ) (h τ)
+
+-- With less fuel a run has the first of the states that it has with more.
+pub trace-take : (l : Limits) (script : List ℕ) (k fuel : ℕ) (σ : State) → k ≤ fuel → trace l script k σ ≡ take (suc k) (trace l script fuel σ)
+unfolding trace
+trace-take l script zero zero σ few = refl
+trace-take l script zero (suc fuel) σ few =
+    choose (λ (xs : List State). σ ∷ [] ≡ take 1 xs) (isFinished script σ) (σ ∷ []) (σ ∷ traceOn (trace l script fuel) (step l script σ)) (λ t. refl) (λ t. refl)
+trace-take l script (suc k) zero σ few = absurd (omega (arith, few))
+trace-take l script (suc k) (suc fuel) σ few =
+    alike (λ (xs ys : List State). xs ≡ take (suc (suc k)) ys) (isFinished script σ)
+    (σ ∷ []) (σ ∷ traceOn (trace l script k) (step l script σ)) (σ ∷ []) (σ ∷ traceOn (trace l script fuel) (step l script σ))
+    refl (ap (λ (xs : List State). σ ∷ xs) (traceOn-take k (trace l script k) (trace l script fuel) (λ τ. trace-take l script k fuel τ (omega (arith, few))) (step l script σ)))
 
 -- ---- each way on
 

@@ -6,6 +6,11 @@ use mathlib.Core.List.{List, [], _∷_}
 use Prim.Native.Nat.{ℕ, zero, suc}
 use Rattle.semantics.specs.Steps.{Limits, State, Step, goes, fails, step, isFinished}
 
+-- The state that a step leaves.
+abbrev pub leaves : Step → State
+leaves (goes τ) = τ
+leaves (fails e c τ) = τ
+
 -- The states from a step on, given those of the rest. The failing or stopping step is the last.
 unfoldable pub traceOn : (State → List State) → Step → List State
 traceOn rest (fails e c τ) = τ ∷ []

@@ -37,7 +37,7 @@ use Rattle.run_loop.specs.History.{Moment, moment, begun, limitsOf, left
 
 -- ---- one moment
 
-exactly : {σ : State} {s e d c l : List ℕ} {μ : Floo.Machine} → Rep (σ .machine) s e d c l μ → Exactly (moment σ s e d c l) (stateOf σ μ)
+pub exactly : {σ : State} {s e d c l : List ℕ} {μ : Floo.Machine} → Rep (σ .machine) s e d c l μ → Exactly (moment σ s e d c l) (stateOf σ μ)
 exactly R = record { next = refl; at = refl; steps = refl; stands = R; shows = shows R }
 
 lent-same : (s s′ e e′ d d′ c c′ l l′ : List ℕ)
