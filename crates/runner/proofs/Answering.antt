@@ -126,6 +126,7 @@ module _ (script : List ℕ) (fuel : ℕ) (s e d c l o : List ℕ) where
             };
             room = room;
             counted = many ∙ ap (λ (x : Limits). run x script fuel initial .final .steps + 1) room ∙ ap (λ n. n + 1) (sym steps);
+            state = C .state;
           },
         );
       }

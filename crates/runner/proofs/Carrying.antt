@@ -71,7 +71,7 @@ module _ {script : List ℕ} {fuel : ℕ} {s e d c l o : List ℕ} (G : Ready sc
     run-is = ap (λ (x : Limits). run x script fuel initial) (sym room-is) ∙ A .runs
 
     pub carried : {o′ : List ℕ} {n : ℕ} → WritesOutcome script (τ .machine) ending (τ .at) (τ .steps) s′ d′ c′ o o′ n
-        → CarriesOut script fuel s s′ e e′ d d′ c c′ l l′ o o′ (record { steps = τ .steps; log = τ .machine .written; outcome = n })
+        → CarriesOut script fuel s s′ e e′ d d′ c c′ l l′ o o′ (record { steps = τ .steps; log = τ .machine .written; outcome = n; machine = τ .machine })
     carried {o′} {n} W = record {
       steps = ap (λ (r : Run). r .final .steps) (sym run-is);
       log = subst (λ (r : Run). Written 0 (r .final .machine .log) l l′ (τ .machine .written)) (sym run-is)
@@ -84,4 +84,5 @@ module _ {script : List ℕ} {fuel : ℕ} {s e d c l o : List ℕ} (G : Ready sc
       holds = (refl, refl, refl, refl, refl);
       history = A .history;
       room = room-is;
+      state = A .same;
     }

@@ -48,6 +48,8 @@ pub record RunIs (script : List ℕ) (fuel : ℕ) (s s′ e e′ d d′ c c′ l
   -- the history is of this run: its room is what is lent, and it has a moment more than there are steps
   pub room : limitsOf (recorded .first) ≡ limits (lentOf s e d c l o)
   pub counted : length (recorded .history .moments) ≡ r .steps + 1
+  -- its last moment has the small state that is reported
+  pub state : (recorded .last .state .machine ≡ r .machine) × (recorded .last .state .steps ≡ r .steps)
 
 -- The whole answer: a refusal, where no lent word or byte has changed, or the run.
 abbrev pub AnswerIs : List ℕ → ℕ → List ℕ → List ℕ → List ℕ → List ℕ → List ℕ → List ℕ → List ℕ → List ℕ → List ℕ → List ℕ → List ℕ → List ℕ → Answer → Type 0
@@ -84,3 +86,4 @@ pub record CarriesOut (script : List ℕ) (fuel : ℕ) (s s′ e e′ d d′ c c
   pub holds : (last .stack ≡ s′) × (last .exec ≡ e′) × (last .dict ≡ d′) × (last .cells ≡ c′) × (last .log ≡ l′)
   pub history : History script fuel first last
   pub room : limitsOf first ≡ limits (lentOf s e d c l o)
+  pub state : (last .state .machine ≡ r .machine) × (last .state .steps ≡ r .steps)

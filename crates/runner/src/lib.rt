@@ -1,6 +1,7 @@
 // The runner: setup, the run and its outcome, in one operation that asks nothing beforehand.
 ghost use Rattle.runner.specs.Promise.{Runs, Ready, CarriesOut};
 use ending::Ending;
+use machine::Machine;
 use setup::Lent;
 use step::State;
 
@@ -10,11 +11,12 @@ pub enum Answer {
     Ran(Report),
 }
 
-// The steps made, how many bytes of the log are written, and how many of the outcome.
+// The steps made, how many bytes of the log are written, and how many of the outcome; and the small state at the end, by which the lent words are read.
 pub struct Report {
     pub steps: u32,
     pub log: usize,
     pub outcome: usize,
+    pub machine: Machine,
 }
 
 // A script is run with what is lent, or refused.
@@ -95,5 +97,6 @@ fn carry_out(
         steps: st.steps,
         log: last.written,
         outcome: n,
+        machine: last,
     }
 }
