@@ -10,6 +10,7 @@ use native.Mathlib.Omega.{arith}
 use Rattle.semantics.specs.Text.{bytes, decimal}
 use Rattle.semantics.specs.Outcome.{line, outcome}
 use Rattle.semantics.specs.ObjectOperators.{pasted}
+use Rattle.semantics.specs.Steps.{initial}
 use Rattle.semantics.specs.Setup.{Lent, refusal, printed}
 use Rattle.text.specs.Writing.{Written}
 use Rattle.text.proofs.Pasting.{then, respelt}
@@ -42,7 +43,7 @@ unfolding printed
 printed-refusal script g zero e h = absurd (omega arith)
 printed-refusal script g (suc n) e h = rw (e, printed)
 
-printed-run : (script : List ℕ) (g : Lent) → refusal script fuel g ≡ 0 → printed script fuel g ≡ theRun script fuel g .final .machine .log ++ outcome (theRun script fuel g)
+printed-run : (script : List ℕ) (g : Lent) → refusal script fuel g ≡ 0 → printed script fuel g ≡ theRun script fuel g initial .final .machine .log ++ outcome (theRun script fuel g initial)
 unfolding printed
 printed-run script g e = rw (e, printed)
 

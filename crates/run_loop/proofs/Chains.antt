@@ -64,6 +64,10 @@ module _ {script : List ℕ} {first : Moment} where
   chain-room start = refl
   chain-room (then C L) = L .room ∙ chain-room C
 
+  pub chain-some : {xs : List Moment} {x : Moment} → Chain script first xs x → 0 < length xs
+  chain-some start = omega arith
+  chain-some (then {xs = xs} {y = y} C L) = omega (arith, length-append xs (y ∷ []))
+
   pub chain-last : {xs : List Moment} {x : Moment} → Chain script first xs x → (d : Moment) → last d xs ≡ x
   unfolding last
   chain-last start d = refl

@@ -4,17 +4,16 @@
 use mathlib.Core.Path.{_≡_}
 use mathlib.Core.Bool.{Bool}
 use mathlib.Core.List.{List, [], _∷_, _++_}
-use Prim.Native.Nat.{ℕ, _≤_}
+use Prim.Native.Nat.{ℕ, _+_, _≤_}
 use lib.ListN.{length, drop}
 use Rattle.semantics.specs.Machine as Floo
 use Rattle.semantics.specs.Steps as steps
-use Rattle.semantics.specs.Steps.{Limits, run, initial, isFinished}
+use Rattle.semantics.specs.Steps.{Limits, run, isFinished}
 use Rattle.ending.specs.Endings.{endingOf, IsEnding}
 use Rattle.ending.specs.declared.Ending.{Ending}
 use Rattle.machine.specs.Places.{keys}
 use Rattle.machine.specs.Rep.{Rep}
 use Rattle.machine.specs.Room.{lent}
-use Rattle.machine.specs.declared.Machine.{Machine}
 use Rattle.exactness.specs.Shown.{Snapshot, Shows}
 use Rattle.exactness.specs.Traces.{trace, Along}
 use Rattle.step.specs.Stepping.{stateOf, Steps}
@@ -64,37 +63,41 @@ pub record Exactly (x : Moment) (σ : steps.State) : Type 0 where
   pub stands : Rep (x .state .machine) (x .stack) (x .exec) (x .dict) (x .cells) (x .log) (σ .machine)
   pub shows : Shows (σ .machine) (snapshot x)
 
--- The moments of a run from the start on, for as many states of the definition's run, each exact.
-pub record History (script : List ℕ) (fuel : ℕ) (first last : Moment) : Type 0 where
+-- The moments of a run from σ₀ on, for as many states of the definition's run, each exact.
+pub record History (script : List ℕ) (fuel : ℕ) (σ₀ : steps.State) (first last : Moment) : Type 0 where
   pub moments : List Moment
   pub chain : Chain script first moments last
-  pub exact : Along Exactly moments (trace (limitsOf first) script fuel initial)
+  pub exact : Along Exactly moments (trace (limitsOf first) script fuel σ₀)
 
 -- ---- the run
-
--- The state at the start.
-abbrev pub begun : Machine → State
-begun m = record { machine = m; next = 0; at = 0; steps = 0 }
 
 abbrev pub moment : State → List ℕ → List ℕ → List ℕ → List ℕ → List ℕ → Moment
 moment σ s e d c l = record { state = σ; stack = s; exec = e; dict = d; cells = c; log = l }
 
-pub record Begun (script : List ℕ) (fuel : ℕ) (m : Machine) (s e d c l : List ℕ) : Type 0 where
+-- A run may begin with any state whose words stand for a machine.
+pub record Begun (script : List ℕ) (fuel : ℕ) (st : State) (s e d c l : List ℕ) : Type 0 where
   pub short : length script ≤ 32768
-  pub fueled : fuel ≤ 1000000
-  pub rep : Rep m s e d c l (initial .machine)
+  pub fueled : st .steps + fuel ≤ 1000000
+  pub inside : st .next ≤ length script
+  pub within : st .at ≤ length script
+  pub machine : (μ : Floo.Machine) × Rep (st .machine) s e d c l μ
 
--- How the run ended: the definition's run, the words that stand for its last machine, its history, and the log past what is written, as it was.
-pub record Ends (script : List ℕ) (fuel : ℕ) (m : Machine) (s s′ e e′ d d′ c c′ l l′ : List ℕ) (τ : State) (ending : Ending) : Type 0 where
+-- How the run from the machine μ ended: the definition's run, the words that stand for its last machine, its history, and the log past what is written, as it
+-- was.
+pub record EndsFrom (script : List ℕ) (fuel : ℕ) (st : State) (μ : Floo.Machine) (s s′ e e′ d d′ c c′ l l′ : List ℕ) (τ : State) (ending : Ending) : Type 0 where
   pub machine : Floo.Machine
   pub rep : Rep (τ .machine) s′ e′ d′ c′ l′ machine
   pub named : IsEnding script (keys machine) ending
-  pub runs : run (lent s e d c l) script fuel initial ≡ record { ending = endingOf script (keys machine) ending; final = stateOf τ machine }
+  pub runs : run (lent s e d c l) script fuel (stateOf st μ) ≡ record { ending = endingOf script (keys machine) ending; final = stateOf τ machine }
   pub within : τ .at ≤ length script
   pub last : State
   pub same : (last .machine ≡ τ .machine) × (last .steps ≡ τ .steps)
-  pub history : History script fuel (moment (begun m) s e d c l) (moment last s′ e′ d′ c′ l′)
+  pub history : History script fuel (stateOf st μ) (moment st s e d c l) (moment last s′ e′ d′ c′ l′)
   pub rest : drop (τ .machine .written) l′ ≡ drop (τ .machine .written) l
+
+-- It ended so from every machine that the first words stand for.
+pub record Ends (script : List ℕ) (fuel : ℕ) (st : State) (s s′ e e′ d d′ c c′ l l′ : List ℕ) (τ : State) (ending : Ending) : Type 0 where
+  pub ends : (μ : Floo.Machine) → Rep (st .machine) s e d c l μ → EndsFrom script fuel st μ s s′ e e′ d d′ c c′ l l′ τ ending
 
 -- ---- the end
 

@@ -5,7 +5,6 @@ ghost use Prim.Native.Nat.{_≤_};
 ghost use lib.ListN.{length};
 ghost use Rattle.run_loop.specs.History.{Begun, Ends, Finished};
 use ending::Ending;
-use machine::Machine;
 use step::State;
 use step::Stepped;
 
@@ -15,10 +14,10 @@ pub struct Ended {
     pub ending: Ending,
 }
 
-// All steps from the start on.
+// All steps from a state on, at most `fuel` of them; the count of steps goes on from the state's.
 // Rules out: a step more than there is fuel; a script that is finished at no fuel called out of fuel; a step after `stop`.
 pub fn advance(
-    m: Machine,
+    start: State,
     script: &[u8],
     fuel: u32,
     stack: &mut [u32],
@@ -27,15 +26,11 @@ pub fn advance(
     cells: &mut [u32],
     log: &mut [u8],
 ) -> Ended
-    requires { ⌜ Begun (now script) fuel m (now stack) (now exec) (now dict) (now cells) (now log) ⌝ }
-    ensures { λ r. ⌜ Ends (now (script .entry)) fuel m (now (stack .entry)) (now (stack .exit)) (now (exec .entry)) (now (exec .exit)) (now (dict .entry)) (now (dict .exit)) (now (cells .entry)) (now (cells .exit)) (now (log .entry)) (now (log .exit)) (r .state) (r .ending) ⌝ }
+    requires { ⌜ Begun (now script) fuel start (now stack) (now exec) (now dict) (now cells) (now log) ⌝ }
+    ensures { λ r. ⌜ Ends (now (script .entry)) fuel start (now (stack .entry)) (now (stack .exit)) (now (exec .entry)) (now (exec .exit)) (now (dict .entry)) (now (dict .exit)) (now (cells .entry)) (now (cells .exit)) (now (log .entry)) (now (log .exit)) (r .state) (r .ending) ⌝ }
 {
-    let mut st = State {
-        machine: m,
-        next: 0,
-        at: 0,
-        steps: 0,
-    };
+    let limit = start.steps + fuel;
+    let mut st = by_fields(start);
     loop {
         if is_finished(st, script) {
             return Ended {
@@ -43,7 +38,7 @@ pub fn advance(
                 ending: Ending::Finished,
             };
         }
-        if st.steps == fuel {
+        if st.steps == limit {
             return Ended {
                 state: st,
                 ending: Ending::OutOfFuel,

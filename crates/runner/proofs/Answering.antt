@@ -6,6 +6,7 @@ use Prim.Native.Nat.{ℕ, _+_, _-_, _*_, _/_, _≤_, _<_}
 use native.Mathlib.Omega.{arith}
 use lib.ListN.{length, take, drop}
 use lib.Seq.{length-take-le, length-front, take-at, drop-at}
+use Rattle.semantics.specs.Steps as steps
 use Rattle.semantics.specs.Steps.{Limits, Run, run, initial}
 use Rattle.semantics.specs.Outcome.{outcome}
 use Rattle.semantics.specs.Setup.{limits, refusal}
@@ -15,7 +16,7 @@ use Rattle.setup.proofs.Accepting.{accepted}
 use Rattle.exactness.proofs.Lists.{along-length}
 use Rattle.exactness.proofs.Tracing.{trace-length}
 use Rattle.run_loop.specs.History.{limitsOf}
-use Rattle.runner.specs.Promise.{lentOf, theRun, whole, past, Runs, Ready, CarriesOut}
+use Rattle.runner.specs.Promise.{lentOf, theRun, whole, past, RunIs, Runs, Ready, CarriesOut}
 use Rattle.runner.specs.declared.Answer.the-variants.{Refused, Ran}
 use Rattle.runner.specs.declared.Report.{Report}
 
@@ -82,9 +83,46 @@ module _ (script : List ℕ) (fuel : ℕ) (s e d c l o : List ℕ) where
       let g : length (whole 4 c) / 4 ≡ length c / 4 = omega (arith, long-c) in
       rw (a, b, f, g) refl
 
-  -- and so is the run.
-  run-same : theRun script fuel (lentOf (whole 2 s) (whole 8 e) (whole 12 d) (whole 4 c) l o) ≡ theRun script fuel (lentOf s e d c l o)
-  run-same = ap (λ (x : Limits). run x script fuel initial) room-same
+  -- and so is the run, from every state.
+  module _ (σ₀ : steps.State) (touched : ℕ) where
+    run-same : theRun script fuel (lentOf (whole 2 s) (whole 8 e) (whole 12 d) (whole 4 c) l o) σ₀ ≡ theRun script fuel (lentOf s e d c l o) σ₀
+    run-same = ap (λ (x : Limits). run x script fuel σ₀) room-same
+
+    pub whole-run : {ys ye yd yc l′ o′ : List ℕ}
+        → length ys ≡ length (whole 2 s)
+        → length ye ≡ length (whole 8 e)
+        → length yd ≡ length (whole 12 d)
+        → length yc ≡ length (whole 4 c)
+        → {r : Report}
+        → CarriesOut script fuel σ₀ touched (whole 2 s) ys (whole 8 e) ye (whole 12 d) yd (whole 4 c) yc l l′ o o′ r
+        → RunIs script fuel σ₀ touched s (ys ++ past 2 s) e (ye ++ past 8 e) d (yd ++ past 12 d) c (yc ++ past 4 c) l l′ o o′ r
+    whole-run {ys} {ye} {yd} {yc} {l′} {o′} ks ke kd kc {r} C =
+        let H = C .holds in
+        let S = whole-is 2 s ys ks (omega arith) in
+        let E = whole-is 8 e ye ke (omega arith) in
+        let D = whole-is 12 d yd kd (omega arith) in
+        let Z = whole-is 4 c yc kc (omega arith) in
+        let steps : r .steps ≡ theRun script fuel (lentOf s e d c l o) σ₀ .final .steps = C .steps ∙ ap (λ (x : Run). x .final .steps) run-same in
+        let room = C .room ∙ room-same in
+        let many : length (C .history .moments) + σ₀ .steps ≡ run (limitsOf (C .first)) script fuel σ₀ .final .steps + 1 =
+        omega (arith, along-length (C .history .exact), trace-length (limitsOf (C .first)) script fuel σ₀) in
+        record {
+          steps = steps;
+          fueled = omega (arith, steps, run-steps (limits (lentOf s e d c l o)) script fuel σ₀);
+          log = subst (λ (x : Run). Written 0 (x .final .machine .log) l l′ (r .log)) run-same (C .log);
+          outcome = subst (λ (x : Run). Written 0 (outcome x) o o′ (r .outcome)) run-same (C .outcome);
+          unused = (past-is 2 s ys ks (omega arith), past-is 8 e ye ke (omega arith), past-is 12 d yd kd (omega arith), past-is 4 c yc kc (omega arith));
+          recorded = record {
+            first = C .first;
+            last = C .last;
+            lends = C .lends;
+            holds = (H .0 ∙ sym S, H .1 ∙ sym E, H .2 ∙ sym D, H .3 ∙ sym Z, H .4);
+            history = C .history;
+          };
+          room = room;
+          counted = many ∙ ap (λ (x : Limits). run x script fuel σ₀ .final .steps + 1) room ∙ ap (λ n. n + 1) (sym steps);
+          state = C .state;
+        }
 
   pub answered : {n : ℕ} → n ≡ refusal script fuel (lentOf s e d c l o) → (0 < n → ⊥)
       → {ys ye yd yc l′ o′ : List ℕ}
@@ -93,40 +131,8 @@ module _ (script : List ℕ) (fuel : ℕ) (s e d c l o : List ℕ) where
       → length yd ≡ length (whole 12 d)
       → length yc ≡ length (whole 4 c)
       → {r : Report}
-      → CarriesOut script fuel (whole 2 s) ys (whole 8 e) ye (whole 12 d) yd (whole 4 c) yc l l′ o o′ r
+      → CarriesOut script fuel initial 0 (whole 2 s) ys (whole 8 e) ye (whole 12 d) yd (whole 4 c) yc l l′ o o′ r
       → Runs script fuel s (ys ++ past 2 s) e (ye ++ past 8 e) d (yd ++ past 12 d) c (yc ++ past 4 c) l l′ o o′ (Ran r)
-  unfolding initial
-  answered {n} q none {ys} {ye} {yd} {yc} {l′} {o′} ks ke kd kc {r} C =
+  answered {n} q none ks ke kd kc C =
       let zero : n ≡ 0 = omega (arith, none) in
-      let H = C .holds in
-      let S = whole-is 2 s ys ks (omega arith) in
-      let E = whole-is 8 e ye ke (omega arith) in
-      let D = whole-is 12 d yd kd (omega arith) in
-      let Z = whole-is 4 c yc kc (omega arith) in
-      let steps : r .steps ≡ theRun script fuel (lentOf s e d c l o) .final .steps = C .steps ∙ ap (λ (x : Run). x .final .steps) run-same in
-      let room = C .room ∙ room-same in
-      let many : length (C .history .moments) ≡ run (limitsOf (C .first)) script fuel initial .final .steps + 1 =
-      along-length (C .history .exact) ∙ omega (arith, trace-length (limitsOf (C .first)) script fuel initial) in
-      record {
-        answers = (
-          sym q ∙ zero,
-          record {
-            steps = steps;
-            fueled = omega (arith, steps, run-steps (limits (lentOf s e d c l o)) script fuel initial);
-            log = subst (λ (x : Run). Written 0 (x .final .machine .log) l l′ (r .log)) run-same (C .log);
-            outcome = subst (λ (x : Run). Written 0 (outcome x) o o′ (r .outcome)) run-same (C .outcome);
-            unused = (past-is 2 s ys ks (omega arith), past-is 8 e ye ke (omega arith), past-is 12 d yd kd (omega arith), past-is 4 c yc kc (omega arith));
-            recorded = record {
-              first = C .first;
-              last = C .last;
-              lends = C .lends;
-              names = C .names;
-              holds = (H .0 ∙ sym S, H .1 ∙ sym E, H .2 ∙ sym D, H .3 ∙ sym Z, H .4);
-              history = C .history;
-            };
-            room = room;
-            counted = many ∙ ap (λ (x : Limits). run x script fuel initial .final .steps + 1) room ∙ ap (λ n. n + 1) (sym steps);
-            state = C .state;
-          },
-        );
-      }
+      record { answers = (sym q ∙ zero, whole-run initial 0 ks ke kd kc C) }

@@ -1,3 +1,4 @@
 pub mod Carrying
 pub mod Answering
 pub mod Prefixes
+pub mod Starting

@@ -1,5 +1,6 @@
 // The runner: setup, the run and its outcome, in one operation that asks nothing beforehand.
-ghost use Rattle.runner.specs.Promise.{Runs, Ready, CarriesOut};
+ghost use Rattle.runner.specs.Promise.{Runs, Ready, CarriesOut, MayProceed, Proceeds};
+ghost use Rattle.semantics.specs.Steps.{initial};
 use ending::Ending;
 use machine::Machine;
 use setup::Lent;
@@ -75,10 +76,43 @@ fn carry_out(
     outcome: &mut [u8],
 ) -> Report
     requires { ⌜ Ready (now script) fuel (now stack) (now exec) (now dict) (now cells) (now log) (now outcome) ⌝ }
-    ensures { λ r. ⌜ CarriesOut (now (script .entry)) fuel (now (stack .entry)) (now (stack .exit)) (now (exec .entry)) (now (exec .exit)) (now (dict .entry)) (now (dict .exit)) (now (cells .entry)) (now (cells .exit)) (now (log .entry)) (now (log .exit)) (now (outcome .entry)) (now (outcome .exit)) r ⌝ }
+    ensures { λ r. ⌜ CarriesOut (now (script .entry)) fuel initial 0 (now (stack .entry)) (now (stack .exit)) (now (exec .entry)) (now (exec .exit)) (now (dict .entry)) (now (dict .exit)) (now (cells .entry)) (now (cells .exit)) (now (log .entry)) (now (log .exit)) (now (outcome .entry)) (now (outcome .exit)) r ⌝ }
 {
     let m = start::begin(dict, cells);
-    let ended = run_loop::advance(m, script, fuel, stack, exec, dict, cells, log);
+    let st = State {
+        machine: m,
+        next: 0,
+        at: 0,
+        steps: 0,
+    };
+    let done = proceed(st, script, fuel, stack, exec, dict, cells, log, outcome);
+    done.report
+}
+
+// What a run from a state came to: the report, the state at its end, and how it ended.
+pub struct Proceeded {
+    pub report: Report,
+    pub state: State,
+    pub ending: Ending,
+}
+
+// The run from any state on, with whole slots whose words stand for a machine: its steps, then its outcome.
+// Rules out: steps that are counted from none; the outcome of another state than the one reached.
+pub fn proceed(
+    start: State,
+    script: &[u8],
+    fuel: u32,
+    stack: &mut [u32],
+    exec: &mut [u32],
+    dict: &mut [u32],
+    cells: &mut [u32],
+    log: &mut [u8],
+    outcome: &mut [u8],
+) -> Proceeded
+    requires { ⌜ MayProceed (now script) fuel start (now stack) (now exec) (now dict) (now cells) (now log) (now outcome) ⌝ }
+    ensures { λ r. ⌜ Proceeds (now (script .entry)) fuel start (now (stack .entry)) (now (stack .exit)) (now (exec .entry)) (now (exec .exit)) (now (dict .entry)) (now (dict .exit)) (now (cells .entry)) (now (cells .exit)) (now (log .entry)) (now (log .exit)) (now (outcome .entry)) (now (outcome .exit)) r ⌝ }
+{
+    let ended = run_loop::advance(start, script, fuel, stack, exec, dict, cells, log);
     let st = ended.state;
     let last = st.machine;
     let ending = ended.ending;
@@ -93,10 +127,15 @@ fn carry_out(
         cells,
         outcome,
     );
-    Report {
+    let report = Report {
         steps: st.steps,
         log: last.written,
         outcome: n,
         machine: last,
+    };
+    Proceeded {
+        report: report,
+        state: st,
+        ending: ending,
     }
 }

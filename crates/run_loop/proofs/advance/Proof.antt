@@ -1,25 +1,25 @@
 -- `advance` meets its contract: the loop keeps `Running`, and each way out is a law of it. The measure is the fuel that is left.
 -- Assumes nothing.
 use borrow.Author.Needs.{needs}
-use Rattle.run_loop.proofs.Running.{Running, begin, ready, end-finished, end-spent, end-stopped, goes-less, go-on, end-failed, Went, went-by}
-use Rattle.run_loop.specs.History.{moment, begun}
+use Rattle.run_loop.proofs.Running.{Running, begin, ends-from, ready, end-finished, end-spent, end-stopped, goes-less, go-on, end-failed, Went, went-by}
+use Rattle.run_loop.specs.History.{moment}
 use Rattle.step.proofs.FrameSteps.{token-steps}
 use native.Mathlib.Omega.{arith}
-use Prim.Native.Nat.{_-_}
+use Prim.Native.Nat.{_+_, _-_}
 use mathlib.Core.Logic.{⊎-elim}
-use mathlib.Core.Path.{refl, _∙_}
+use mathlib.Core.Path.{refl, ap, _∙_}
 use Rattle.run_loop.proofs.advance.Statement.{statement}
 use Rattle.run_loop.proofs.advance.Tie as tie
 
 abbrev Inv-loop : tie.InvT-loop
-Inv-loop script fuel stack₀ exec₀ dict₀ cells₀ log₀ st₀ stack exec dict cells log st = Running script fuel (moment (begun (st₀ .machine)) stack₀ exec₀ dict₀ cells₀ log₀) (moment st stack exec dict cells log) (fuel - st .steps)
+Inv-loop script fuel stack₀ exec₀ dict₀ cells₀ log₀ limit st₀ stack exec dict cells log st = Running script fuel (moment st₀ stack₀ exec₀ dict₀ cells₀ log₀) (moment st stack exec dict cells log) (st₀ .steps + fuel - st .steps)
 
 abbrev μ-loop : tie.MeasureT-loop
-μ-loop script fuel stack₀ exec₀ dict₀ cells₀ log₀ st₀ stack exec dict cells log st = fuel - st .steps
+μ-loop script fuel stack₀ exec₀ dict₀ cells₀ log₀ limit st₀ stack exec dict cells log st = st₀ .steps + fuel - st .steps
 
 -- What holds where the two kinds of steps meet.
 went : (j : tie.Joined3 Inv-loop μ-loop)
-    → Went (j .before .before .before .before .before .before .before .before .before .before .before .before .before .before .args .script .now) (j .before .before .before .before .before .before .before .loop .st) (j .before .before .before .before .before .before .before .loop .stack) (j .if3 .stack) (j .before .before .before .before .before .before .before .loop .exec) (j .if3 .exec) (j .before .before .before .before .before .before .before .loop .dict) (j .if3 .dict) (j .before .before .before .before .before .before .before .loop .cells) (j .if3 .cells) (j .before .before .before .before .before .before .before .loop .log) (j .if3 .log) (j .if3 .stepped)
+    → Went (j .before .before .before .before .before .before .before .before .before .before .before .before .before .before .before .before .args .script .now) (j .before .before .before .before .before .before .before .loop .st) (j .before .before .before .before .before .before .before .loop .stack) (j .if3 .stack) (j .before .before .before .before .before .before .before .loop .exec) (j .if3 .exec) (j .before .before .before .before .before .before .before .loop .dict) (j .if3 .dict) (j .before .before .before .before .before .before .before .loop .cells) (j .if3 .cells) (j .before .before .before .before .before .before .before .loop .log) (j .if3 .log) (j .if3 .stepped)
 went j =
     ⊎-elim
     (λ w. went-by (record {
@@ -39,8 +39,14 @@ went j =
       ll = w .6 .kept .1 .1 .1 .1 .1 .0;
     }) (w .17) (w .18) (w .19) (w .20) (w .21) (w .22)) (j .if3 .came)
 
+add-limit : tie.Need-add-limit Inv-loop μ-loop
+add-limit c = omega (arith, c .before .before .before .before .before .before .before .pre .fueled)
+
+by-fields-requires : tie.Need-by-fields-requires Inv-loop μ-loop
+by-fields-requires c κs = search needs
+
 loop-holds : tie.Need-loop-holds Inv-loop μ-loop
-loop-holds c = begin (c .before .before .before .before .before .before .pre)
+loop-holds c = begin (c .before .before .before .before .before .before .before .before .pre) (c .by-fields .ensures)
 
 is-finished-requires : tie.Need-is-finished-requires Inv-loop μ-loop
 is-finished-requires c κs = c .loop .inv .inside
@@ -64,7 +70,7 @@ same-length-5 : tie.Need-same-length-5 Inv-loop μ-loop
 same-length-5 c = c .before .before .before .loop .inv .ll
 
 returns : tie.Need-returns Inv-loop μ-loop
-returns c = end-finished (c .before .before .before .loop .inv) (c .before .before .is-finished .ensures) (c .before .if1 .taken) (c .finish .ensures)
+returns c = ends-from (c .before .before .before .before .by-fields .ensures) (end-finished (c .before .before .before .loop .inv) (c .before .before .is-finished .ensures) (c .before .if1 .taken) (c .finish .ensures))
 
 same-length-6 : tie.Need-same-length-6 Inv-loop μ-loop
 same-length-6 c = c .before .before .before .before .loop .inv .ls
@@ -82,13 +88,13 @@ same-length-10 : tie.Need-same-length-10 Inv-loop μ-loop
 same-length-10 c = c .before .before .before .before .loop .inv .ll
 
 returns-2 : tie.Need-returns-2 Inv-loop μ-loop
-returns-2 c = end-spent (c .before .before .before .before .loop .inv) (c .before .before .before .is-finished .ensures) (c .before .before .if1 .left) (omega (arith, c .if2 .taken))
+returns-2 c = ends-from (c .before .before .before .before .before .by-fields .ensures) (end-spent (c .before .before .before .before .loop .inv) (c .before .before .before .is-finished .ensures) (c .before .before .if1 .left) (omega (arith, c .if2 .taken, ap (λ σ. σ .steps) (c .before .before .before .before .before .by-fields .ensures))))
 
 take-requires : tie.Need-take-requires Inv-loop μ-loop
-take-requires c κs = (_, ready (c .before .before .before .before .before .before .before .before .before .before .before .loop .inv) (omega (arith, c .before .before .before .before .before .before .before .before .before .before .before .loop .inv .count, c .before .before .before .before .before .before .before .if2 .left)), c .before .before .before .before .if3 .taken)
+take-requires c κs = (_, ready (c .before .before .before .before .before .before .before .before .before .before .before .loop .inv) (omega (arith, c .before .before .before .before .before .before .before .before .before .before .before .loop .inv .count, c .before .before .before .before .before .before .before .if2 .left, ap (λ σ. σ .steps) (c .before .before .before .before .before .before .before .before .before .before .before .before .by-fields .ensures))), c .before .before .before .before .if3 .taken)
 
 resume-requires : tie.Need-resume-requires Inv-loop μ-loop
-resume-requires c κs = (omega (arith, c .before .before .before .before .before .if3 .left), (_, ready (c .before .before .before .before .before .before .before .before .before .before .before .before .loop .inv) (omega (arith, c .before .before .before .before .before .before .before .before .before .before .before .before .loop .inv .count, c .before .before .before .before .before .before .before .before .if2 .left))))
+resume-requires c κs = (omega (arith, c .before .before .before .before .before .if3 .left), (_, ready (c .before .before .before .before .before .before .before .before .before .before .before .before .loop .inv) (omega (arith, c .before .before .before .before .before .before .before .before .before .before .before .before .loop .inv .count, c .before .before .before .before .before .before .before .before .if2 .left, ap (λ σ. σ .steps) (c .before .before .before .before .before .before .before .before .before .before .before .before .before .by-fields .ensures)))))
 
 enum-known-stepped : tie.Need-enum-known-stepped Inv-loop μ-loop
 enum-known-stepped c = c .match .keys1
@@ -109,16 +115,16 @@ same-length-15 : tie.Need-same-length-15 Inv-loop μ-loop
 same-length-15 c = went (c .before .before .before .before .before) .ll ∙ c .before .before .before .before .before .before .before .before .before .before .before .before .loop .inv .ll
 
 returns-3 : tie.Need-returns-3 Inv-loop μ-loop
-returns-3 c = end-stopped (c .before .before .before .before .before .before .before .before .before .before .before .before .loop .inv) (c .before .before .before .before .before .before .before .before .before .before .before .is-finished .ensures) (c .before .before .before .before .before .before .before .before .before .before .if1 .left) (omega (arith, c .before .before .before .before .before .before .before .before .before .before .before .before .loop .inv .count, c .before .before .before .before .before .before .before .before .if2 .left)) (went (c .before .before .before .before .before)) (c .before .before .before .stepped .given .1) (c .if4 .taken)
+returns-3 c = ends-from (c .before .before .before .before .before .before .before .before .before .before .before .before .before .by-fields .ensures) (end-stopped (c .before .before .before .before .before .before .before .before .before .before .before .before .loop .inv) (c .before .before .before .before .before .before .before .before .before .before .before .is-finished .ensures) (c .before .before .before .before .before .before .before .before .before .before .if1 .left) (omega (arith, c .before .before .before .before .before .before .before .before .before .before .before .before .loop .inv .count, c .before .before .before .before .before .before .before .before .if2 .left, ap (λ σ. σ .steps) (c .before .before .before .before .before .before .before .before .before .before .before .before .before .by-fields .ensures))) (went (c .before .before .before .before .before)) (c .before .before .before .stepped .given .1) (c .if4 .taken))
 
-by-fields-requires : tie.Need-by-fields-requires Inv-loop μ-loop
-by-fields-requires c κs = search needs
+by-fields-requires-2 : tie.Need-by-fields-requires-2 Inv-loop μ-loop
+by-fields-requires-2 c κs = search needs
 
 loop-less : tie.Need-loop-less Inv-loop μ-loop
-loop-less c = goes-less (c .before .before .before .before .before .before .before .before .before .before .before .before .before .loop .inv) (c .before .before .before .before .before .before .before .before .before .before .before .before .is-finished .ensures) (c .before .before .before .before .before .before .before .before .before .before .before .if1 .left) (omega (arith, c .before .before .before .before .before .before .before .before .before .before .before .before .before .loop .inv .count, c .before .before .before .before .before .before .before .before .before .if2 .left)) (went (c .before .before .before .before .before .before)) (c .before .before .before .before .stepped .given .1) (c .by-fields .ensures)
+loop-less c = goes-less (c .before .before .before .before .before .before .before .before .before .before .before .before .before .loop .inv) (c .before .before .before .before .before .before .before .before .before .before .before .before .is-finished .ensures) (c .before .before .before .before .before .before .before .before .before .before .before .if1 .left) (omega (arith, c .before .before .before .before .before .before .before .before .before .before .before .before .before .loop .inv .count, c .before .before .before .before .before .before .before .before .before .if2 .left, ap (λ σ. σ .steps) (c .before .before .before .before .before .before .before .before .before .before .before .before .before .before .by-fields .ensures))) (went (c .before .before .before .before .before .before)) (c .before .before .before .before .stepped .given .1) (c .by-fields2 .ensures)
 
 loop-again : tie.Need-loop-again Inv-loop μ-loop
-loop-again c = let w = went (c .before .before .before .before .before .before) in go-on (c .before .before .before .before .before .before .before .before .before .before .before .before .before .loop .inv) (c .before .before .before .before .before .before .before .before .before .before .before .before .is-finished .ensures) (c .before .before .before .before .before .before .before .before .before .before .before .if1 .left) (omega (arith, c .before .before .before .before .before .before .before .before .before .before .before .before .before .loop .inv .count, c .before .before .before .before .before .before .before .before .before .if2 .left)) w (c .before .before .before .before .stepped .given .1) (c .by-fields .ensures) (c .before .if4 .left)
+loop-again c = let w = went (c .before .before .before .before .before .before) in go-on (c .before .before .before .before .before .before .before .before .before .before .before .before .before .loop .inv) (c .before .before .before .before .before .before .before .before .before .before .before .before .is-finished .ensures) (c .before .before .before .before .before .before .before .before .before .before .before .if1 .left) (omega (arith, c .before .before .before .before .before .before .before .before .before .before .before .before .before .loop .inv .count, c .before .before .before .before .before .before .before .before .before .if2 .left, ap (λ σ. σ .steps) (c .before .before .before .before .before .before .before .before .before .before .before .before .before .before .by-fields .ensures))) w (c .before .before .before .before .stepped .given .1) (c .by-fields2 .ensures) (c .before .if4 .left)
 
 enum-known-stepped-2 : tie.Need-enum-known-stepped-2 Inv-loop μ-loop
 enum-known-stepped-2 c = c .match .keys2
@@ -139,7 +145,7 @@ same-length-20 : tie.Need-same-length-20 Inv-loop μ-loop
 same-length-20 c = went (c .before .before .before) .ll ∙ c .before .before .before .before .before .before .before .before .before .before .loop .inv .ll
 
 returns-4 : tie.Need-returns-4 Inv-loop μ-loop
-returns-4 c = end-failed (c .before .before .before .before .before .before .before .before .before .before .loop .inv) (c .before .before .before .before .before .before .before .before .before .is-finished .ensures) (c .before .before .before .before .before .before .before .before .if1 .left) (omega (arith, c .before .before .before .before .before .before .before .before .before .before .loop .inv .count, c .before .before .before .before .before .before .if2 .left)) (went (c .before .before .before)) (c .before .stepped2 .given .1)
+returns-4 c = ends-from (c .before .before .before .before .before .before .before .before .before .before .before .by-fields .ensures) (end-failed (c .before .before .before .before .before .before .before .before .before .before .loop .inv) (c .before .before .before .before .before .before .before .before .before .is-finished .ensures) (c .before .before .before .before .before .before .before .before .if1 .left) (omega (arith, c .before .before .before .before .before .before .before .before .before .before .loop .inv .count, c .before .before .before .before .before .before .if2 .left, ap (λ σ. σ .steps) (c .before .before .before .before .before .before .before .before .before .before .before .by-fields .ensures))) (went (c .before .before .before)) (c .before .stepped2 .given .1))
 
 pub advance-spec : {M : Type 1} → statement M
 advance-spec =
@@ -147,6 +153,8 @@ advance-spec =
     (tie.spec
     Inv-loop
     μ-loop
+    add-limit
+    by-fields-requires
     loop-holds
     is-finished-requires
     finish-requires
@@ -171,7 +179,7 @@ advance-spec =
     same-length-14
     same-length-15
     returns-3
-    by-fields-requires
+    by-fields-requires-2
     loop-less
     loop-again
     enum-known-stepped-2
