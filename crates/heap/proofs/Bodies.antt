@@ -1,6 +1,6 @@
 -- A body gets one cell more, and a header is made: a cell on no list changes its owner, at one point of the ghost.
 -- Assumes nothing.
-use Prim.Native.Nat.{ℕ, zero, suc, _+_, _-_, _≤_, _<_}
+use Prim.Native.Nat.{ℕ, zero, suc, _+_, _-_, _%_, _≤_, _<_}
 use mathlib.Core.Path.{_≡_, refl, sym, ap, _∙_}
 use mathlib.Core.Bool.{false}
 use mathlib.Core.List.{List}
@@ -11,13 +11,13 @@ use lib.Dec.{eqb}
 use Rattle.heap.specs.Word.{word, Put}
 use Rattle.heap.specs.Upd.{upd, total}
 use Rattle.heap.specs.Chain.{Owner, live, out, on}
-use Rattle.heap.specs.Shape.{Ghost, Shape, Skip, Counts, Full, NoOut, OnlyOut, Header, cells, isHead, isBody, isFresh, isOn, is, target, pushed, headerMark}
+use Rattle.heap.specs.Shape.{Ghost, Shape, Skip, Counts, Full, NoOut, OnlyOut, Header, cells, isHead, isBody, isFresh, isOn, is, target, pushed, headerMark, firstUnit, sizeUnit}
 use Rattle.heap.specs.Grow.{Grows, Took, Filled}
 use Rattle.heap.specs.declared.Lists.{Lists}
 use Rattle.heap.proofs.Upds.{upd-same, upd-at, upd-other, same?, at-upd, upd-keeps, total-same, pick-zero}
 use Rattle.heap.proofs.Chains.{push, out-on, out-live, live-on, on-list, on-rank, no-out}
 use Rattle.heap.proofs.Skips.{skips-aside, plain-aside}
-use Rattle.heap.proofs.Shapes.{inside, header-of, push-counted, not-header, bare}
+use Rattle.heap.proofs.Shapes.{inside, list-le, header-of, push-counted, not-header, bare}
 use Rattle.heap.proofs.Pops.{body-head}
 use Rattle.heap.proofs.Falls.{is-same, is-other, true-false, body-object}
 use Rattle.heap.proofs.Walks.{skip-plain}
@@ -63,7 +63,8 @@ module _ (g : Ghost) (e p hand : ℕ) (m m′ : List ℕ) (S : Shape g e m) (C :
     within = rw long (S .within);
     low = λ d. upd-keeps isFresh (g .own) c v d (sym (ap isFresh oc)) ∙ S .low d;
     header = λ x. ⊎-elim
-        (λ (q : x ≡ h). rw (q, stays h lh out-live .0, upd-same (g .size) (h + 2) (suc (g .size (h + 2))), upd-same (g .top) (h + 2) c) (h1, h3))
+        (λ (q : x ≡ h). rw (q, stays h lh out-live .0, upd-same (g .size) (h + 2) (suc (g .size (h + 2))), upd-same (g .top) (h + 2) c)
+        (omega (arith, h1, list-le S (h + 2), S .few), omega (arith, h3, inside S c oc refl .0, S .few), omega (arith, h3)))
         (λ (q : x ≡ h → ⊥). rw (upd-other (g .size) (h + 2) (suc (g .size (h + 2))) (x + 2) (λ r. q (omega arith)), upd-other (g .top) (h + 2) c (x + 2) (λ r. q (omega arith)))
         (at-upd (λ w. Header (isHead w) (g .size (x + 2)) (g .top (x + 2)) (word m′ x 1) (word m′ x 3)) (g .own) c v x
         (λ r. rw (body-head h, r) (bare S c (ap isHead oc)))
@@ -104,6 +105,7 @@ module _ (g : Ghost) (e p hand : ℕ) (m m′ : List ℕ) (S : Shape g e m) (C :
       upd-other (g .size) (h + 2) (suc (g .size (h + 2))) (d + 2) (λ r. n (omega arith)),
       same d 0 (omega arith) (b .1) (λ r. absurd (n r)),
       same d 1 (omega arith) (b .1) (λ r. absurd (n r)),
+      same d 3 (omega arith) (b .1) (λ r. absurd (n r)),
     );
     lived = λ d n q. was-live d q .0;
     kind = λ q. same h 0 (omega arith) (stays h lh out-live .1) (λ _. inl refl);
@@ -138,11 +140,11 @@ module _ (g : Ghost) (e p : ℕ) (m m′ : List ℕ) (S : Shape g e m) (C : Coun
     within = rw long (S .within);
     low = λ d. upd-keeps isFresh (g .own) h live d (sym (ap isFresh oh)) ∙ S .low d;
     header = λ x. at-upd (λ w. Header (isHead w) (g .size (x + 2)) (upd (g .top) (h + 2) 0 (x + 2)) (word m′ x 1) (word m′ x 3)) (g .own) h live x
-        (λ r. rw (r, upd-same (g .top) (h + 2) 0) (w1 ∙ sym (bare S h (ap isHead oh)), omega (arith, w3)))
+        (λ r. rw (r, upd-same (g .top) (h + 2) 0) (omega (arith, w1, bare S h (ap isHead oh)), omega (arith, w3), omega (arith, w3)))
         (λ r. rw (upd-other (g .top) (h + 2) 0 (x + 2) (λ s. r (omega arith)), same x 1 (omega arith) r, same x 3 (omega arith) r) (S .header x));
     counted = rw long (λ t. total-same (λ c. isOn t (g .own c)) (λ c. isOn t (upd (g .own) h live c)) (cells m) (λ c _. upd-keeps (isOn t) (g .own) h live c (sym (ap (isOn t) oh))) ∙ S .counted t);
     skips = skips-aside S h out live oh refl refl m′ (λ x s k q. same x 3 (omega arith) (stay x q out-on .1));
-    plain = plain-aside S h out live oh refl refl m′ (λ x s k q. same x 3 (omega arith) (stay x q out-on .1));
+    plain = plain-aside S h out live oh refl refl m′ (λ x s k q. same x 3 (omega arith) (stay x q out-on .1)) (λ s k n q. absurd (live-on q));
   }
 
   pub head-counts : Counts born p (suc h) m′
@@ -170,7 +172,7 @@ module _ (g : Ghost) (e p : ℕ) (m m′ : List ℕ) (S : Shape g e m) (C : Coun
 
   pub head-grows : Grows h g m born m′
   head-grows = record {
-    lives = λ d n q. (upd-other (g .own) h live d n ∙ q, refl, same d 0 (omega arith) n, same d 1 (omega arith) n);
+    lives = λ d n q. (upd-other (g .own) h live d n ∙ q, refl, same d 0 (omega arith) n, same d 1 (omega arith) n, same d 3 (omega arith) n);
     lived = λ d n q. sym (upd-other (g .own) h live d n) ∙ q;
     kind = λ q. absurd (out-live (sym oh ∙ q));
     keeps = λ d a k q. let b = stay d q out-on in (b .0, same d 0 (omega arith) (b .1), same d 1 (omega arith) (b .1));
@@ -180,7 +182,7 @@ module _ (g : Ghost) (e p : ℕ) (m m′ : List ℕ) (S : Shape g e m) (C : Coun
   }
 
 -- the two, as the code does them
-pub grown : {g : Ghost} {p hand h c first n w : ℕ} {s r : Lists} {m m₁ m₂ m₃ : List ℕ} → Full g p hand s m → g .own h ≡ live → Took s m c r → first ≡ word m h 3 - headerMark → n ≡ word m h 1
+pub grown : {g : Ghost} {p hand h c first n w : ℕ} {s r : Lists} {m m₁ m₂ m₃ : List ℕ} → Full g p hand s m → g .own h ≡ live → Took s m c r → first ≡ word m h 3 % firstUnit → n ≡ word m h 1 % sizeUnit
     → ((g : Ghost) (e s : ℕ) → Shape g e m → 2 ≤ s → g .size s ≡ n → g .top s ≡ first → (k : ℕ) → n ≡ suc k → Skip (g .own) s k w) → (n ≡ 0 → w ≡ 0)
     → Filled m c first w m₁ → Put m₁ h 3 (headerMark + c) m₂ → Put m₂ h 1 (n + 1) m₃
     → (g′ : Ghost) × Full g′ p hand r m₃ × Grows h g m g′ m₃ × (g′ .own h ≡ live) × (g′ .size (h + 2) ≡ 1 + g .size (h + 2)) × (NoOut g → NoOut g′)

@@ -61,7 +61,7 @@ module _ (g : Ghost) (e p : ℕ) (m m′ : List ℕ) (S : Shape g e m) (o v : �
 
   pub drop-step : Step p g m g m′
   drop-step = record {
-    alive = λ h a. (a, refl, P .there h 0 (omega arith) (λ r s. omega arith), P .there h 1 (omega arith) (λ r s. omega arith));
+    alive = λ h a. (a, refl, P .there h 0 (omega arith) (λ r s. omega arith), P .there h 1 (omega arith) (λ r s. omega arith), P .there h 3 (omega arith) (λ r s. omega arith));
     body = λ c a k q. (q, refl, P .there c 0 (omega arith) (λ r s. omega arith), P .there c 1 (omega arith) (λ r s. omega arith));
     kept = λ c a k q _. q;
     roots = λ x _. refl;
@@ -105,7 +105,7 @@ module _ (g : Ghost) (e p : ℕ) (m m′ : List ℕ) (S : Shape g e m) (o : ℕ)
     ) (S .header d);
     counted = rw (P .size) (push-counted (g .own) (g .size) (cells m) o 1 (g .size 1) (inside S o lo refl .0) (λ t. ap (isOn t) lo) (S .counted));
     skips = skips-aside S o live (on 1 (g .size 1)) lo refl refl m′ (λ x s k q. P .there x 3 (omega arith) (λ r w. omega arith));
-    plain = plain-aside S o live (on 1 (g .size 1)) lo refl refl m′ (λ x s k q. P .there x 3 (omega arith) (λ r w. omega arith));
+    plain = plain-aside S o live (on 1 (g .size 1)) lo refl refl m′ (λ x s k q. P .there x 3 (omega arith) (λ r w. omega arith)) (λ s k n q. absurd (n (sym (on-list q))));
   }
 
   pub kill-counts : Counts (pushed g 1 o) p 0 m′
@@ -133,6 +133,7 @@ module _ (g : Ghost) (e p : ℕ) (m m′ : List ℕ) (S : Shape g e m) (o : ℕ)
       upd-other (g .size) 1 (suc (g .size 1)) (h + 2) (λ q. omega arith),
       P .there h 0 (omega arith) (λ r s. omega arith),
       P .there h 1 (omega arith) (λ r s. omega arith),
+      P .there h 3 (omega arith) (λ r s. omega arith),
     );
     body = λ c a k q. (was-body c a k q, refl, P .there c 0 (omega arith) (λ r s. omega arith), P .there c 1 (omega arith) (λ r s. omega arith));
     kept = λ c a k q _. upd-other (g .own) o (on 1 (g .size 1)) c (λ r. live-on (sym lo ∙ ap (g .own) (sym r) ∙ q)) ∙ q;
@@ -183,7 +184,7 @@ module _ (g : Ghost) (p hand : ℕ) (m m′ : List ℕ) (C : Counts g p hand m) 
 
   pub quiet-step : ((h : ℕ) → g .own h ≡ live → size (h + 2) ≡ g .size (h + 2)) → Step p g m (record { own = upd (g .own) c v; top = top; size = size; aim = g .aim }) m′
   quiet-step sz = record {
-    alive = λ h a. let b = alive-was h a in (b .0, sz h (b .0), same h 0 (omega arith) (b .1), same h 1 (omega arith) (b .1));
+    alive = λ h a. let b = alive-was h a in (b .0, sz h (b .0), same h 0 (omega arith) (b .1), same h 1 (omega arith) (b .1), same h 3 (omega arith) (b .1));
     body = λ d a k q. let b = body-was d a k q in (b .0, refl, same d 0 (omega arith) (b .1), same d 1 (omega arith) (b .1));
     kept = λ d a k q _. body-stays d a k q;
     roots = λ x _. refl;

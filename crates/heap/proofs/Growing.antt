@@ -24,7 +24,7 @@ use Rattle.heap.proofs.Falls.{quiet-counts, true-false, body-object}
 -- the changes one after the other
 pub grows-trans : {h : ℕ} {g g₁ g₂ : Ghost} {m m₁ m₂ : List ℕ} → Grows h g m g₁ m₁ → Grows h g₁ m₁ g₂ m₂ → (g .own h ≡ live → g₁ .own h ≡ live) → Grows h g m g₂ m₂
 grows-trans A B l = record {
-  lives = λ c n q. let a = A .lives c n q in let b = B .lives c n (a .0) in (b .0, b .1 ∙ a .1, b .2 ∙ a .2, b .3 ∙ a .3);
+  lives = λ c n q. let a = A .lives c n q in let b = B .lives c n (a .0) in (b .0, b .1 ∙ a .1, b .2 ∙ a .2, b .3 ∙ a .3, b .4 ∙ a .4);
   lived = λ c n q. A .lived c n (B .lived c n q);
   kind = λ q. B .kind (l q) ∙ A .kind q;
   keeps = λ c a k q. let x = A .keeps c a k q in let y = B .keeps c a k (x .0) in (y .0, y .1 ∙ x .1, y .2 ∙ x .2);
@@ -35,7 +35,7 @@ grows-trans A B l = record {
 
 pub grows-refl : (h : ℕ) (g : Ghost) (m : List ℕ) → Grows h g m g m
 grows-refl h g m = record {
-  lives = λ c n q. (q, refl, refl, refl);
+  lives = λ c n q. (q, refl, refl, refl, refl);
   lived = λ c n q. q;
   kind = λ q. refl;
   keeps = λ c a k q. (q, refl, refl);
@@ -48,7 +48,7 @@ grows-refl h g m = record {
 module _ (g : Ghost) (m : List ℕ) (c : ℕ) (o : Owner) (top size : ℕ → ℕ) (oc : g .own c ≡ o) (qo : isObject o ≡ false) (sz : (h : ℕ) → size (h + 2) ≡ g .size (h + 2)) where
   pub took-grows : (h : ℕ) → Grows h g m (record { own = upd (g .own) c out; top = top; size = size; aim = g .aim }) m
   took-grows h = record {
-    lives = λ d n q. (upd-other (g .own) c out d (λ r. true-false (ap isObject (sym q ∙ ap (g .own) r ∙ oc) ∙ qo)) ∙ q, sz d, refl, refl);
+    lives = λ d n q. (upd-other (g .own) c out d (λ r. true-false (ap isObject (sym q ∙ ap (g .own) r ∙ oc) ∙ qo)) ∙ q, sz d, refl, refl, refl);
     lived = λ d n. at-upd (λ x. x ≡ live → g .own d ≡ live) (g .own) c out d (λ r q. absurd (out-live q)) (λ r q. q);
     kind = λ q. refl;
     keeps = λ d a k q. (upd-other (g .own) c out d (λ r. true-false (sym (body-object a k) ∙ ap isObject (sym q ∙ ap (g .own) r ∙ oc) ∙ qo)) ∙ q, refl, refl);
@@ -72,7 +72,7 @@ module _ (g : Ghost) (e : ℕ) (m : List ℕ) (S : Shape g e m) (n : ℕ) (z : g
     ) (S .header x);
     counted = pop-counted (g .own) (g .size) (cells m) b 0 n (inside S b ob refl .0) ob z (S .counted);
     skips = skips-aside S b (on 0 n) out ob refl refl m (λ x s k q. refl);
-    plain = plain-aside S b (on 0 n) out ob refl refl m (λ x s k q. refl);
+    plain = plain-aside S b (on 0 n) out ob refl refl m (λ x s k q. refl) (λ s k l q. absurd (out-on q));
   }
 
 pub picks : {g : Ghost} {p hand : ℕ} {s : Lists} {m : List ℕ} → Full g p hand s m → (s .listed ≡ 0 → ⊥)
@@ -129,7 +129,7 @@ module _ (g : Ghost) (e : ℕ) (m : List ℕ) (S : Shape g e m) (l : e < cells m
     header = λ x. rw (upd-keeps isHead (g .own) e out x (sym (ap isHead new))) (S .header x);
     counted = λ t. total-same (λ c. isOn t (g .own c)) (λ c. isOn t (upd (g .own) e out c)) (cells m) (λ c _. upd-keeps (isOn t) (g .own) e out c (sym (ap (isOn t) new))) ∙ S .counted t;
     skips = skips-aside S e fresh out new refl refl m (λ x s k q. refl);
-    plain = plain-aside S e fresh out new refl refl m (λ x s k q. refl);
+    plain = plain-aside S e fresh out new refl refl m (λ x s k q. refl) (λ s k l q. absurd (out-on q));
   }
     where
       later : (c : ℕ) → (c ≡ e → ⊥) → leb e c ≡ leb (e + 1) c

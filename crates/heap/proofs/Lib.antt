@@ -6,6 +6,7 @@ pub mod Shapes
 pub mod Walks
 pub mod Pops
 pub mod Falls
+pub mod Scratches
 pub mod Since
 pub mod Parts
 pub mod Growing

@@ -11,14 +11,15 @@ use lib.ListN.{length}
 use Rattle.heap.specs.Word.{word, Put}
 use Rattle.heap.specs.Upd.{upd}
 use Rattle.heap.specs.Chain.{live, out, on}
-use Rattle.heap.specs.Shape.{Ghost, Heap, Full, NoOut, OnlyOut, target, pushed, popped, emptied, firstObject, headerMark}
+use Rattle.heap.specs.Shape.{Ghost, Heap, Full, Scratch, NoOut, isHead, OnlyOut, target, pushed, popped, emptied, firstObject, headerMark, firstUnit, sizeUnit}
 use Rattle.heap.specs.Gone.{After, Shed}
 use Rattle.heap.specs.declared.Lists.{Lists}
 use Rattle.heap.proofs.Upds.{upd-same, upd-at, upd-other}
-use Rattle.heap.proofs.Chains.{live-on, out-on, on-list, no-out, only-out}
+use Rattle.heap.proofs.Chains.{live-on, out-on, out-live, on-list, no-out, only-out}
 use Rattle.heap.proofs.Shapes.{header-of}
 use Rattle.heap.proofs.Pops.{shed-shape, shed-word, bury-shape, pop-counts, pop-step}
-use Rattle.heap.proofs.Falls.{drop-shape, drop-counts, drop-step, kill-shape, kill-counts, kill-step, quiet-counts, quiet-step}
+use Rattle.heap.proofs.Falls.{drop-shape, drop-counts, drop-step, kill-shape, kill-counts, kill-step, quiet-counts, quiet-step, true-false}
+use Rattle.heap.proofs.Scratches.{scratch, scratch-step}
 use Rattle.heap.proofs.Since.{then}
 
 -- the count of o falls to v
@@ -61,13 +62,27 @@ gives {g} {p} {hand} {c} {s} {r} {m} {m′} F o P H = let sz = upd (g .size) 0 (
       λ n. no-out (g .own) c v n (λ q. out-on (sym q)),
     )
 
+-- word 3 of a cell that is on no list becomes another
+pub clears : {g : Ghost} {p hand c v : ℕ} {s : Lists} {m m′ : List ℕ} → Full g p hand s m → g .own c ≡ out → Put m c 3 v m′ → Full g p hand s m′ × After p g m g m′
+clears {g} {p} {hand} {c} {v} {s} {m} {m′} F o P =
+    let K : Scratch g m m′ = record {
+      size = P .size;
+      there = λ x u l n. P .there x u l (λ _ q. n q);
+      aside = λ x t k n q. P .there x 3 (omega arith) (λ r _. out-on (sym o ∙ ap (g .own) (sym r) ∙ q));
+      first = λ h t. let w : word m′ h 3 ≡ word m h 3 = P .there h 3 (omega arith) (λ r _. true-false (sym t ∙ ap (λ x. isHead (g .own x)) r ∙ ap isHead o)) in
+          (ap (λ x. x % firstUnit) w, rw w (header-of (F .heap .shape) h refl t .2));
+    } in (
+      scratch F K,
+      λ g₀ m₀ R. then p g₀ m₀ g m g m′ R (scratch-step F K (λ h l. P .there h 3 (omega arith) (λ r _. out-live (sym o ∙ ap (g .own) (sym r) ∙ l)))),
+    )
+
 -- the first dead header
 pub first-dead : {g : Ghost} {p hand : ℕ} {s : Lists} {m : List ℕ} → Full g p hand s m → 0 < s .dead → (n : ℕ) × (g .size 1 ≡ suc n) × (g .own (s .work) ≡ on 1 n)
 first-dead {g} {p} {hand} {s} F l = let z : g .size 1 ≡ suc (s .dead - 1) = omega (arith, F .heap .dead) in
     (s .dead - 1, z, rw (F .heap .work) at (F .heap .shape .chains .first 1 (s .dead - 1) z))
 
 -- a dead header with no body comes off its list
-pub buries : {g : Ghost} {p : ℕ} {s : Lists} {m : List ℕ} → Full g p 0 s m → 0 < s .dead → word m (s .work) 1 ≡ 0
+pub buries : {g : Ghost} {p : ℕ} {s : Lists} {m : List ℕ} → Full g p 0 s m → 0 < s .dead → word m (s .work) 1 % sizeUnit ≡ 0
     → (g′ : Ghost) × Full g′ p 0 (record { free = s .free; listed = s .listed; edge = s .edge; work = word m (s .work) 2; dead = s .dead - 1 }) m × (g′ .own (s .work) ≡ out)
     × After p g m g′ m × (NoOut g → OnlyOut g′ (s .work))
 unfolding first-dead
@@ -97,8 +112,8 @@ buries {g} {p} {s} {m} F l w =
     )
 
 -- the first body cell b of the first dead header comes off
-pub sheds : {g : Ghost} {p n b : ℕ} {s : Lists} {m m′ : List ℕ} → Full g p 0 s m → 0 < s .dead → word m (s .work) 1 ≡ n → 0 < n → Shed m (s .work) n b m′
-    → (g′ : Ghost) × Full g′ p (target (word m′ (s .work) 0) (word m′ b 0) (word m′ b 1)) s m′ × (g′ .own b ≡ out) × After p g m g′ m′ × (NoOut g → OnlyOut g′ b)
+pub sheds : {g : Ghost} {p n b : ℕ} {s : Lists} {m m′ : List ℕ} → Full g p 0 s m → 0 < s .dead → word m (s .work) 1 % sizeUnit ≡ n → 0 < n → Shed m (s .work) n b m′
+    → (g′ : Ghost) × Full g′ p (target (word m′ (s .work) 0) (word m′ b 0) (word m′ b 1)) s m′ × (g′ .own b ≡ out) × After p g m g′ m′ × (NoOut g → OnlyOut g′ b) × (word m′ b 3 < headerMark)
 sheds {g} {p} {n} {b} {s} {m} {m′} F l w ln D =
     let S = F .heap .shape in
     let d = s .work in
@@ -108,8 +123,8 @@ sheds {g} {p} {n} {b} {s} {m} {m′} F l w ln D =
     let k : ℕ = n - 1 in
     let z : g .size (d + 2) ≡ suc k = omega (arith, h .0) in
     let P₁ : Put m d 1 k (D .mid) = D .less k (omega arith) in
-    let P₂ : Put (D .mid) d 3 (headerMark + word m (g .top (d + 2)) 2 % headerMark) m′ = rw q at (D .next) in
-    let v = word m (g .top (d + 2)) 2 % headerMark in
+    let P₂ : Put (D .mid) d 3 (headerMark + word m (g .top (d + 2)) 2 % firstUnit) m′ = rw q at (D .next) in
+    let v = word m (g .top (d + 2)) 2 % firstUnit in
     let sw = shed-word g _ m (D .mid) m′ S d (f .0) k (f .2) z P₁ P₂ in
     let ob : g .own b ≡ on (d + 2) k = rw q (S .chains .first (d + 2) k z) in
     let bw : (u : ℕ) → u < 4 → word m′ b u ≡ word m b u = λ u hu. sw b u hu (λ i r. absurd (omega (arith, on-list (sym ob ∙ r)))) in
@@ -135,6 +150,7 @@ sheds {g} {p} {n} {b} {s} {m} {m′} F l w ln D =
       upd-at (g .own) (g .top (d + 2)) out b q,
       λ g₀ m₀ R. then p g₀ m₀ g m (emptied (popped g (d + 2) k v) (g .top (d + 2))) m′ R (pop-step g _ p m m′ S (F .counts) (d + 2) k v z nl long sw),
       λ n x r. only-out (g .own) (g .top (d + 2)) n x r ∙ sym q,
+      rw (bw 3 (omega arith)) (S .plain b (d + 2) k (λ r. omega arith) ob),
     )
 
 pub object : (kind tag pay : ℕ) → kind ≡ 0 → firstObject ≤ tag → target kind tag pay ≡ suc pay
@@ -150,7 +166,7 @@ unfolding target
 no-array kind tag pay k = simp (ne-eqb kind 0 k)
 
 -- the first body cell b of the first dead header comes off and goes on the free list; what it names is in hand
-pub strips : {g : Ghost} {p n b kind tag o : ℕ} {s r : Lists} {m m₁ m₂ : List ℕ} → Full g p 0 s m → 0 < s .dead → word m (s .work) 1 ≡ n → 0 < n
+pub strips : {g : Ghost} {p n b kind tag o : ℕ} {s r : Lists} {m m₁ m₂ : List ℕ} → Full g p 0 s m → 0 < s .dead → word m (s .work) 1 % sizeUnit ≡ n → 0 < n
     → Shed m (s .work) n b m₁ → Put m₁ b 2 (s .free) m₂ → ((h : Ghost) → Heap h s m₁ → h .own b ≡ out → Heap (pushed h 0 b) r m₂)
     → kind ≡ word m₁ (s .work) 0 → tag ≡ word m₁ b 0 → o ≡ word m₁ b 1 → (g′ : Ghost) × Full g′ p (target kind tag o) r m₂ × After p g m g′ m₂ × (NoOut g → NoOut g′)
 strips {g} {p} {n} {b} {kind} {tag} {o} {s} {r} {m} {m₁} {m₂} F l w ln D P H ek et eo =

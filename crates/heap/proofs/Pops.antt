@@ -12,41 +12,41 @@ use lib.Dec.{eqb}
 use Rattle.heap.specs.Word.{word, Put}
 use Rattle.heap.specs.Upd.{upd}
 use Rattle.heap.specs.Chain.{live, out, on}
-use Rattle.heap.specs.Shape.{Ghost, Shape, Header, Counts, Step, cells, isHead, isFresh, is, popped, emptied, headerMark}
+use Rattle.heap.specs.Shape.{Ghost, Shape, Header, Counts, Step, cells, isHead, isFresh, is, popped, emptied, headerMark, firstUnit, sizeUnit}
 use Rattle.heap.proofs.Upds.{upd-same, upd-other, same?, at-upd, upd-keeps, total-upd}
-use Rattle.heap.proofs.Chains.{pop, pop-to, chains-nxt, out-live, live-on, on-list, keeps, was}
+use Rattle.heap.proofs.Chains.{pop, pop-to, chains-nxt, out-on, out-live, live-on, on-list, keeps, was}
 use Rattle.heap.proofs.Skips.{skips-aside, plain-aside, skips-keep, plain-keep}
-use Rattle.heap.proofs.Shapes.{inside, pop-counted}
+use Rattle.heap.proofs.Shapes.{inside, list-le, pop-counted}
 
 pub body-head : (a : ℕ) → eqb (a + 2) 1 ≡ false
 body-head a = ne-eqb (a + 2) 1 (λ e. omega arith)
 
 module _ (g : Ghost) (e : ℕ) (m m₁ m₂ : List ℕ) (S : Shape g e m) (d j n : ℕ) (o : g .own d ≡ on 1 j) (z : g .size (d + 2) ≡ suc n)
-    (P₁ : Put m d 1 n m₁) (P₂ : Put m₁ d 3 (headerMark + word m (g .top (d + 2)) 2 % headerMark) m₂) where
+    (P₁ : Put m d 1 n m₁) (P₂ : Put m₁ d 3 (headerMark + word m (g .top (d + 2)) 2 % firstUnit) m₂) where
   pub shed-word : (x u : ℕ) → u < 4 → ((i : ℕ) → g .own x ≡ on 1 i → (u ≡ 0) ⊎ (u ≡ 2)) → word m₂ x u ≡ word m x u
   shed-word x u l h = P₂ .there x u l (λ q r. ⊎-elim (λ (w : u ≡ 0). omega arith) (λ (w : u ≡ 2). omega arith) (h j (ap (g .own) q ∙ o))) ∙
       P₁ .there x u l (λ q r. ⊎-elim (λ (w : u ≡ 0). omega arith) (λ (w : u ≡ 2). omega arith) (h j (ap (g .own) q ∙ o)))
 
   -- the next cell, if there is one
-  shed-next : (k : ℕ) → n ≡ suc k → word m (g .top (d + 2)) 2 % headerMark ≡ word m (g .top (d + 2)) 2
+  shed-next : (k : ℕ) → n ≡ suc k → word m (g .top (d + 2)) 2 % firstUnit ≡ word m (g .top (d + 2)) 2
   shed-next k q =
       let o = S .chains .link (g .top (d + 2)) (d + 2) k (rw (← q) (S .chains .first (d + 2) n z)) in
       omega (arith, inside S (word m (g .top (d + 2)) 2) o refl .0, S .few)
 
-  pub shed-shape : Shape (emptied (popped g (d + 2) n (word m (g .top (d + 2)) 2 % headerMark)) (g .top (d + 2))) e m₂
+  pub shed-shape : Shape (emptied (popped g (d + 2) n (word m (g .top (d + 2)) 2 % firstUnit)) (g .top (d + 2))) e m₂
   shed-shape = let b = g .top (d + 2) in let ob : g .own b ≡ on (d + 2) n = S .chains .first (d + 2) n z in record {
     chains = chains-nxt _ _ _ (λ c. word m c 2) (λ c. word m₂ c 2) (λ c s k p. shed-word c 2 (omega arith) (λ i q. inr refl)) (pop-to (g .own) (g .top) (g .size)
-        (λ c. word m c 2) (S .chains) (d + 2) n z (word m b 2 % headerMark) shed-next);
+        (λ c. word m c 2) (S .chains) (d + 2) n z (word m b 2 % firstUnit) shed-next);
     few = rw (P₂ .size, P₁ .size) (S .few);
     within = rw (P₂ .size, P₁ .size) (S .within);
     low = λ c. upd-keeps isFresh (g .own) b out c (sym (ap isFresh ob)) ∙ S .low c;
     header = λ x. ⊎-elim
-        (λ (q : x ≡ d). rw (q, upd-other (g .own) b out d (λ r. omega (arith, on-list (sym o ∙ ap (g .own) r ∙ ob))), o, upd-same (g .size) (d + 2) n, upd-same (g .top) (d + 2) (word m b 2 % headerMark))
-        (P₂ .there d 1 (omega arith) (λ r s. omega arith) ∙ P₁ .here, P₂ .here))
+        (λ (q : x ≡ d). rw (q, upd-other (g .own) b out d (λ r. omega (arith, on-list (sym o ∙ ap (g .own) r ∙ ob))), o, upd-same (g .size) (d + 2) n, upd-same (g .top) (d + 2) (word m b 2 % firstUnit))
+        (omega (arith, P₂ .there d 1 (omega arith) (λ r s. omega arith), P₁ .here, z, list-le S (d + 2), S .few), omega (arith, P₂ .here), omega (arith, P₂ .here)))
         (λ (q : x ≡ d → ⊥). rw (
           upd-keeps isHead (g .own) b out x (sym (ap isHead ob ∙ body-head d)),
           upd-other (g .size) (d + 2) n (x + 2) (λ r. q (omega arith)),
-          upd-other (g .top) (d + 2) (word m b 2 % headerMark) (x + 2) (λ r. q (omega arith)),
+          upd-other (g .top) (d + 2) (word m b 2 % firstUnit) (x + 2) (λ r. q (omega arith)),
           P₂ .there x 1 (omega arith) (λ r s. q r),
           P₁ .there x 1 (omega arith) (λ r s. q r),
           P₂ .there x 3 (omega arith) (λ r s. q r),
@@ -60,7 +60,7 @@ module _ (g : Ghost) (e : ℕ) (m m₁ m₂ : List ℕ) (S : Shape g e m) (d j n
         (λ x s k l q h. keeps (g .own) (g .top) (g .size) (λ c. word m c 2) (S .chains) (d + 2) n z x s k q (λ y r. omega (arith, ap (g .size) y)));
     plain = plain-keep S (upd (g .own) b out) m₂
         (λ x s k l q. let w = was (g .own) (g .top) (g .size) (λ c. word m c 2) (S .chains) (d + 2) n z x s k q in
-        (w .0, shed-word x 3 (omega arith) (λ i r. absurd (omega (arith, on-list (sym (w .0) ∙ r))))));
+        (w .0, shed-word x 3 (omega arith) (λ i r. absurd (l (on-list (sym (w .0) ∙ r))))));
   }
 
 module _ (g : Ghost) (e : ℕ) (m : List ℕ) (S : Shape g e m) (n : ℕ) (z : g .size 1 ≡ suc n) (none : g .size (g .top 1 + 2) ≡ 0) where
@@ -74,7 +74,7 @@ module _ (g : Ghost) (e : ℕ) (m : List ℕ) (S : Shape g e m) (n : ℕ) (z : g
         (at-upd (λ w. Header (isHead w) (g .size (x + 2)) (g .top (x + 2)) (word m x 1) (word m x 3)) (g .own) b out x (λ q. rw q none) (λ q. S .header x));
     counted = pop-counted (g .own) (g .size) (cells m) b 1 n (inside S b ob refl .0) ob z (S .counted);
     skips = skips-aside S b (on 1 n) out ob refl refl m (λ x s k q. refl);
-    plain = plain-aside S b (on 1 n) out ob refl refl m (λ x s k q. refl);
+    plain = plain-aside S b (on 1 n) out ob refl refl m (λ x s k q. refl) (λ s k l q. absurd (out-on q));
   }
 
 -- the counts and the step, for a cell that comes off list t, which is no body of a live header. Of the words, those of dead headers may change, but for word 0
@@ -123,7 +123,7 @@ module _ (g : Ghost) (e p : ℕ) (m m′ : List ℕ) (S : Shape g e m) (C : Coun
   pub pop-step : Step p g m (emptied (popped g t n v) (g .top t)) m′
   unfolding b
   pop-step = record {
-    alive = λ h l. let w = was-live h l in (w, upd-other (g .size) t n (h + 2) (λ q. nolive h w (sym q)), live-word h 0 (omega arith) w, live-word h 1 (omega arith) w);
+    alive = λ h l. let w = was-live h l in (w, upd-other (g .size) t n (h + 2) (λ q. nolive h w (sym q)), live-word h 0 (omega arith) w, live-word h 1 (omega arith) w, live-word h 3 (omega arith) w);
     body = λ c a k q. let w = was-on c (a + 2) k q in (w .0, upd-other (g .aim) b 0 c (w .1), body-word c a k 0 (omega arith) (w .0), body-word c a k 1 (omega arith) (w .0));
     kept = λ c a k q l. upd-other (g .own) b out c (λ r. nolive a l (on-list (sym ob ∙ ap (g .own) (sym r) ∙ q))) ∙ q;
     roots = λ x l. upd-other (g .aim) b 0 x (λ q. omega (arith, inside S b ob refl .0));

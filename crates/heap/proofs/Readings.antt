@@ -4,8 +4,8 @@
 use mathlib.Core.Path.{_≡_, refl, sym, ap, _∙_}
 use mathlib.Core.Bool.{Bool, true, false, not}
 use mathlib.Core.List.{List}
-use mathlib.Core.Logic.{_⊎_, inl, inr, ⊎-elim}
-use Prim.Native.Nat.{ℕ, zero, suc, _+_, _-_, _≤_, _<_}
+use mathlib.Core.Logic.{_⊎_, _↔_, inl, inr, ⊎-elim}
+use Prim.Native.Nat.{ℕ, zero, suc, _+_, _-_, _%_, _≤_, _<_}
 use native.Mathlib.Nat.{zero-add}
 use native.Mathlib.Omega.{arith}
 use borrow.Author.Tests.{le-leb, leb-true}
@@ -14,7 +14,7 @@ use lib.Dec.{T, T-not, leb→le}
 use Rattle.heap.specs.Word.{word}
 use Rattle.heap.specs.Upd.{pick, total}
 use Rattle.heap.specs.Chain.{Owner, fresh, live, out, on, Chains}
-use Rattle.heap.specs.Shape.{Ghost, Shape, Full, NoOut, cells, isHead, isFresh, headerMark}
+use Rattle.heap.specs.Shape.{Ghost, Shape, Full, NoOut, cells, isHead, isFresh, headerMark, firstUnit}
 use Rattle.heap.specs.Reading.{member, _∈_, from, walk, sumOf, freeCells, occupied, isHeader, headers, bodySize, cellsOf, Once, Exact}
 use Rattle.heap.specs.declared.Lists.{Lists}
 use Rattle.heap.proofs.Upds.{same?, total-same}
@@ -155,7 +155,22 @@ module _ {g : Ghost} {p : ℕ} {s : Lists} {m : List ℕ} (F : Full g p 0 s m) (
       go n l k (unused q) = absurd (n (fresh-free h q l))
       go n l k (listed j q) = absurd (n (listed-free h j q))
       go n l k (header q) = q
-      go n l k (body a j q e) = absurd (omega (arith, S .plain h (a + 2) j (omega arith) q))
+      go n l k (body a j q e) = absurd (omega (arith, S .plain h (a + 2) j (λ r. omega arith) q))
+
+  -- A cell below the edge is a live header exactly if it has the mark.
+  pub marked-live : (c : ℕ) → c < s .edge → headerMark ≤ word m c 3 → g .own c ≡ live
+  unfolding S
+  marked-live c l w = go (use-of c)
+    where
+      go : Use (g .own) c → g .own c ≡ live
+      go (unused q) = absurd (omega (arith, leb-true (s .edge) c (sym (S .low c) ∙ ap isFresh q)))
+      go (listed k q) = absurd (omega (arith, S .plain c 0 k (λ r. omega arith) q))
+      go (header q) = q
+      go (body a k q e) = absurd (omega (arith, S .plain c (a + 2) k (λ r. omega arith) q))
+
+  pub header-iff : (c : ℕ) → (g .own c ≡ live) ↔ ((c < s .edge) × (headerMark ≤ word m c 3))
+  unfolding S
+  header-iff c = (λ l. (inside S c l refl .1, header-of S c l refl .2), λ x. marked-live c (x .0) (x .1))
 
   -- what belongs to an object is not free
   busy : (c : ℕ) → (g .own c ≡ fresh → ⊥) → ((k : ℕ) → g .own c ≡ on 0 k → ⊥) → c < cells m → c ∈ occupied s m
@@ -170,40 +185,40 @@ module _ {g : Ghost} {p : ℕ} {s : Lists} {m : List ℕ} (F : Full g p 0 s m) (
   pub live-header : (h : ℕ) → g .own h ≡ live → h ∈ headers s m
   unfolding S headers isHeader
   live-header h l = only-in (isHeader m) h (occupied s m) (live-busy h l)
-      (rw (le-leb headerMark (word m h 3) (omega (arith, header-of S h l refl .1))) tt)
+      (rw (le-leb headerMark (word m h 3) (header-of S h l refl .2)) tt)
 
   -- ---- the cells of an object
 
-  body-starts : (h : ℕ) → g .own h ≡ live → Starts m (S .chains) (h + 2) (bodySize m h) (word m h 3 - headerMark)
+  body-starts : (h : ℕ) → g .own h ≡ live → Starts m (S .chains) (h + 2) (bodySize m h) (word m h 3 % firstUnit)
   unfolding S bodySize
   body-starts h l k e = first-cell S h k l (sym (header-of S h l refl .0) ∙ e)
 
   pub cell-owned : (h c : ℕ) → g .own h ≡ live → c ∈ cellsOf m h → (c ≡ h) ⊎ ((k : ℕ) × (g .own c ≡ on (h + 2) k))
   unfolding S cellsOf
   cell-owned h c l i = ⊎-elim (λ e. inl e)
-      (λ j. let x = in-walk m (S .chains) (h + 2) (bodySize m h) (word m h 3 - headerMark) c (body-starts h l) j in inr (x .0, x .2))
-      (in-cons c h (walk m (bodySize m h) (word m h 3 - headerMark)) i)
+      (λ j. let x = in-walk m (S .chains) (h + 2) (bodySize m h) (word m h 3 % firstUnit) c (body-starts h l) j in inr (x .0, x .2))
+      (in-cons c h (walk m (bodySize m h) (word m h 3 % firstUnit)) i)
 
   pub header-cell : (h : ℕ) → h ∈ cellsOf m h
   unfolding cellsOf
-  header-cell h = here h h (walk m (bodySize m h) (word m h 3 - headerMark)) refl
+  header-cell h = here h h (walk m (bodySize m h) (word m h 3 % firstUnit)) refl
 
   pub body-cell : (h c k : ℕ) → g .own h ≡ live → g .own c ≡ on (h + 2) k → c ∈ cellsOf m h
   unfolding S cellsOf bodySize
-  body-cell h c k l q = there c h (walk m (bodySize m h) (word m h 3 - headerMark))
-      (walk-in m (S .chains) (h + 2) (bodySize m h) (word m h 3 - headerMark) c k (body-starts h l) q
+  body-cell h c k l q = there c h (walk m (bodySize m h) (word m h 3 % firstUnit))
+      (walk-in m (S .chains) (h + 2) (bodySize m h) (word m h 3 % firstUnit) c k (body-starts h l) q
       (omega (arith, S .chains .above c (h + 2) k q, header-of S h l refl .0)))
 
   once-cells : (h : ℕ) → g .own h ≡ live → Once (cellsOf m h)
   unfolding S cellsOf Once
   once-cells h l = (
-    λ i. let x = in-walk m (S .chains) (h + 2) (bodySize m h) (word m h 3 - headerMark) h (body-starts h l) i in live-on (sym l ∙ x .2),
-    once-walk m (S .chains) (h + 2) (bodySize m h) (word m h 3 - headerMark) (body-starts h l),
+    λ i. let x = in-walk m (S .chains) (h + 2) (bodySize m h) (word m h 3 % firstUnit) h (body-starts h l) i in live-on (sym l ∙ x .2),
+    once-walk m (S .chains) (h + 2) (bodySize m h) (word m h 3 % firstUnit) (body-starts h l),
   )
 
   length-cells : (h : ℕ) → length (cellsOf m h) ≡ 1 + bodySize m h
   unfolding cellsOf
-  length-cells h = omega (arith, length-walk m (bodySize m h) (word m h 3 - headerMark))
+  length-cells h = omega (arith, length-walk m (bodySize m h) (word m h 3 % firstUnit))
 
   same-owner : (h i c : ℕ) → g .own h ≡ live → g .own i ≡ live → (c ≡ h) ⊎ ((k : ℕ) × (g .own c ≡ on (h + 2) k)) → (c ≡ i) ⊎ ((k : ℕ) × (g .own c ≡ on (i + 2) k)) → h ≡ i
   same-owner h i c l l′ (inl e) (inl e′) = sym e ∙ e′

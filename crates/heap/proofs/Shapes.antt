@@ -1,6 +1,6 @@
 -- What the shape of the heap tells of one cell or one list, by projections and by sums; and a cell goes on the free list.
 -- Assumes nothing.
-use Prim.Native.Nat.{ℕ, suc, _+_, _*_, _≤_, _<_}
+use Prim.Native.Nat.{ℕ, suc, _+_, _*_, _%_, _≤_, _<_}
 use mathlib.Core.Path.{_≡_, refl, sym, ap, _∙_}
 use mathlib.Core.Bool.{Bool, true, false}
 use mathlib.Core.List.{List}
@@ -12,7 +12,7 @@ use lib.Dec.{eqb}
 use Rattle.heap.specs.Word.{word, Put}
 use Rattle.heap.specs.Upd.{pick, upd, total}
 use Rattle.heap.specs.Chain.{Owner, fresh, live, out, on}
-use Rattle.heap.specs.Shape.{Ghost, Shape, cells, isHead, isFresh, isOn, pushed, headerMark}
+use Rattle.heap.specs.Shape.{Ghost, Shape, cells, isHead, isFresh, isOn, pushed, headerMark, firstUnit, sizeUnit}
 use Rattle.heap.proofs.Upds.{upd-at, upd-other, same?, upd-keeps, total-upd, total-bound}
 use Rattle.heap.proofs.Chains.{push, out-on}
 use Rattle.heap.proofs.Skips.{skips-aside, plain-aside}
@@ -25,7 +25,7 @@ pub room : {g : Ghost} {e : ℕ} {m : List ℕ} → Shape g e m → (c : ℕ) {o
 room S c p f = omega (arith, inside S c p f .0)
 
 -- a header's words
-pub header-of : {g : Ghost} {e : ℕ} {m : List ℕ} → Shape g e m → (h : ℕ) {o : Owner} → g .own h ≡ o → isHead o ≡ true → (word m h 1 ≡ g .size (h + 2)) × (word m h 3 ≡ headerMark + g .top (h + 2))
+pub header-of : {g : Ghost} {e : ℕ} {m : List ℕ} → Shape g e m → (h : ℕ) {o : Owner} → g .own h ≡ o → isHead o ≡ true → (word m h 1 % sizeUnit ≡ g .size (h + 2)) × (word m h 3 % firstUnit ≡ g .top (h + 2)) × (headerMark ≤ word m h 3)
 header-of S h p t = rw (ap isHead p ∙ t) at (S .header h)
 
 -- what is no header has no body
@@ -81,7 +81,7 @@ pop-counted own size n b s k l o z h t = ⊎-elim
     (λ (q : t ≡ s → ⊥). rw (upd-other size s k t q) (omega (arith, h t, ap (isOn t) o ∙ on-other s t (λ r. q (sym r)), total-upd (isOn t) own n b out l)))
     (same? t s)
 
-module _ (g : Ghost) (e : ℕ) (m m′ : List ℕ) (S : Shape g e m) (c : ℕ) (o : g .own c ≡ out) (P : Put m c 2 (g .top 0) m′) where
+module _ (g : Ghost) (e : ℕ) (m m′ : List ℕ) (S : Shape g e m) (c : ℕ) (o : g .own c ≡ out) (w : word m c 3 < headerMark) (P : Put m c 2 (g .top 0) m′) where
   pub give-shape : Shape (pushed g 0 c) e m′
   give-shape = record {
     chains = push (g .own) (g .top) (g .size) (λ d. word m d 2) (λ d. word m′ d 2) (S .chains) c 0 (λ s k p. out-on (sym o ∙ p)) (P .here)
@@ -98,5 +98,6 @@ module _ (g : Ghost) (e : ℕ) (m m′ : List ℕ) (S : Shape g e m) (c : ℕ) (
     ) (S .header d);
     counted = rw (P .size) (push-counted (g .own) (g .size) (cells m) c 0 (g .size 0) (inside S c o refl .0) (λ t. ap (isOn t) o) (S .counted));
     skips = skips-aside S c out (on 0 (g .size 0)) o refl refl m′ (λ x s k q. P .there x 3 (omega arith) (λ r w. omega arith));
-    plain = plain-aside S c out (on 0 (g .size 0)) o refl refl m′ (λ x s k q. P .there x 3 (omega arith) (λ r w. omega arith));
+    plain = plain-aside S c out (on 0 (g .size 0)) o refl refl m′ (λ x s k q. P .there x 3 (omega arith) (λ r w. omega arith))
+        (λ s k n q. rw (P .there c 3 (omega arith) (λ r w. omega arith)) w);
   }

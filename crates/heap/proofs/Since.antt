@@ -44,7 +44,7 @@ module _ (p : ℕ) (g₀ : Ghost) (m₀ : List ℕ) (g : Ghost) (m : List ℕ) (
   pub then : Since p g₀ m₀ g′ m′
   then = record {
     start = R .start;
-    alive = λ h l. let a = T .alive h l in let b = R .alive h (a .0) in (b .0, a .1 ∙ b .1, a .2 ∙ b .2, a .3 ∙ b .3);
+    alive = λ h l. let a = T .alive h l in let b = R .alive h (a .0) in (b .0, a .1 ∙ b .1, a .2 ∙ b .2, a .3 ∙ b .3, a .4 ∙ b .4);
     body = λ c a k o. let q = T .body c a k o in let r = R .body c a k (q .0) in (r .0, q .1 ∙ r .1, q .2 ∙ r .2, q .3 ∙ r .3);
     kept = λ c a k o l. let l₁ = T .alive a l .0 in T .kept c a k (R .kept c a k o l₁) l₁;
     roots = roots′;
@@ -68,7 +68,7 @@ module _ (p : ℕ) (g : Ghost) (e hand : ℕ) (m : List ℕ) (S : Shape g e m) (
   pub begins : Since p g m g m
   begins = record {
     start = record { ready = λ c a k o. alive-of a k (S .chains .above c (a + 2) k o); other = C .other };
-    alive = λ h l. (l, refl, refl, refl);
+    alive = λ h l. (l, refl, refl, refl, refl);
     body = λ c a k o. (o, refl, refl, refl);
     kept = λ c a k o l. o;
     roots = λ x l. refl;

@@ -25,10 +25,10 @@ skips-keep S own m′ was stays c s k l q =
       lower = K .lower;
     })
 
--- no body cell gets the mark
+-- no cell on a list gets the mark, but for dead headers
 pub plain-keep : {g : Ghost} {e : ℕ} {m : List ℕ} → Shape g e m → (own : ℕ → Owner) (m′ : List ℕ)
-    → ((c s k : ℕ) → 2 ≤ s → own c ≡ on s k → (g .own c ≡ on s k) × (word m′ c 3 ≡ word m c 3))
-    → (c s k : ℕ) → 2 ≤ s → own c ≡ on s k → word m′ c 3 < headerMark
+    → ((c s k : ℕ) → (s ≡ 1 → ⊥) → own c ≡ on s k → (g .own c ≡ on s k) × (word m′ c 3 ≡ word m c 3))
+    → (c s k : ℕ) → (s ≡ 1 → ⊥) → own c ≡ on s k → word m′ c 3 < headerMark
 plain-keep S own m′ was c s k l q = let b = was c s k l q in rw (b .1) (S .plain c s k l (b .0))
 
 no-body : (o : Owner) (s k : ℕ) → 2 ≤ s → isBody o ≡ false → o ≡ on s k → ⊥
@@ -45,5 +45,5 @@ module _ {g : Ghost} {e : ℕ} {m : List ℕ} (S : Shape g e m) (c : ℕ) (o v :
   skips-aside = skips-keep S (upd (g .own) c v) m′ was-body
       (λ x s k l q _. upd-other (g .own) c v x (λ r. no-body o s k l fo (sym oc ∙ ap (g .own) (sym r) ∙ q)) ∙ q)
 
-  pub plain-aside : (x s k : ℕ) → 2 ≤ s → upd (g .own) c v x ≡ on s k → word m′ x 3 < headerMark
-  plain-aside = plain-keep S (upd (g .own) c v) m′ was-body
+  pub plain-aside : ((s k : ℕ) → (s ≡ 1 → ⊥) → v ≡ on s k → word m′ c 3 < headerMark) → (x s k : ℕ) → (s ≡ 1 → ⊥) → upd (g .own) c v x ≡ on s k → word m′ x 3 < headerMark
+  plain-aside new x s k n = at-upd (λ w. w ≡ on s k → word m′ x 3 < headerMark) (g .own) c v x (λ r q. rw r (new s k n q)) (λ r q. rw (same x s k q) (S .plain x s k n q))

@@ -1,12 +1,12 @@
 -- How a body is walked: by next words one rank down, by skip words some ranks down; and the skip word of a new first cell.
 -- Assumes nothing.
 use Prim.Native.Nat.{ℕ, suc, _+_, _*_, _-_, _/_, _%_, _≤_, _<_}
-use mathlib.Core.Path.{_≡_, refl, _∙_}
+use mathlib.Core.Path.{_≡_, refl, sym, _∙_}
 use mathlib.Core.List.{List}
 use native.Mathlib.Omega.{arith}
 use Rattle.heap.specs.Word.{word}
 use Rattle.heap.specs.Chain.{live, on}
-use Rattle.heap.specs.Shape.{Ghost, Shape, Skip, rankUnit, headerMark}
+use Rattle.heap.specs.Shape.{Ghost, Shape, Skip, rankUnit, headerMark, firstUnit}
 use Rattle.heap.proofs.Shapes.{inside, header-of, list-le}
 
 module _ {g : Ghost} {e : ℕ} {m : List ℕ} (S : Shape g e m) where
@@ -14,11 +14,11 @@ module _ {g : Ghost} {e : ℕ} {m : List ℕ} (S : Shape g e m) where
   pub first-of : (s k : ℕ) {first n : ℕ} → g .size s ≡ n → g .top s ≡ first → n ≡ suc k → g .own first ≡ on s k
   first-of s k z t q = rw t at (S .chains .first s k (z ∙ q))
 
-  -- word 3 of a live header, less the mark, is its body's first cell
-  pub first-is : (h : ℕ) → g .own h ≡ live → g .top (h + 2) ≡ word m h 3 - headerMark
-  first-is h l = omega (arith, header-of S h l refl .1)
+  -- the lower part of a live header's word 3 is its body's first cell
+  pub first-is : (h : ℕ) → g .own h ≡ live → g .top (h + 2) ≡ word m h 3 % firstUnit
+  first-is h l = sym (header-of S h l refl .1)
 
-  pub first-cell : (h k : ℕ) → g .own h ≡ live → g .size (h + 2) ≡ suc k → g .own (word m h 3 - headerMark) ≡ on (h + 2) k
+  pub first-cell : (h k : ℕ) → g .own h ≡ live → g .size (h + 2) ≡ suc k → g .own (word m h 3 % firstUnit) ≡ on (h + 2) k
   first-cell h k l z = first-of (h + 2) k z (first-is h l) refl
 
   -- word 2 of a body cell is the next cell

@@ -11,7 +11,7 @@ use Rattle.heap.specs.declared.Lists.{Lists}
 
 -- from g and m to g′ and m′ the object of header h is made or grows, by cells with 0 in words 0 and 1, and the others stay
 pub record Grows (h : ℕ) (g : Ghost) (m : List ℕ) (g′ : Ghost) (m′ : List ℕ) : Type 0 where
-  pub lives : (c : ℕ) → (c ≡ h → ⊥) → g .own c ≡ live → (g′ .own c ≡ live) × (g′ .size (c + 2) ≡ g .size (c + 2)) × (word m′ c 0 ≡ word m c 0) × (word m′ c 1 ≡ word m c 1)
+  pub lives : (c : ℕ) → (c ≡ h → ⊥) → g .own c ≡ live → (g′ .own c ≡ live) × (g′ .size (c + 2) ≡ g .size (c + 2)) × (word m′ c 0 ≡ word m c 0) × (word m′ c 1 ≡ word m c 1) × (word m′ c 3 ≡ word m c 3)
   pub lived : (c : ℕ) → (c ≡ h → ⊥) → g′ .own c ≡ live → g .own c ≡ live
   pub kind : g .own h ≡ live → word m′ h 0 ≡ word m h 0
   pub keeps : (c a k : ℕ) → g .own c ≡ on (a + 2) k → (g′ .own c ≡ on (a + 2) k) × (word m′ c 0 ≡ word m c 0) × (word m′ c 1 ≡ word m c 1)

@@ -6,11 +6,11 @@ use mathlib.Core.Path.{_≡_}
 use mathlib.Core.Bool.{Bool, true, false, not, _||_}
 use mathlib.Core.List.{List, [], _∷_, _++_}
 use mathlib.Core.Logic.{_⊎_}
-use Prim.Native.Nat.{ℕ, zero, suc, _+_, _-_, _<_}
+use Prim.Native.Nat.{ℕ, zero, suc, _+_, _-_, _%_, _<_}
 use lib.ListN.{length}
 use lib.Dec.{T, eqb, leb}
 use Rattle.heap.specs.Word.{word}
-use Rattle.heap.specs.Shape.{cells, headerMark}
+use Rattle.heap.specs.Shape.{cells, headerMark, firstUnit, sizeUnit}
 use Rattle.heap.specs.declared.Lists.{Lists}
 
 -- ---- lists of cells
@@ -70,13 +70,13 @@ kindOf m h = word m h 0
 
 -- How many cells it has besides the header.
 unfoldable pub bodySize : List ℕ → ℕ → ℕ
-bodySize m h = word m h 1
+bodySize m h = word m h 1 % sizeUnit
 
 unfoldable pub countOf : List ℕ → ℕ → ℕ
 countOf m h = word m h 2
 
 unfoldable pub cellsOf : List ℕ → ℕ → List ℕ
-cellsOf m h = h ∷ walk m (bodySize m h) (word m h 3 - headerMark)
+cellsOf m h = h ∷ walk m (bodySize m h) (word m h 3 % firstUnit)
 
 -- Opens every definition of this file.
 unfoldable pub reading : Unit {0}

@@ -54,13 +54,20 @@ pub record Ghost : Type 0 where
   pub size : ℕ → ℕ
   pub aim : ℕ → ℕ
 
--- what a header's word 3 has over its body's first cell, and no body cell's word 3
+-- a header's word 3 has it, and no other cell's that is on a list of body cells or of free cells
 abbrev pub headerMark : ℕ
 headerMark = 2 ^ 31
 
--- a header's words 1 and 3 are its body's size and first cell, with the mark; what is no header has no body
+-- a header's word 3 is its body's first cell in units of it, and a header's word 1 its body's size in units of the other; what is above has its own uses
+abbrev pub firstUnit : ℕ
+firstUnit = 32768
+
+abbrev pub sizeUnit : ℕ
+sizeUnit = 65536
+
+-- a header's words 1 and 3 have its body's size and first cell in their lower parts, and word 3 has the mark; what is no header has no body
 abbrev pub Header : Bool → ℕ → ℕ → ℕ → ℕ → Type 0
-Header true size top w1 w3 = (w1 ≡ size) × (w3 ≡ headerMark + top)
+Header true size top w1 w3 = (w1 % sizeUnit ≡ size) × (w3 % firstUnit ≡ top) × (headerMark ≤ w3)
 Header false size top w1 w3 = size ≡ 0
 
 -- a skip word packs a cell and its rank
@@ -72,8 +79,8 @@ pub record Skip (own : ℕ → Owner) (s k w : ℕ) : Type 0 where
   pub lands : own (w % rankUnit) ≡ on s (w / rankUnit)
   pub lower : w / rankUnit ≤ k
 
--- the lists, the headers, the skip words (word 3 of each body cell but the last, and without the mark in all), and the cells from e on, which
--- were never used
+-- the lists, the headers, the skip words (word 3 of each body cell but the last), no mark in a cell on a list but for dead headers, and the cells
+-- from e on, which were never used
 pub record Shape (g : Ghost) (e : ℕ) (m : List ℕ) : Type 0 where
   pub chains : Chains (g .own) (g .top) (g .size) (λ c. word m c 2)
   pub few : cells m ≤ 32768
@@ -82,7 +89,7 @@ pub record Shape (g : Ghost) (e : ℕ) (m : List ℕ) : Type 0 where
   pub header : (h : ℕ) → Header (isHead (g .own h)) (g .size (h + 2)) (g .top (h + 2)) (word m h 1) (word m h 3)
   pub counted : (t : ℕ) → total (λ c. isOn t (g .own c)) (cells m) ≡ g .size t
   pub skips : (c s k : ℕ) → 2 ≤ s → g .own c ≡ on s (suc k) → Skip (g .own) s k (word m c 3)
-  pub plain : (c s k : ℕ) → 2 ≤ s → g .own c ≡ on s k → word m c 3 < headerMark
+  pub plain : (c s k : ℕ) → (s ≡ 1 → ⊥) → g .own c ≡ on s k → word m c 3 < headerMark
 
 -- the same, with the lists that s holds
 pub record Heap (g : Ghost) (s : Lists) (m : List ℕ) : Type 0 where
@@ -145,9 +152,16 @@ blank = record { own = λ _. fresh; top = λ _. 0; size = λ _. 0; aim = λ _. 0
 abbrev pub Empty : Lists → Type 0
 Empty s = (m : List ℕ) (p : ℕ) → cells m ≤ 32768 → cells m ≤ p → p ≤ 65536 → Full blank p 0 s m × NoOut blank
 
+-- of the words, word 3 of headers may change above the first cell and below the mark, and word 3 of cells that are on no list
+pub record Scratch (g : Ghost) (m m′ : List ℕ) : Type 0 where
+  pub size : length m′ ≡ length m
+  pub there : (x u : ℕ) → u < 4 → (u ≡ 3 → ⊥) → word m′ x u ≡ word m x u
+  pub aside : (x s k : ℕ) → (s ≡ 1 → ⊥) → g .own x ≡ on s k → word m′ x 3 ≡ word m x 3
+  pub first : (h : ℕ) → isHead (g .own h) ≡ true → (word m′ h 3 % firstUnit ≡ word m h 3 % firstUnit) × (headerMark ≤ word m′ h 3)
+
 -- one step of a release, from g and m to g′ and m′: objects die when no place names them, and what lives stays as it is
 pub record Step (p : ℕ) (g : Ghost) (m : List ℕ) (g′ : Ghost) (m′ : List ℕ) : Type 0 where
-  pub alive : (h : ℕ) → g′ .own h ≡ live → (g .own h ≡ live) × (g′ .size (h + 2) ≡ g .size (h + 2)) × (word m′ h 0 ≡ word m h 0) × (word m′ h 1 ≡ word m h 1)
+  pub alive : (h : ℕ) → g′ .own h ≡ live → (g .own h ≡ live) × (g′ .size (h + 2) ≡ g .size (h + 2)) × (word m′ h 0 ≡ word m h 0) × (word m′ h 1 ≡ word m h 1) × (word m′ h 3 ≡ word m h 3)
   pub body : (c a k : ℕ) → g′ .own c ≡ on (a + 2) k → (g .own c ≡ on (a + 2) k) × (g′ .aim c ≡ g .aim c) × (word m′ c 0 ≡ word m c 0) × (word m′ c 1 ≡ word m c 1)
   pub kept : (c a k : ℕ) → g .own c ≡ on (a + 2) k → g .own a ≡ live → g′ .own c ≡ on (a + 2) k
   pub roots : (x : ℕ) → cells m ≤ x → g′ .aim x ≡ g .aim x

@@ -1,12 +1,13 @@
 // Arrays and strings in cells of four words, over a lent slice, each object with the number of places that name it.
 // A header is (kind, number of body cells, count, first body cell and a mark), and a body cell (tag, payload, next cell, skip word).
+// Of a header's word 1 the lower 16 bits and of its word 3 the lower 15 bits and the topmost are meant; the others may be anything.
 // The promise: where every count is exact before, it is exact after, and what is freed is what only dead objects name.
 ghost use mathlib.Core.Path.{_≡_};
-ghost use Prim.Native.Nat.{ℕ, suc, _+_, _-_, _*_, _<_, _≤_};
+ghost use Prim.Native.Nat.{ℕ, suc, _+_, _-_, _*_, _%_, _<_, _≤_};
 ghost use lib.ListN.{length};
 ghost use Rattle.heap.specs.Word.{word, Put};
 ghost use Rattle.heap.specs.Chain.{live, out, on};
-ghost use Rattle.heap.specs.Shape.{Ghost, Shape, Skip, Empty, Heap, Full, cells, headerMark};
+ghost use Rattle.heap.specs.Shape.{Ghost, Shape, Skip, Empty, Heap, Full, cells, headerMark, firstUnit, sizeUnit};
 ghost use Rattle.heap.specs.Assign.{Alives, Assigned, Target, Risen};
 ghost use Rattle.heap.specs.Grow.{Fine, FineLive, Took, Grew, Made, Filled};
 ghost use Rattle.heap.specs.Gone.{Sound, Goes, Shed, Freed};
@@ -17,8 +18,14 @@ pub const FIRST_OBJECT: u32 = 8;
 // A skip word is a cell and RANK_UNIT times its rank, the number of cells after it in its body.
 const RANK_UNIT: u32 = 65536;
 
-// A header's word 3 has it, and no body cell's.
-const HEADER_MARK: u32 = 0x8000_0000;
+// A header's word 3 has it, and no body cell's and no free cell's.
+pub const HEADER_MARK: u32 = 0x8000_0000;
+
+// A header's word 3 modulo it is the first cell of its body.
+pub const FIRST_UNIT: u32 = 32768;
+
+// A header's word 1 modulo it is the number of cells of its body.
+const SIZE_UNIT: u32 = 65536;
 
 // The lists of cells: the free cells (first, how many), the cells from `edge` on that were never used, and the dead
 // headers whose cells are still to be freed (first, how many).
@@ -66,15 +73,23 @@ pub fn put(m: &mut [u32], c: u32, w: usize, v: u32)
     m[(c as usize) * 4 + w] = v;
 }
 
+// The number of body cells of the header h.
+pub fn size(m: &[u32], h: u32) -> u32
+    requires { ⌜ h * 4 + 4 ≤ length (now m) ⌝ }
+    ensures { λ r. ⌜ r ≡ word (now (m .entry)) h 1 % sizeUnit ⌝ }
+{
+    get(m, h, 1) % SIZE_UNIT
+}
+
 // Cell i of the body of the header h: by skip words, while they do not lead past it.
 // Rules out: a link that is not followed; an element counted from the wrong end.
 pub fn seek(m: &[u32], h: u32, i: u32) -> u32
     requires { ⌜ ((g : Ghost) × (e : ℕ) × Shape g e (now m) × (g .own h ≡ live) × (i < g .size (h + 2))) ⌝ }
     ensures { λ r. ⌜ ((g : Ghost) (e : ℕ) → Shape g e (now (m .entry)) → g .own h ≡ live → (k : ℕ) → g .size (h + 2) ≡ i + suc k → g .own r ≡ on (h + 2) k) ⌝ }
 {
-    let n = get(m, h, 1);
+    let n = size(m, h);
     let rank = n - 1 - i;
-    let mut c = get(m, h, 3) - HEADER_MARK;
+    let mut c = get(m, h, 3) % FIRST_UNIT;
     let mut j = n - 1;
     while rank < j {
         let w = get(m, c, 3);
@@ -202,8 +217,8 @@ fn prepend(s: Lists, m: &mut [u32], h: u32) -> Lists
 {
     let t = take(s, m);
     let c = t.cell;
-    let first = get(m, h, 3) - HEADER_MARK;
-    let n = get(m, h, 1);
+    let first = get(m, h, 3) % FIRST_UNIT;
+    let n = size(m, h);
     let skip = skip_word(m, first, n);
     init_cell(m, c, first, skip);
     put(m, h, 3, HEADER_MARK + c);
@@ -272,7 +287,7 @@ fn reclaim(s: Lists, m: &mut [u32]) -> Lists
     ensures { λ r. ⌜ (r .listed ≡ s .listed + 1) × Goes 0 s (now (m .entry)) r (now (m .exit)) ⌝ }
 {
     let d = s.work;
-    let n = get(m, d, 1);
+    let n = size(m, d);
     if n == 0 {
         free_header(s, m)
     } else {
@@ -282,7 +297,7 @@ fn reclaim(s: Lists, m: &mut [u32]) -> Lists
 
 // The first dead header, whose body is empty, goes on the free list.
 fn free_header(s: Lists, m: &mut [u32]) -> Lists
-    requires { ⌜ Sound 0 s (now m) × (0 < s .dead) × (word (now m) (s .work) 1 ≡ 0) ⌝ }
+    requires { ⌜ Sound 0 s (now m) × (0 < s .dead) × (word (now m) (s .work) 1 % sizeUnit ≡ 0) ⌝ }
     ensures { λ r. ⌜ (r .listed ≡ s .listed + 1) × Goes 0 s (now (m .entry)) r (now (m .exit)) ⌝ }
 {
     let d = s.work;
@@ -294,12 +309,13 @@ fn free_header(s: Lists, m: &mut [u32]) -> Lists
         work: next,
         dead: s.dead - 1,
     };
+    put(m, d, 3, 0);
     free_cell(t, m, d)
 }
 
 // The first cell of the first dead header's body, which has n cells, goes on the free list, and what it names is counted down.
 fn free_body_cell(s: Lists, m: &mut [u32], n: u32) -> Lists
-    requires { ⌜ Sound 0 s (now m) × (0 < s .dead) × (word (now m) (s .work) 1 ≡ n) × (0 < n) ⌝ }
+    requires { ⌜ Sound 0 s (now m) × (0 < s .dead) × (word (now m) (s .work) 1 % sizeUnit ≡ n) × (0 < n) ⌝ }
     ensures { λ r. ⌜ (r .listed ≡ s .listed + 1) × Goes 0 s (now (m .entry)) r (now (m .exit)) ⌝ }
 {
     let d = s.work;
@@ -318,19 +334,19 @@ fn free_body_cell(s: Lists, m: &mut [u32], n: u32) -> Lists
 
 // The first cell comes off the body of the header d, which has n cells. The last cell has no next, and its word may be any.
 fn pop_body(m: &mut [u32], d: u32, n: u32) -> u32
-    requires { ⌜ (0 < n) × (d * 4 + 4 ≤ length (now m)) × (headerMark ≤ word (now m) d 3) × ((word (now m) d 3 - headerMark) * 4 + 4 ≤ length (now m)) ⌝ }
+    requires { ⌜ (0 < n) × (d * 4 + 4 ≤ length (now m)) × ((word (now m) d 3 % firstUnit) * 4 + 4 ≤ length (now m)) ⌝ }
     ensures { λ r. ⌜ Shed (now (m .entry)) d n r (now (m .exit)) ⌝ }
 {
-    let b = get(m, d, 3) - HEADER_MARK;
+    let b = get(m, d, 3) % FIRST_UNIT;
     let next = get(m, b, 2);
     put(m, d, 1, n - 1);
-    put(m, d, 3, HEADER_MARK + next % HEADER_MARK);
+    put(m, d, 3, HEADER_MARK + next % FIRST_UNIT);
     b
 }
 
-// A cell that is on no list goes on the free list.
+// A cell that is on no list and has no mark goes on the free list.
 fn free_cell(s: Lists, m: &mut [u32], c: u32) -> Lists
-    requires { ⌜ ((g : Ghost) × Heap g s (now m) × (g .own c ≡ out)) ⌝ }
+    requires { ⌜ ((g : Ghost) × Heap g s (now m) × (g .own c ≡ out) × (word (now m) c 3 < headerMark)) ⌝ }
     ensures { λ r. ⌜ Freed c s (now (m .entry)) r (now (m .exit)) ⌝ }
 {
     put(m, c, 2, s.free);

@@ -14,7 +14,7 @@ pop-body-requires c κs =
     let P = c .before .before .pre in let F = P .0 .2 in let S = F .heap .shape in let f = first-dead F (P .1) in let h = header-of S _ (f .2) refl in
     let n = c .before .before .args .n in
     let first = room S _ (S .chains .first (c .before .before .args .s .work + 2) (n - 1) (omega (arith, h .0, P .2, P .3))) refl in
-    (P .3, room S _ (f .2) refl, omega (arith, h .1), omega (arith, h .1, first))
+    (P .3, room S _ (f .2) refl, omega (arith, h .1, first))
 
 get-requires : tie.Need-get-requires
 get-requires c κs =
@@ -42,7 +42,7 @@ free-cell-requires c κs =
     let after-pop-body = c .before .before .before .before .before .before .before .before .before in
     let start = after-pop-body .before .before .before in
     let P = start .pre in
-    let X = sheds (P .0 .2) (P .1) (P .2) (P .3) (after-pop-body .pop-body .ensures) in (X .0, X .1 .heap, X .2)
+    let X = sheds (P .0 .2) (P .1) (P .2) (P .3) (after-pop-body .pop-body .ensures) in (X .0, X .1 .heap, X .2, X .5)
 
 decrement-requires : tie.Need-decrement-requires
 decrement-requires c κs =

@@ -28,7 +28,7 @@ returns c =
       P,
       refl,
       λ g H o. record {
-        shape = give-shape g _ _ _ (H .shape) _ o (rw (H .free) P);
+        shape = give-shape g _ _ _ (H .shape) _ o (s .pre .3) (rw (H .free) P);
         free = upd-same (g .top) 0 (s .args .c);
         listed = upd-same (g .size) 0 (suc (g .size 0)) ∙ rw (add-one, H .listed);
         work = upd-other (g .top) 0 _ 1 (λ q. omega arith) ∙ H .work;

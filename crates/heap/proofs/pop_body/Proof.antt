@@ -1,18 +1,15 @@
 -- `pop_body` meets its contract: the two stores that `Shed` names.
 -- Assumes nothing.
-use Prim.Native.Nat.{_-_}
+use Prim.Native.Nat.{_-_, _%_}
 use mathlib.Core.Path.{_≡_, ap}
 use native.Mathlib.Omega.{arith}
 use borrow.Author.Needs.{needs}
-use Rattle.heap.specs.Shape.{headerMark}
+use Rattle.heap.specs.Shape.{firstUnit}
 use Rattle.heap.proofs.pop_body.Statement.{statement}
 use Rattle.heap.proofs.pop_body.Tie as tie
 
 get-requires : tie.Need-get-requires
 get-requires c κs = search needs
-
-sub-b : tie.Need-sub-b
-sub-b c = search needs
 
 get-requires-2 : tie.Need-get-requires-2
 get-requires-2 c κs = search needs
@@ -40,7 +37,7 @@ returns c =
     let start = after-get .before .before .before in
     record {
       mid = after-put .put .last .0;
-      cell = ap (λ w. w - headerMark) (after-get .get .ensures);
+      cell = ap (λ w. w % firstUnit) (after-get .get .ensures);
       less = λ v e. let q : start .args .n - 1 ≡ v = omega arith in rw q at (after-put .put .ensures);
       next = rw (after-get2 .get2 .ensures) at (c .before .before .put2 .ensures);
     }
@@ -48,4 +45,4 @@ returns c =
 pub pop-body-spec : {M : Type 1} → statement M
 pop-body-spec =
     tie.close
-    (tie.spec get-requires sub-b get-requires-2 sub-put put-requires add-put put-requires-2 same-length returns)
+    (tie.spec get-requires get-requires-2 sub-put put-requires add-put put-requires-2 same-length returns)

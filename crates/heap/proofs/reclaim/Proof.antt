@@ -1,16 +1,15 @@
 -- `reclaim` meets its contract: the first dead header is freed if its body is empty, and else the first cell of its body.
 -- Assumes nothing.
 use mathlib.Core.Path.{refl}
-use native.Mathlib.Omega.{arith}
 use Rattle.heap.proofs.Shapes.{room}
 use Rattle.heap.proofs.Parts.{first-dead}
 use borrow.Author.Needs.{needs}
 use Rattle.heap.proofs.reclaim.Statement.{statement}
 use Rattle.heap.proofs.reclaim.Tie as tie
 
-get-requires : tie.Need-get-requires
-get-requires c κs =
-    let P = c .before .before .pre in (omega arith, room (P .0 .2 .heap .shape) _ (first-dead (P .0 .2) (P .1) .2) refl)
+size-requires : tie.Need-size-requires
+size-requires c κs =
+    let P = c .before .before .pre in room (P .0 .2 .heap .shape) _ (first-dead (P .0 .2) (P .1) .2) refl
 
 free-header-requires : tie.Need-free-header-requires
 free-header-requires c κs = search needs
@@ -34,7 +33,7 @@ pub reclaim-spec : {M : Type 1} → statement M
 reclaim-spec =
     tie.close
     (tie.spec
-    get-requires
+    size-requires
     free-header-requires
     free-body-cell-requires
     same-length
