@@ -6,7 +6,7 @@ use mathlib.Core.Bool.{Bool, true, false}
 use mathlib.Core.List.{List, map}
 use mathlib.Core.Logic.{_⊎_, inl, inr, ⊎-elim}
 use mathlib.Core.Option.{some}
-use Prim.Native.Nat.{ℕ, suc, _+_, _-_, _*_, _<_}
+use Prim.Native.Nat.{ℕ, suc, _+_, _-_, _*_, _%_, _<_}
 use native.Mathlib.Omega.{arith}
 use lib.ListN.{length, getD, getElem?}
 use Rattle.semantics.specs.Values.{Value, null, array, Object, elements}
@@ -14,7 +14,7 @@ use Rattle.semantics.specs.Machine as Floo
 use Rattle.semantics.specs.Machine.{object, elementsOf}
 use Rattle.heap.specs.Word.{word}
 use Rattle.heap.specs.Chain.{live, on}
-use Rattle.heap.specs.Shape.{Ghost, Shape}
+use Rattle.heap.specs.Shape.{Ghost, Shape, sizeUnit}
 use Rattle.heap.specs.declared.Lists.{Lists}
 use Rattle.heap.proofs.Shapes.{header-of}
 use Rattle.store.specs.Rep.{isText, Stands, an-array, a-procedure, by-array, objectAt}
@@ -49,7 +49,7 @@ pub record ArrayAt (w : World) (c : List ℕ) (store : List Object) (h id : ℕ)
   pub kind : word c h 0 ≡ 0
   pub whole : objectAt store (w .ρ h) ≡ elements (elementsOf (objectAt store (w .ρ h)))
   pub many : length (elementsOf (objectAt store (w .ρ h))) ≡ w .ghost .size (h + 2)
-  pub size : word c h 1 ≡ w .ghost .size (h + 2)
+  pub size : word c h 1 % sizeUnit ≡ w .ghost .size (h + 2)
 
 pub array-at : {w : World} {s : Lists} {c : List ℕ} {names : List (List ℕ)} {store : List Object} {rts : ℕ → Value}
     → Stored w s c names store rts
@@ -81,8 +81,8 @@ module _ {m : Machine} {st e d c l : List ℕ} {μ : Floo.Machine} (R : Rep m st
   pub array-item : {x : Bool} {id : ℕ} → getD (μ .stack) i null ≡ array x id → ArrayAt (R .world) c (μ .store) (getD st (2 * k + 1) 0) id
   array-item q = array-at (R .stored) (array-words q)
 
-  -- Word 1 of the header is the number of elements.
-  pub size-read : {x : Bool} {id : ℕ} → getD (μ .stack) i null ≡ array x id → word c (getD st (2 * k + 1) 0) 1 ≡ length (elementsOf (object μ id))
+  -- The lower part of word 1 of the header is the number of elements.
+  pub size-read : {x : Bool} {id : ℕ} → getD (μ .stack) i null ≡ array x id → word c (getD st (2 * k + 1) 0) 1 % sizeUnit ≡ length (elementsOf (object μ id))
   unfolding object
   size-read q =
       let A = array-item q in

@@ -40,7 +40,7 @@ pub fn size_of(m: Machine, stack: &[u32], cells: &[u32], i: usize) -> u32
 {
     let k = m.depth - 1 - i;
     let h = stack[2 * k + 1];
-    heap::get(cells, h, 1)
+    heap::size(cells, h)
 }
 
 // Item j gives way to a copy of element q of the array that is item i. The element is counted before the item is let go: the item may be the array itself.

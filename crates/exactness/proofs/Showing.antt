@@ -5,7 +5,7 @@ use mathlib.Core.Path.{_≡_, refl, sym, ap, _∙_, subst}
 use mathlib.Core.List.{List, [], map, reverse}
 use mathlib.Core.Logic.{_↔_, ⊎-elim}
 use mathlib.Core.Option.{Option}
-use Prim.Native.Nat.{ℕ, zero, suc, _+_, _-_, _*_, _<_}
+use Prim.Native.Nat.{ℕ, zero, suc, _+_, _-_, _*_, _%_, _<_}
 use native.Mathlib.Omega.{arith}
 use lib.ListN.{length, getD, length-map, length-reverse}
 use Rattle.semantics.specs.Values.{Value, null, Object}
@@ -13,7 +13,7 @@ use Rattle.semantics.specs.Machine as Floo
 use Rattle.semantics.specs.Held.{heldCells}
 use Rattle.heap.specs.Word.{word}
 use Rattle.heap.specs.Chain.{live, on}
-use Rattle.heap.specs.Shape.{Ghost, cells, headerMark}
+use Rattle.heap.specs.Shape.{Ghost, cells, firstUnit}
 use Rattle.heap.specs.Reading.{_∈_, freeCells, headers, kindOf, bodySize, cellsOf, walk, Once, Exact}
 use Rattle.heap.proofs.Readings as Readings
 use Rattle.heap.proofs.Readings.{header-live, live-header, cell-owned}
@@ -139,7 +139,7 @@ module _ {m : Machine} {s e d c l : List ℕ} {μ : Floo.Machine} (R : Rep m s e
       let F = H .full in
       let E = Readings.exact F (H .none-dead) (H .none-out) in
       let x = place c h q in
-      let body = walk c (bodySize c h) (word c h 3 - headerMark) in
+      let body = walk c (bodySize c h) (word c h 3 % firstUnit) in
       let in-body : x ∈ body = getD-in body q (omega (arith, E .sized h i)) in
       ⊎-elim
       (λ (y : x ≡ h). absurd (E .once h i .0 (subst (λ z. z ∈ body) y in-body)))

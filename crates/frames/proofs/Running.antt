@@ -3,14 +3,14 @@
 use mathlib.Core.Path.{_≡_, refl, sym, ap, _∙_, subst}
 use mathlib.Core.Bool.{Bool, true}
 use mathlib.Core.List.{List}
-use Prim.Native.Nat.{ℕ, suc, _+_, _-_, _*_, _≤_}
+use Prim.Native.Nat.{ℕ, suc, _+_, _-_, _*_, _%_, _≤_}
 use native.Mathlib.Omega.{arith}
 use lib.ListN.{length, getD, set}
 use Rattle.semantics.specs.Values.{Value, null, array, Object}
 use Rattle.semantics.specs.Machine as Floo
 use Rattle.semantics.specs.Machine.{Frame, pending, running, elementsOf}
 use Rattle.heap.specs.Chain.{live, on}
-use Rattle.heap.specs.Shape.{Ghost, Shape}
+use Rattle.heap.specs.Shape.{Ghost, Shape, sizeUnit}
 use Rattle.heap.specs.Word.{word}
 use Rattle.heap.proofs.Shapes.{room, header-of}
 use Rattle.store.specs.Rep.{objectAt, element, Stands, a-procedure, by-array}
@@ -70,19 +70,19 @@ module _ {m : Machine} {st e d c l : List ℕ} {μ : Floo.Machine} (R : Rep m st
     pub header-room : header * 4 + 4 ≤ length c
     header-room = room shape header lives refl
 
-    pub sized : word c header 1 ≡ R .world .ghost .size (header + 2)
+    pub sized : word c header 1 % sizeUnit ≡ R .world .ghost .size (header + 2)
     sized = header-of shape header lives refl .0
 
     -- The slot's words once it runs.
     pub started : (i a b z : ℕ)
         → topValue μ ≡ array true i
-        → b ≡ word c header 1
+        → b ≡ word c header 1 % sizeUnit
         → ((r : ℕ) → b ≡ suc r → R .world .ghost .own a ≡ on (header + 2) r)
         → FrameIs (IsIn (R .world) μ) (R .world .ghost) (μ .store) (running i 0) 1 tag header a b z
     started i a b z q n own =
         let w = subst (λ v. IsIn (R .world) μ v tag header) (sym (top-value R k h) ∙ q) (words R k h) in
         let same : R .world .ρ header ≡ i = stands-names (w .stands) by-array .1 in
-        let long : length (elementsOf (objectAt (μ .store) i)) ≡ word c header 1 =
+        let long : length (elementsOf (objectAt (μ .store) i)) ≡ word c header 1 % sizeUnit =
         ap (λ j. length (elementsOf (objectAt (μ .store) j))) (sym same)
         ∙ array-length (R .stored .objects) header lives shape (procedure-tag (R .stored .objects) header lives (words R k h .stands) is) in
         a-running {k = 0} {b = b} w (omega (arith, n, long)) own
@@ -159,7 +159,7 @@ module _ {m : Machine} (e c : List ℕ) {e′ : List ℕ} (some : 1 ≤ m .frame
   -- The first cell is that of the first element, if there is one.
   pub starts : getD e (8 * (m .frames - 1) + 1) 0 ≡ 10
       → (a b : ℕ)
-      → b ≡ word c (getD e (8 * (m .frames - 1) + 2) 0) 1
+      → b ≡ word c (getD e (8 * (m .frames - 1) + 2) 0) 1 % sizeUnit
       → ((g : Ghost) (x : ℕ) → Shape g x c → g .own (getD e (8 * (m .frames - 1) + 2) 0) ≡ live → (r : ℕ) → b ≡ suc r → g .size (getD e (8 * (m .frames - 1) + 2) 0 + 2) ≡ 0 + suc r → g .own a ≡ on (getD e (8 * (m .frames - 1) + 2) 0 + 2) r)
       → Resets 1 a b m e e′
       → Starts m e e′ c

@@ -147,7 +147,7 @@ pub fn run_top(m: Machine, exec: &mut [u32], cells: &[u32])
 {
     let k = m.frames - 1;
     let h = exec[8 * k + 2];
-    let n = heap::get(cells, h, 1);
+    let n = heap::size(cells, h);
     if n == 0 {
         reset_top(m, exec, RUNNING, 0, 0);
     } else {

@@ -214,7 +214,7 @@ fn find_element(s: Lists, slots: &[u32], m: &[u32], slot: usize, i: u32) -> Elem
     if heap::get(m, h, 0) != 0 {
         return Element::Nowhere;
     }
-    if heap::get(m, h, 1) <= i {
+    if heap::size(m, h) <= i {
         return Element::Nowhere;
     }
     Element::At(heap::seek(m, h, i))

@@ -4,7 +4,7 @@
 use mathlib.Core.Path.{_≡_, refl, sym, ap, _∙_}
 use mathlib.Core.List.{List}
 use mathlib.Core.Logic.{⊎-elim, _↔_}
-use Prim.Native.Nat.{ℕ, zero, suc, _+_, _-_, _/_, _≤_, _<_}
+use Prim.Native.Nat.{ℕ, zero, suc, _+_, _-_, _/_, _%_, _≤_, _<_}
 use native.Mathlib.Omega.{arith}
 use lib.ListN.{getD}
 use Rattle.semantics.specs.Values.{Value, Object, elements, text}
@@ -12,7 +12,7 @@ use Rattle.semantics.specs.Values as values
 use Rattle.semantics.specs.Machine.{Machine, object}
 use Rattle.heap.specs.Word.{word}
 use Rattle.heap.specs.Chain.{Owner, live, on, Chains}
-use Rattle.heap.specs.Shape.{Ghost, Full, NoOut, cells, firstObject, headerMark}
+use Rattle.heap.specs.Shape.{Ghost, Full, NoOut, cells, firstObject, firstUnit, sizeUnit}
 use Rattle.heap.specs.Reading.{_∈_, walk, headers, cellsOf, countOf, kindOf, bodySize}
 use Rattle.heap.specs.declared.Lists.{Lists}
 use Rattle.heap.proofs.Shapes.{inside, header-of}
@@ -55,7 +55,7 @@ module _ {keys : List (List ℕ)} {n : ℕ} {ρ : ℕ → ℕ} {g : Ghost} {p : 
 
   place-own : (h q k : ℕ) → g .own h ≡ live → bodySize m h ≡ q + suc k → g .own (place m h q) ≡ on (h + 2) k
   unfolding place cellsOf bodySize
-  place-own h q k l e = rank-of m (F .heap .shape .chains) (h + 2) (bodySize m h) (word m h 3 - headerMark) q k
+  place-own h q k l e = rank-of m (F .heap .shape .chains) (h + 2) (bodySize m h) (word m h 3 % firstUnit) q k
       (λ j x. first-cell (F .heap .shape) h j l (sym (header-of (F .heap .shape) h l refl .0) ∙ x)) e
 
   place-is : (h q i : ℕ) → g .own h ≡ live → kindOf m h ≡ 0 → q < bodySize m h → g .own i ≡ live
@@ -64,7 +64,7 @@ module _ {keys : List (List ℕ)} {n : ℕ} {ρ : ℕ → ℕ} {g : Ghost} {p : 
   place-is h q i l w b li =
       let S = F .heap .shape in
       let c = place m h q in
-      let k : ℕ = word m h 1 - suc q in
+      let k : ℕ = word m h 1 % sizeUnit - suc q in
       let o : g .own c ≡ on (h + 2) k = place-own h q k l (omega arith) in
       let st = R .value c h k q o l w (omega (arith, header-of S h l refl .0)) in (
         λ x. names-cast _ (ap ρ (x .1)) (names-stands st (x .0)),

@@ -5,14 +5,14 @@ use mathlib.Core.Bool.{true, false}
 use mathlib.Core.List.{List, [], map}
 use mathlib.Core.Option.{some}
 use mathlib.Core.Logic.{⊎-elim}
-use Prim.Native.Nat.{ℕ, suc, _+_, _/_, _≤_}
+use Prim.Native.Nat.{ℕ, suc, _+_, _/_, _%_, _≤_}
 use native.Mathlib.Omega.{arith}
 use lib.ListN.{length, getD, getElem?, List·getD-eq-default}
 use Rattle.semantics.specs.Values.{Value, null, Object, elements, text}
 use Rattle.semantics.specs.Machine.{elementsOf, bytesOf}
 use Rattle.heap.specs.Word.{word}
 use Rattle.heap.specs.Chain.{live}
-use Rattle.heap.specs.Shape.{Ghost, Shape}
+use Rattle.heap.specs.Shape.{Ghost, Shape, sizeUnit}
 use Rattle.heap.proofs.Shapes.{header-of}
 use Rattle.heap.proofs.Falls.{true-false}
 use Rattle.store.specs.Rep.{isText, Stands, Names, objectAt, element, Rep}
@@ -51,8 +51,8 @@ module _ {keys : List (List ℕ)} {n : ℕ} {ρ : ℕ → ℕ} {g : Ghost} {m : 
       → (objectAt store (ρ h) ≡ text (bytesOf (objectAt store (ρ h)))) × (length (bytesOf (objectAt store (ρ h))) ≡ max) × (g .size (h + 2) ≡ (max + 7) / 8)
   word-text max w = let x = R .text h max l w in (text-is (objectAt store (ρ h)) (x .0), x .1, x .2)
 
-  -- An array's length is the header's word 1.
-  pub array-length : {e : ℕ} → Shape g e m → word m h 0 ≡ 0 → length (elementsOf (objectAt store (ρ h))) ≡ word m h 1
+  -- An array's length is the lower part of the header's word 1.
+  pub array-length : {e : ℕ} → Shape g e m → word m h 0 ≡ 0 → length (elementsOf (objectAt store (ρ h))) ≡ word m h 1 % sizeUnit
   array-length S w = R .array h l w .1 ∙ sym (header-of S h l refl .0)
 
   -- ---- from the tag to the word: a value whose payload is h

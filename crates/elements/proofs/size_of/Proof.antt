@@ -1,4 +1,4 @@
--- `size_of` meets its contract: word 1 of the array's header is its length (`size-read`).
+-- `size_of` meets its contract: `heap::size` of the array's header is its length (`size-read`).
 -- Assumes nothing.
 use Rattle.elements.proofs.Arrays.{array-item, size-read}
 use Rattle.heap.proofs.Shapes.{room}
@@ -26,17 +26,17 @@ mul-h-2 c = search needs
 shared-slice-read-h : tie.Need-shared-slice-read-h
 shared-slice-read-h c = search needs
 
-get-requires : tie.Need-get-requires
-get-requires c κs =
+size-requires : tie.Need-size-requires
+size-requires c κs =
     let start = c .before .before .before .before in
     let R = start .pre .1 .4 in
-    (omega arith, room (R .stored .full .heap .shape) _ (array-item R (start .args .i) _ (omega (arith, start .pre .0)) (start .pre .1 .5 .item) .lives) refl)
+    room (R .stored .full .heap .shape) _ (array-item R (start .args .i) _ (omega (arith, start .pre .0)) (start .pre .1 .5 .item) .lives) refl
 
 returns : tie.Need-returns
 returns c =
     let start = c .before .before .before .before .before in
-    record { says = λ e d l μ R x id q. c .get .ensures ∙ size-read R (start .args .i) _ (omega (arith, start .pre .0)) q }
+    record { says = λ e d l μ R x id q. c .size .ensures ∙ size-read R (start .args .i) _ (omega (arith, start .pre .0)) q }
 
 pub size-of-spec : {M : Type 1} → statement M
 size-of-spec =
-    tie.close (tie.spec sub-k sub-k-2 mul-h add-h mul-h-2 shared-slice-read-h get-requires returns)
+    tie.close (tie.spec sub-k sub-k-2 mul-h add-h mul-h-2 shared-slice-read-h size-requires returns)

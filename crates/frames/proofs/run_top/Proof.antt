@@ -23,8 +23,8 @@ mul-h-2 c = search needs
 slice-read-h : tie.Need-slice-read-h
 slice-read-h c = search needs
 
-get-requires : tie.Need-get-requires
-get-requires c κs = let R = c .before .before .before .before .pre .2 .4 in (omega arith, header-room R _ (omega (arith, c .before .before .before .before .pre .0)) (c .before .before .before .before .pre .1))
+size-requires : tie.Need-size-requires
+size-requires c κs = let R = c .before .before .before .before .pre .2 .4 in header-room R _ (omega (arith, c .before .before .before .before .pre .0)) (c .before .before .before .before .pre .1)
 
 reset-top-requires : tie.Need-reset-top-requires
 reset-top-requires c κs = search needs
@@ -35,7 +35,7 @@ seek-requires c κs = let R = c .before .before .before .before .before .before 
   _,
   shape R k (omega (arith, c .before .before .before .before .before .before .pre .0)),
   lives R k (omega (arith, c .before .before .before .before .before .before .pre .0)) (c .before .before .before .before .before .before .pre .1),
-  omega (arith, c .before .get .ensures, sized R k (omega (arith, c .before .before .before .before .before .before .pre .0)) (c .before .before .before .before .before .before .pre .1), c .if1 .left),
+  omega (arith, c .before .size .ensures, sized R k (omega (arith, c .before .before .before .before .before .before .pre .0)) (c .before .before .before .before .before .before .pre .1), c .if1 .left),
 )
 
 reset-top-requires-2 : tie.Need-reset-top-requires-2
@@ -45,13 +45,13 @@ same-length : tie.Need-same-length
 same-length c = search needs
 
 returns : tie.Need-returns
-returns c = starts _ _ (c .before .before .before .before .before .before .before .before .before .before .pre .0) (c .before .before .before .before .before .before .before .before .before .before .pre .1) 0 0 (sym (c .before .before .before .before .if1 .taken) ∙ c .before .before .before .before .before .get .ensures) (λ g x S l r z s. absurd (omega (arith, z))) (c .before .before .reset-top .ensures .0)
+returns c = starts _ _ (c .before .before .before .before .before .before .before .before .before .before .pre .0) (c .before .before .before .before .before .before .before .before .before .before .pre .1) 0 0 (sym (c .before .before .before .before .if1 .taken) ∙ c .before .before .before .before .before .size .ensures) (λ g x S l r z s. absurd (omega (arith, z))) (c .before .before .reset-top .ensures .0)
 
 same-length-2 : tie.Need-same-length-2
 same-length-2 c = search needs
 
 returns-2 : tie.Need-returns-2
-returns-2 c = starts _ _ (c .before .before .before .before .before .before .before .before .before .before .before .pre .0) (c .before .before .before .before .before .before .before .before .before .before .before .pre .1) _ _ (c .before .before .before .before .before .before .get .ensures) (λ g x S l r z s. c .before .before .before .before .seek .ensures g x S l r s) (c .before .before .reset-top2 .ensures .0)
+returns-2 c = starts _ _ (c .before .before .before .before .before .before .before .before .before .before .before .pre .0) (c .before .before .before .before .before .before .before .before .before .before .before .pre .1) _ _ (c .before .before .before .before .before .before .size .ensures) (λ g x S l r z s. c .before .before .before .before .seek .ensures g x S l r s) (c .before .before .reset-top2 .ensures .0)
 
 pub run-top-spec : {M : Type 1} → statement M
 run-top-spec =
@@ -62,7 +62,7 @@ run-top-spec =
     add-h
     mul-h-2
     slice-read-h
-    get-requires
+    size-requires
     reset-top-requires
     seek-requires
     reset-top-requires-2

@@ -32,11 +32,11 @@ get-requires c κs =
 returns-3 : tie.Need-returns-3
 returns-3 c = search needs
 
-get-requires-2 : tie.Need-get-requires-2
-get-requires-2 c κs =
+size-requires : tie.Need-size-requires
+size-requires c κs =
     let start = c .before .before .before .before .before .before .before in
     let P = start .pre in
-    (omega arith, room (P .full .heap .shape) _ (slot-lives P (start .args .slot) (omega (arith, c .before .before .before .before .if1 .left)) (omega (arith, c .before .before .if2 .left))) refl)
+    room (P .full .heap .shape) _ (slot-lives P (start .args .slot) (omega (arith, c .before .before .before .before .if1 .left)) (omega (arith, c .before .before .if2 .left))) refl
 
 returns-4 : tie.Need-returns-4
 returns-4 c = search needs
@@ -47,14 +47,14 @@ seek-requires c κs =
     let P = start .pre in
     let S = P .full .heap .shape in
     let l = slot-lives P (start .args .slot) (omega (arith, c .before .before .before .before .before .before .if1 .left)) (omega (arith, c .before .before .before .before .if2 .left)) in
-    (_, _, S, l, omega (arith, header-of S _ l refl .0, c .before .get2 .ensures, c .if4 .left))
+    (_, _, S, l, omega (arith, header-of S _ l refl .0, c .before .size .ensures, c .if4 .left))
 
 returns-5 : tie.Need-returns-5
 returns-5 c =
     let start = c .before .before .before .before .before .before .before .before .before .before in
     λ D. let S = D .full .heap .shape in
     let l = slot-lives D (start .args .slot) (omega (arith, c .before .before .before .before .before .before .before .if1 .left)) (omega (arith, c .before .before .before .before .before .if2 .left)) in
-    element-at D _ _ _ l (sym (c .before .before .before .before .get .ensures) ∙ c .before .before .before .if3 .left) (omega (arith, header-of S _ l refl .0, c .before .before .get2 .ensures, c .before .if4 .left)) (c .seek .ensures)
+    element-at D _ _ _ l (sym (c .before .before .before .before .get .ensures) ∙ c .before .before .before .if3 .left) (omega (arith, header-of S _ l refl .0, c .before .before .size .ensures, c .before .if4 .left)) (c .seek .ensures)
 
 pub find-element-spec : {M : Type 1} → statement M
 find-element-spec =
@@ -67,7 +67,7 @@ find-element-spec =
     sub-h
     get-requires
     returns-3
-    get-requires-2
+    size-requires
     returns-4
     seek-requires
     returns-5)
