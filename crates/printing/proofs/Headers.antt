@@ -11,6 +11,7 @@ use Rattle.semantics.specs.Machine as Floo
 use Rattle.semantics.specs.Machine.{object, elementsOf, bytesOf}
 use Rattle.heap.specs.Word.{word}
 use Rattle.heap.specs.Chain.{on}
+use Rattle.heap.specs.Shape.{sizeUnit}
 use Rattle.heap.proofs.Shapes.{room}
 use Rattle.store.specs.Rep.{Stands, byteOf, objectAt}
 use Rattle.store.proofs.Elements.{element-read, body-alives}
@@ -65,15 +66,15 @@ module _ {m : Machine} {st e d c l : List ℕ} {μ : Floo.Machine} (R : Rep m st
     array-here : ArrayAt (R .world) c (μ .store) h id
     array-here = array-at (R .stored) I
 
-    -- Word 1 is the number of elements.
-    pub count-is : word c h 1 ≡ length (elementsOf (object μ id))
+    -- The lower part of word 1 is the number of elements.
+    pub count-is : word c h 1 % sizeUnit ≡ length (elementsOf (object μ id))
     unfolding object
     count-is = array-here .size ∙ sym (array-here .many) ∙ ap (λ j. length (elementsOf (objectAt (μ .store) j))) (array-here .stands)
 
     pub array-room : h * 4 + 4 ≤ length c
     array-room = room (R .stored .full .heap .shape) h (array-here .lives) refl
 
-    module _ (q : ℕ) (inside : q < word c h 1) where
+    module _ (q : ℕ) (inside : q < word c h 1 % sizeUnit) where
       abbrev after : ℕ
       after = R .world .ghost .size (h + 2) - suc q
 

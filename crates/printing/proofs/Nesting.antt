@@ -3,7 +3,7 @@
 use mathlib.Core.Path.{_≡_, refl, sym, ap, _∙_, subst}
 use mathlib.Core.Bool.{Bool, true, false}
 use mathlib.Core.List.{List, [], _∷_, _++_}
-use Prim.Native.Nat.{ℕ, zero, suc, _+_, _-_, _*_, _≤_, _<_}
+use Prim.Native.Nat.{ℕ, zero, suc, _+_, _-_, _*_, _%_, _≤_, _<_}
 use native.Mathlib.Omega.{arith}
 use lib.ListN.{length, getD, set, length-set}
 use Rattle.semantics.specs.Values.{Value, null, array}
@@ -11,6 +11,7 @@ use Rattle.semantics.specs.Machine as Floo
 use Rattle.semantics.specs.Machine.{object, elementsOf}
 use Rattle.semantics.specs.Printing.{shown, echoedTo}
 use Rattle.heap.specs.Word.{word}
+use Rattle.heap.specs.Shape.{sizeUnit}
 use Rattle.store.specs.Rep.{Stands, a-null, an-integer, a-boolean, a-mark, an-operator, a-literal, an-executable, a-string, an-array, a-procedure}
 use Rattle.machine.specs.Rep.{Rep, IsIn}
 use Rattle.machine.specs.declared.Machine.{Machine}
@@ -81,7 +82,7 @@ module _ {d c : List ℕ} {t p : ℕ} (big : 9 ≤ t) {m : Machine} {s e l : Lis
   unfoldable pub members : List Value
   members = elementsOf (object μ (the-array .1))
 
-  members-size : word c p 1 ≡ length members
+  members-size : word c p 1 % sizeUnit ≡ length members
   unfolding members
   members-size = count-is R array-words
 
@@ -94,13 +95,13 @@ module _ {d c : List ℕ} {t p : ℕ} (big : 9 ≤ t) {m : Machine} {s e l : Lis
   deep-text depth z =
       ap (λ n. echoedTo n μ v) z ∙ ap (echoedTo 0 μ) (the-array .2) ∙ text-deep μ (the-array .0) (the-array .1) ∙ ap (λ k. shortText k true) (the-array .3)
 
-  none-text : (depth k : ℕ) → depth ≡ suc k → word c p 1 ≡ 0 → echoedTo depth μ v ≡ shortText t false
+  none-text : (depth k : ℕ) → depth ≡ suc k → word c p 1 % sizeUnit ≡ 0 → echoedTo depth μ v ≡ shortText t false
   unfolding members
   none-text depth k z w =
       ap (λ n. echoedTo n μ v) z ∙ ap (echoedTo (suc k) μ) (the-array .2) ∙ text-none μ (the-array .0) (the-array .1) k (sym members-size ∙ w)
       ∙ ap (λ n. shortText n false) (the-array .3)
 
-  some-text : (depth k : ℕ) → depth ≡ suc k → 0 < word c p 1 → echoedTo depth μ v ≡ openingOf t ∷ begun (echoedTo k μ) (byteAfter t) (length members) members
+  some-text : (depth k : ℕ) → depth ≡ suc k → 0 < word c p 1 % sizeUnit → echoedTo depth μ v ≡ openingOf t ∷ begun (echoedTo k μ) (byteAfter t) (length members) members
   unfolding members
   some-text depth k z w =
       ap (λ n. echoedTo n μ v) z ∙ ap (echoedTo (suc k) μ) (the-array .2) ∙ text-some μ (the-array .0) (the-array .1) k (omega (arith, w, members-size))
@@ -108,7 +109,7 @@ module _ {d c : List ℕ} {t p : ℕ} (big : 9 ≤ t) {m : Machine} {s e l : Lis
 
   -- ---- its elements' cells
 
-  module _ (i : ℕ) (inside : i < word c p 1) where
+  module _ (i : ℕ) (inside : i < word c p 1 % sizeUnit) where
     member-sought : HasCell c p i
     member-sought = cell-sought R array-words i inside
 
@@ -130,10 +131,10 @@ module _ {d c : List ℕ} {t p : ℕ} (big : 9 ≤ t) (K : Known d c t p) where
   pub size-room : p * 4 + 4 ≤ length c
   size-room = header-room big (K .rep) (K .words)
 
-  pub first-sought : 0 < word c p 1 → HasCell c p 0
+  pub first-sought : 0 < word c p 1 % sizeUnit → HasCell c p 0
   first-sought h = member-sought big (K .rep) (K .words) 0 h
 
-  module _ (i : ℕ) (inside : i < word c p 1) (cell : ℕ) (found : Found c p i cell) where
+  module _ (i : ℕ) (inside : i < word c p 1 % sizeUnit) (cell : ℕ) (found : Found c p i cell) where
     pub element-room : cell * 4 + 4 ≤ length c
     element-room = member-room big (K .rep) (K .words) i inside cell found
 
@@ -161,7 +162,7 @@ module _ {d c : List ℕ} {t p depth limit : ℕ} (big : 9 ≤ t) where
   deep-measures z h =
       record { says = λ m s e l μ R v I. h ∙ ap (λ (x : List ℕ). cut (length x) limit) (sym (deep-text big R I depth z)) }
 
-  pub none-measures : {r : ℕ} → (depth ≡ 0 → ⊥) → word c p 1 ≡ 0 → r ≡ cut 2 limit → Measures d c t p depth limit r
+  pub none-measures : {r : ℕ} → (depth ≡ 0 → ⊥) → word c p 1 % sizeUnit ≡ 0 → r ≡ cut 2 limit → Measures d c t p depth limit r
   unfolding shortText
   none-measures z w h =
       record { says = λ m s e l μ R v I. h ∙ ap (λ (x : List ℕ). cut (length x) limit) (sym (none-text big R I depth (depth - 1) (deeper depth z) w)) }
@@ -177,7 +178,7 @@ summed-begin d c t p depth = record { says = λ big m s e l μ R v I. refl }
 
 module _ {d c : List ℕ} {t p depth limit : ℕ} (big : 9 ≤ t) (z : depth ≡ 0 → ⊥) where
   -- At least an element and two brackets.
-  pub low-measures : {r : ℕ} → 0 < word c p 1 → limit < 2 → r ≡ limit → Measures d c t p depth limit r
+  pub low-measures : {r : ℕ} → 0 < word c p 1 % sizeUnit → limit < 2 → r ≡ limit → Measures d c t p depth limit r
   unfolding begun
   low-measures w low h =
       record {
@@ -189,7 +190,7 @@ module _ {d c : List ℕ} {t p depth limit : ℕ} (big : 9 ≤ t) (z : depth ≡
       }
 
   module _ {i sum : ℕ} (S : Summed d c t p depth i sum) (few : sum ≤ limit) where
-    pub summed-ends : word c p 1 ≤ i → 0 < word c p 1 → i ≤ word c p 1 → Measures d c t p depth limit sum
+    pub summed-ends : word c p 1 % sizeUnit ≤ i → 0 < word c p 1 % sizeUnit → i ≤ word c p 1 % sizeUnit → Measures d c t p depth limit sum
     summed-ends past w within =
         record {
           says = λ m s e l μ R v I.
@@ -206,7 +207,7 @@ module _ {d c : List ℕ} {t p depth limit : ℕ} (big : 9 ≤ t) (z : depth ≡
         }
 
     -- Element i takes k, or all that is left.
-    module _ (inside : i < word c p 1) (cell : ℕ) (found : Found c p i cell) {u q : ℕ} (x : u ≡ word c cell 0) (y : q ≡ word c cell 1) {k : ℕ}
+    module _ (inside : i < word c p 1 % sizeUnit) (cell : ℕ) (found : Found c p i cell) {u q : ℕ} (x : u ≡ word c cell 0) (y : q ≡ word c cell 1) {k : ℕ}
         (M : Measures d c u q (depth - 1) (limit - sum) k) where
       element-size : (m : Machine) (s e l : List ℕ) (μ : Floo.Machine) (R : Rep m s e d c l μ) (v : Value) (I : IsIn (R .world) μ v t p)
           → k ≡ cut (length (echoedTo (depth - 1) μ (getD (members big R I) i null))) (limit - sum)
@@ -249,7 +250,7 @@ module _ {d c : List ℕ} {t p depth at : ℕ} (big : 9 ≤ t) where
   pub deep-writes : {r : ℕ} {old new : List ℕ} → depth ≡ 0 → Written at (shortText t true) old new r → Writes d c t p depth at old new r
   deep-writes z w = record { says = λ m s e l μ R v I. respelt (deep-text big R I depth z) w }
 
-  pub none-writes : {r : ℕ} {old new : List ℕ} → (depth ≡ 0 → ⊥) → word c p 1 ≡ 0 → Written at (shortText t false) old new r → Writes d c t p depth at old new r
+  pub none-writes : {r : ℕ} {old new : List ℕ} → (depth ≡ 0 → ⊥) → word c p 1 % sizeUnit ≡ 0 → Written at (shortText t false) old new r → Writes d c t p depth at old new r
   none-writes z e w = record { says = λ m s e₁ l μ R v I. respelt (none-text big R I depth (depth - 1) (deeper depth z) e) w }
 
 -- After the opening bracket, the first i elements are written.
@@ -270,10 +271,10 @@ module _ {d c : List ℕ} {t p depth at : ℕ} {out : List ℕ} (big : 9 ≤ t) 
   deep-room z = omega (arith, N .fits, ap length (deep-text big (K .rep) (K .words) depth z))
 
   module _ (z : depth ≡ 0 → ⊥) where
-    pub none-room : word c p 1 ≡ 0 → at + length (shortText t false) ≤ length out
+    pub none-room : word c p 1 % sizeUnit ≡ 0 → at + length (shortText t false) ≤ length out
     none-room w = omega (arith, N .fits, ap length (none-text big (K .rep) (K .words) depth (depth - 1) (deeper depth z) w))
 
-    module _ (w : 0 < word c p 1) where
+    module _ (w : 0 < word c p 1 % sizeUnit) where
       abbrev whole : List ℕ
       whole = begun (echoedTo (depth - 1) (K .machine)) (byteAfter t) (length (members big (K .rep) (K .words))) (members big (K .rep) (K .words))
 
@@ -282,7 +283,7 @@ module _ {d c : List ℕ} {t p depth at : ℕ} {out : List ℕ} (big : 9 ≤ t) 
 
       -- An element more.
       module _ {old : List ℕ} (same : length old ≡ length out) {i : ℕ} {mid : List ℕ} {r : ℕ} (T : Listed d c t p depth i at old mid r)
-          (inside : i < word c p 1) (cell : ℕ) (found : Found c p i cell) {u q : ℕ} (x : u ≡ word c cell 0) (y : q ≡ word c cell 1) where
+          (inside : i < word c p 1 % sizeUnit) (cell : ℕ) (found : Found c p i cell) {u q : ℕ} (x : u ≡ word c cell 0) (y : q ≡ word c cell 1) where
         abbrev vs : List Value
         vs = members big (K .rep) (K .words)
 
@@ -311,7 +312,7 @@ module _ {d c : List ℕ} {t p depth at : ℕ} {out : List ℕ} (big : 9 ≤ t) 
               let words = member-words big (K .rep) (K .words) i inside cell found x y in
               omega (arith, kept, element-room′, W .says _ _ _ _ _ (K .rep) (getD vs i null) words .end)
 
-          pub listed-again : {b n : ℕ} → n ≡ word c p 1 → b ≡ byteAfter t (n - (i + 1)) → Listed d c t p depth (i + 1) at old (set mid′ r′ b) (r′ + 1)
+          pub listed-again : {b n : ℕ} → n ≡ word c p 1 % sizeUnit → b ≡ byteAfter t (n - (i + 1)) → Listed d c t p depth (i + 1) at old (set mid′ r′ b) (r′ + 1)
           listed-again {b} {n} size byte =
               record {
                 long = length-set mid′ r′ b ∙ kept ∙ T .long;
@@ -330,7 +331,7 @@ module _ {d c : List ℕ} {t p depth at : ℕ} {out : List ℕ} (big : 9 ≤ t) 
 
       pub listed-ends : {a i : ℕ} {new : List ℕ} {r : ℕ}
           → a ≡ openingOf t
-          → i ≡ word c p 1
+          → i ≡ word c p 1 % sizeUnit
           → Listed d c t p depth i at (set out at a) new r
           → Writes d c t p depth at out new r
       listed-ends {a} {i} {new} {r} bracket z′ T =

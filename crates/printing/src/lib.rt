@@ -30,7 +30,7 @@ pub fn measure(dict: &[u32], cells: &[u32], tag: u32, pay: u32, depth: u32, limi
     if depth == 0 {
         return at_most(limit, 4);
     }
-    let n = heap::get(cells, pay, 1);
+    let n = heap::size(cells, pay);
     if n == 0 {
         return at_most(limit, 2);
     }
@@ -75,7 +75,7 @@ pub fn write(
     if depth == 0 {
         return write_short(log, at, tag, true);
     }
-    let n = heap::get(cells, pay, 1);
+    let n = heap::size(cells, pay);
     if n == 0 {
         return write_short(log, at, tag, false);
     }

@@ -13,6 +13,7 @@ use borrow.Fn.PlainCycle.{Measures, is, falls, and}
 use Rattle.printing.proofs.write.Reads as write
 use Rattle.printing.proofs.write.Kinds as write-kinds
 use Rattle.printing.proofs.+write.Lts-write as write-lts
+use Rattle.heap.proofs.size.Reads as size-reads
 use Rattle.heap.proofs.get.Reads as get-reads
 use Rattle.heap.proofs.seek.Reads as seek-reads
 use Rattle.printing.proofs.byte_after.Reads as byte-after-reads
@@ -42,12 +43,14 @@ write-write-plain-requires : (t : ℕ) → write-lts.Need-write-plain-requires (
   write-plain-reads.Learnt,
   write-short-reads.Asked,
   write-short-reads.Learnt,
-  get-reads.Asked,
-  get-reads.Learnt,
+  size-reads.Asked,
+  size-reads.Learnt,
   opening-reads.Asked,
   opening-reads.Learnt,
   seek-reads.Asked,
   seek-reads.Learnt,
+  get-reads.Asked,
+  get-reads.Learnt,
   write-below t,
   write.Post,
   byte-after-reads.Asked,
@@ -60,12 +63,14 @@ write-same-length : (t : ℕ) → write-lts.Need-same-length (
   write-plain-reads.Learnt,
   write-short-reads.Asked,
   write-short-reads.Learnt,
-  get-reads.Asked,
-  get-reads.Learnt,
+  size-reads.Asked,
+  size-reads.Learnt,
   opening-reads.Asked,
   opening-reads.Learnt,
   seek-reads.Asked,
   seek-reads.Learnt,
+  get-reads.Asked,
+  get-reads.Learnt,
   write-below t,
   write.Post,
   byte-after-reads.Asked,
@@ -78,12 +83,14 @@ write-returns : (t : ℕ) → write-lts.Need-returns (
   write-plain-reads.Learnt,
   write-short-reads.Asked,
   write-short-reads.Learnt,
-  get-reads.Asked,
-  get-reads.Learnt,
+  size-reads.Asked,
+  size-reads.Learnt,
   opening-reads.Asked,
   opening-reads.Learnt,
   seek-reads.Asked,
   seek-reads.Learnt,
+  get-reads.Asked,
+  get-reads.Learnt,
   write-below t,
   write.Post,
   byte-after-reads.Asked,
@@ -96,12 +103,14 @@ write-write-short-requires : (t : ℕ) → write-lts.Need-write-short-requires (
   write-plain-reads.Learnt,
   write-short-reads.Asked,
   write-short-reads.Learnt,
-  get-reads.Asked,
-  get-reads.Learnt,
+  size-reads.Asked,
+  size-reads.Learnt,
   opening-reads.Asked,
   opening-reads.Learnt,
   seek-reads.Asked,
   seek-reads.Learnt,
+  get-reads.Asked,
+  get-reads.Learnt,
   write-below t,
   write.Post,
   byte-after-reads.Asked,
@@ -114,12 +123,14 @@ write-same-length-2 : (t : ℕ) → write-lts.Need-same-length-2 (
   write-plain-reads.Learnt,
   write-short-reads.Asked,
   write-short-reads.Learnt,
-  get-reads.Asked,
-  get-reads.Learnt,
+  size-reads.Asked,
+  size-reads.Learnt,
   opening-reads.Asked,
   opening-reads.Learnt,
   seek-reads.Asked,
   seek-reads.Learnt,
+  get-reads.Asked,
+  get-reads.Learnt,
   write-below t,
   write.Post,
   byte-after-reads.Asked,
@@ -132,12 +143,14 @@ write-returns-2 : (t : ℕ) → write-lts.Need-returns-2 (
   write-plain-reads.Learnt,
   write-short-reads.Asked,
   write-short-reads.Learnt,
-  get-reads.Asked,
-  get-reads.Learnt,
+  size-reads.Asked,
+  size-reads.Learnt,
   opening-reads.Asked,
   opening-reads.Learnt,
   seek-reads.Asked,
   seek-reads.Learnt,
+  get-reads.Asked,
+  get-reads.Learnt,
   write-below t,
   write.Post,
   byte-after-reads.Asked,
@@ -145,53 +158,59 @@ write-returns-2 : (t : ℕ) → write-lts.Need-returns-2 (
 ) (write-at t) write.Post write-Inv-loop write-μ-loop
 write-returns-2 t c = deep-writes (c .before .before .before .before .before .if1 .left) (c .before .before .before .before .if2 .taken) (c .before .before .write-short .ensures)
 
-write-get-requires : (t : ℕ) → write-lts.Need-get-requires (
+write-size-requires : (t : ℕ) → write-lts.Need-size-requires (
   write-plain-reads.Asked,
   write-plain-reads.Learnt,
   write-short-reads.Asked,
   write-short-reads.Learnt,
-  get-reads.Asked,
-  get-reads.Learnt,
+  size-reads.Asked,
+  size-reads.Learnt,
   opening-reads.Asked,
   opening-reads.Learnt,
   seek-reads.Asked,
   seek-reads.Learnt,
+  get-reads.Asked,
+  get-reads.Learnt,
   write-below t,
   write.Post,
   byte-after-reads.Asked,
   byte-after-reads.Learnt,
 ) (write-at t) write.Post write-Inv-loop write-μ-loop
-write-get-requires t c κs = (omega arith, size-room (c .before .if1 .left) (c .before .before .before .before .before .pre .1 .known))
+write-size-requires t c κs = size-room (c .before .if1 .left) (c .before .before .before .before .before .pre .1 .known)
 
 write-write-short-requires-2 : (t : ℕ) → write-lts.Need-write-short-requires-2 (
   write-plain-reads.Asked,
   write-plain-reads.Learnt,
   write-short-reads.Asked,
   write-short-reads.Learnt,
-  get-reads.Asked,
-  get-reads.Learnt,
+  size-reads.Asked,
+  size-reads.Learnt,
   opening-reads.Asked,
   opening-reads.Learnt,
   seek-reads.Asked,
   seek-reads.Learnt,
+  get-reads.Asked,
+  get-reads.Learnt,
   write-below t,
   write.Post,
   byte-after-reads.Asked,
   byte-after-reads.Learnt,
 ) (write-at t) write.Post write-Inv-loop write-μ-loop
-write-write-short-requires-2 t c κs = none-room (c .before .before .before .before .if1 .left) (c .before .before .before .before .before .before .before .before .pre .1) (c .before .before .before .if2 .left) (sym (c .before .before .get .ensures) ∙ c .before .if3 .taken)
+write-write-short-requires-2 t c κs = none-room (c .before .before .before .before .if1 .left) (c .before .before .before .before .before .before .before .before .pre .1) (c .before .before .before .if2 .left) (sym (c .before .before .size .ensures) ∙ c .before .if3 .taken)
 
 write-same-length-3 : (t : ℕ) → write-lts.Need-same-length-3 (
   write-plain-reads.Asked,
   write-plain-reads.Learnt,
   write-short-reads.Asked,
   write-short-reads.Learnt,
-  get-reads.Asked,
-  get-reads.Learnt,
+  size-reads.Asked,
+  size-reads.Learnt,
   opening-reads.Asked,
   opening-reads.Learnt,
   seek-reads.Asked,
   seek-reads.Learnt,
+  get-reads.Asked,
+  get-reads.Learnt,
   write-below t,
   write.Post,
   byte-after-reads.Asked,
@@ -204,30 +223,34 @@ write-returns-3 : (t : ℕ) → write-lts.Need-returns-3 (
   write-plain-reads.Learnt,
   write-short-reads.Asked,
   write-short-reads.Learnt,
-  get-reads.Asked,
-  get-reads.Learnt,
+  size-reads.Asked,
+  size-reads.Learnt,
   opening-reads.Asked,
   opening-reads.Learnt,
   seek-reads.Asked,
   seek-reads.Learnt,
+  get-reads.Asked,
+  get-reads.Learnt,
   write-below t,
   write.Post,
   byte-after-reads.Asked,
   byte-after-reads.Learnt,
 ) (write-at t) write.Post write-Inv-loop write-μ-loop
-write-returns-3 t c = none-writes (c .before .before .before .before .before .before .before .if1 .left) (c .before .before .before .before .before .before .if2 .left) (sym (c .before .before .before .before .before .get .ensures) ∙ c .before .before .before .before .if3 .taken) (c .before .before .write-short2 .ensures)
+write-returns-3 t c = none-writes (c .before .before .before .before .before .before .before .if1 .left) (c .before .before .before .before .before .before .if2 .left) (sym (c .before .before .before .before .before .size .ensures) ∙ c .before .before .before .before .if3 .taken) (c .before .before .write-short2 .ensures)
 
 write-opening-requires : (t : ℕ) → write-lts.Need-opening-requires (
   write-plain-reads.Asked,
   write-plain-reads.Learnt,
   write-short-reads.Asked,
   write-short-reads.Learnt,
-  get-reads.Asked,
-  get-reads.Learnt,
+  size-reads.Asked,
+  size-reads.Learnt,
   opening-reads.Asked,
   opening-reads.Learnt,
   seek-reads.Asked,
   seek-reads.Learnt,
+  get-reads.Asked,
+  get-reads.Learnt,
   write-below t,
   write.Post,
   byte-after-reads.Asked,
@@ -240,66 +263,74 @@ write-slice-write-log : (t : ℕ) → write-lts.Need-slice-write-log (
   write-plain-reads.Learnt,
   write-short-reads.Asked,
   write-short-reads.Learnt,
-  get-reads.Asked,
-  get-reads.Learnt,
+  size-reads.Asked,
+  size-reads.Learnt,
   opening-reads.Asked,
   opening-reads.Learnt,
   seek-reads.Asked,
   seek-reads.Learnt,
+  get-reads.Asked,
+  get-reads.Learnt,
   write-below t,
   write.Post,
   byte-after-reads.Asked,
   byte-after-reads.Learnt,
 ) (write-at t) write.Post write-Inv-loop write-μ-loop
-write-slice-write-log t c = omega (arith, list-room (c .before .before .before .before .if1 .left) (c .before .before .before .before .before .before .before .before .pre .1) (c .before .before .before .if2 .left) (omega (arith, c .before .before .get .ensures, c .before .if3 .left)))
+write-slice-write-log t c = omega (arith, list-room (c .before .before .before .before .if1 .left) (c .before .before .before .before .before .before .before .before .pre .1) (c .before .before .before .if2 .left) (omega (arith, c .before .before .size .ensures, c .before .if3 .left)))
 
 write-add-next : (t : ℕ) → write-lts.Need-add-next (
   write-plain-reads.Asked,
   write-plain-reads.Learnt,
   write-short-reads.Asked,
   write-short-reads.Learnt,
-  get-reads.Asked,
-  get-reads.Learnt,
+  size-reads.Asked,
+  size-reads.Learnt,
   opening-reads.Asked,
   opening-reads.Learnt,
   seek-reads.Asked,
   seek-reads.Learnt,
+  get-reads.Asked,
+  get-reads.Learnt,
   write-below t,
   write.Post,
   byte-after-reads.Asked,
   byte-after-reads.Learnt,
 ) (write-at t) write.Post write-Inv-loop write-μ-loop
-write-add-next t c = omega (arith, list-room (c .before .before .before .before .if1 .left) (c .before .before .before .before .before .before .before .before .pre .1) (c .before .before .before .if2 .left) (omega (arith, c .before .before .get .ensures, c .before .if3 .left)))
+write-add-next t c = omega (arith, list-room (c .before .before .before .before .if1 .left) (c .before .before .before .before .before .before .before .before .pre .1) (c .before .before .before .if2 .left) (omega (arith, c .before .before .size .ensures, c .before .if3 .left)))
 
 write-seek-requires : (t : ℕ) → write-lts.Need-seek-requires (
   write-plain-reads.Asked,
   write-plain-reads.Learnt,
   write-short-reads.Asked,
   write-short-reads.Learnt,
-  get-reads.Asked,
-  get-reads.Learnt,
+  size-reads.Asked,
+  size-reads.Learnt,
   opening-reads.Asked,
   opening-reads.Learnt,
   seek-reads.Asked,
   seek-reads.Learnt,
+  get-reads.Asked,
+  get-reads.Learnt,
   write-below t,
   write.Post,
   byte-after-reads.Asked,
   byte-after-reads.Learnt,
 ) (write-at t) write.Post write-Inv-loop write-μ-loop
-write-seek-requires t c κs = first-sought (c .before .before .before .before .if1 .left) (c .before .before .before .before .before .before .before .before .pre .1 .known) (omega (arith, c .before .before .get .ensures, c .before .if3 .left))
+write-seek-requires t c κs = first-sought (c .before .before .before .before .if1 .left) (c .before .before .before .before .before .before .before .before .pre .1 .known) (omega (arith, c .before .before .size .ensures, c .before .if3 .left))
 
 write-loop-holds : (t : ℕ) → write-lts.Need-loop-holds (
   write-plain-reads.Asked,
   write-plain-reads.Learnt,
   write-short-reads.Asked,
   write-short-reads.Learnt,
-  get-reads.Asked,
-  get-reads.Learnt,
+  size-reads.Asked,
+  size-reads.Learnt,
   opening-reads.Asked,
   opening-reads.Learnt,
   seek-reads.Asked,
   seek-reads.Learnt,
+  get-reads.Asked,
+  get-reads.Learnt,
   write-below t,
   write.Post,
   byte-after-reads.Asked,
@@ -307,53 +338,59 @@ write-loop-holds : (t : ℕ) → write-lts.Need-loop-holds (
 ) (write-at t) write.Post write-Inv-loop write-μ-loop
 write-loop-holds t c = (omega arith, c .seek .ensures, listed-begin _ _ _ _ _ _ _)
 
+write-get-requires : (t : ℕ) → write-lts.Need-get-requires (
+  write-plain-reads.Asked,
+  write-plain-reads.Learnt,
+  write-short-reads.Asked,
+  write-short-reads.Learnt,
+  size-reads.Asked,
+  size-reads.Learnt,
+  opening-reads.Asked,
+  opening-reads.Learnt,
+  seek-reads.Asked,
+  seek-reads.Learnt,
+  get-reads.Asked,
+  get-reads.Learnt,
+  write-below t,
+  write.Post,
+  byte-after-reads.Asked,
+  byte-after-reads.Learnt,
+) (write-at t) write.Post write-Inv-loop write-μ-loop
+write-get-requires t c κs = (omega arith, element-room (c .before .before .before .before .before .before .before .if1 .left) (c .before .before .before .before .before .before .before .before .before .before .before .pre .1 .known) (c .before .loop .i) (omega (arith, c .loop-test .taken, c .before .before .before .before .before .size .ensures)) _ (c .before .loop .inv .1))
+
 write-get-requires-2 : (t : ℕ) → write-lts.Need-get-requires-2 (
   write-plain-reads.Asked,
   write-plain-reads.Learnt,
   write-short-reads.Asked,
   write-short-reads.Learnt,
-  get-reads.Asked,
-  get-reads.Learnt,
+  size-reads.Asked,
+  size-reads.Learnt,
   opening-reads.Asked,
   opening-reads.Learnt,
   seek-reads.Asked,
   seek-reads.Learnt,
+  get-reads.Asked,
+  get-reads.Learnt,
   write-below t,
   write.Post,
   byte-after-reads.Asked,
   byte-after-reads.Learnt,
 ) (write-at t) write.Post write-Inv-loop write-μ-loop
-write-get-requires-2 t c κs = (omega arith, element-room (c .before .before .before .before .before .before .before .if1 .left) (c .before .before .before .before .before .before .before .before .before .before .before .pre .1 .known) (c .before .loop .i) (omega (arith, c .loop-test .taken, c .before .before .before .before .before .get .ensures)) _ (c .before .loop .inv .1))
-
-write-get-requires-3 : (t : ℕ) → write-lts.Need-get-requires-3 (
-  write-plain-reads.Asked,
-  write-plain-reads.Learnt,
-  write-short-reads.Asked,
-  write-short-reads.Learnt,
-  get-reads.Asked,
-  get-reads.Learnt,
-  opening-reads.Asked,
-  opening-reads.Learnt,
-  seek-reads.Asked,
-  seek-reads.Learnt,
-  write-below t,
-  write.Post,
-  byte-after-reads.Asked,
-  byte-after-reads.Learnt,
-) (write-at t) write.Post write-Inv-loop write-μ-loop
-write-get-requires-3 t c κs = (omega arith, element-room (c .before .before .before .before .before .before .before .before .if1 .left) (c .before .before .before .before .before .before .before .before .before .before .before .before .pre .1 .known) (c .before .before .loop .i) (omega (arith, c .before .loop-test .taken, c .before .before .before .before .before .before .get .ensures)) _ (c .before .before .loop .inv .1))
+write-get-requires-2 t c κs = (omega arith, element-room (c .before .before .before .before .before .before .before .before .if1 .left) (c .before .before .before .before .before .before .before .before .before .before .before .before .pre .1 .known) (c .before .before .loop .i) (omega (arith, c .before .loop-test .taken, c .before .before .before .before .before .before .size .ensures)) _ (c .before .before .loop .inv .1))
 
 write-sub-write : (t : ℕ) → write-lts.Need-sub-write (
   write-plain-reads.Asked,
   write-plain-reads.Learnt,
   write-short-reads.Asked,
   write-short-reads.Learnt,
-  get-reads.Asked,
-  get-reads.Learnt,
+  size-reads.Asked,
+  size-reads.Learnt,
   opening-reads.Asked,
   opening-reads.Learnt,
   seek-reads.Asked,
   seek-reads.Learnt,
+  get-reads.Asked,
+  get-reads.Learnt,
   write-below t,
   write.Post,
   byte-after-reads.Asked,
@@ -366,30 +403,34 @@ write-write-requires : (t : ℕ) → write-lts.Need-write-requires (
   write-plain-reads.Learnt,
   write-short-reads.Asked,
   write-short-reads.Learnt,
-  get-reads.Asked,
-  get-reads.Learnt,
+  size-reads.Asked,
+  size-reads.Learnt,
   opening-reads.Asked,
   opening-reads.Learnt,
   seek-reads.Asked,
   seek-reads.Learnt,
+  get-reads.Asked,
+  get-reads.Learnt,
   write-below t,
   write.Post,
   byte-after-reads.Asked,
   byte-after-reads.Learnt,
 ) (write-at t) write.Post write-Inv-loop write-μ-loop
-write-write-requires t c κs = (omega (arith, c .before .before .before .before .before .before .before .before .before .before .before .before .before .before .pre .0, c .before .before .before .before .before .before .before .before .before .if2 .left), element-fits (c .before .before .before .before .before .before .before .before .before .before .if1 .left) (c .before .before .before .before .before .before .before .before .before .before .before .before .before .before .pre .1) (c .before .before .before .before .before .before .before .before .before .if2 .left) (omega (arith, c .before .before .before .before .before .before .before .before .get .ensures, c .before .before .before .before .before .before .before .if3 .left)) (length-set (c .before .before .before .before .before .before .before .before .before .before .before .before .before .before .args .log .now) (c .before .before .before .before .before .before .before .before .before .before .before .before .before .before .args .at) (c .before .before .before .before .before .before .opening .result)) (c .before .before .before .before .loop .inv .2) (omega (arith, c .before .before .before .loop-test .taken, c .before .before .before .before .before .before .before .before .get .ensures)) _ (c .before .before .before .before .loop .inv .1) (c .before .before .get2 .ensures) (c .before .get3 .ensures))
+write-write-requires t c κs = (omega (arith, c .before .before .before .before .before .before .before .before .before .before .before .before .before .before .pre .0, c .before .before .before .before .before .before .before .before .before .if2 .left), element-fits (c .before .before .before .before .before .before .before .before .before .before .if1 .left) (c .before .before .before .before .before .before .before .before .before .before .before .before .before .before .pre .1) (c .before .before .before .before .before .before .before .before .before .if2 .left) (omega (arith, c .before .before .before .before .before .before .before .before .size .ensures, c .before .before .before .before .before .before .before .if3 .left)) (length-set (c .before .before .before .before .before .before .before .before .before .before .before .before .before .before .args .log .now) (c .before .before .before .before .before .before .before .before .before .before .before .before .before .before .args .at) (c .before .before .before .before .before .before .opening .result)) (c .before .before .before .before .loop .inv .2) (omega (arith, c .before .before .before .loop-test .taken, c .before .before .before .before .before .before .before .before .size .ensures)) _ (c .before .before .before .before .loop .inv .1) (c .before .before .get .ensures) (c .before .get2 .ensures))
 
 write-add-i : (t : ℕ) → write-lts.Need-add-i (
   write-plain-reads.Asked,
   write-plain-reads.Learnt,
   write-short-reads.Asked,
   write-short-reads.Learnt,
-  get-reads.Asked,
-  get-reads.Learnt,
+  size-reads.Asked,
+  size-reads.Learnt,
   opening-reads.Asked,
   opening-reads.Learnt,
   seek-reads.Asked,
   seek-reads.Learnt,
+  get-reads.Asked,
+  get-reads.Learnt,
   write-below t,
   write.Post,
   byte-after-reads.Asked,
@@ -402,12 +443,14 @@ write-sub-byte-after : (t : ℕ) → write-lts.Need-sub-byte-after (
   write-plain-reads.Learnt,
   write-short-reads.Asked,
   write-short-reads.Learnt,
-  get-reads.Asked,
-  get-reads.Learnt,
+  size-reads.Asked,
+  size-reads.Learnt,
   opening-reads.Asked,
   opening-reads.Learnt,
   seek-reads.Asked,
   seek-reads.Learnt,
+  get-reads.Asked,
+  get-reads.Learnt,
   write-below t,
   write.Post,
   byte-after-reads.Asked,
@@ -420,12 +463,14 @@ write-byte-after-requires : (t : ℕ) → write-lts.Need-byte-after-requires (
   write-plain-reads.Learnt,
   write-short-reads.Asked,
   write-short-reads.Learnt,
-  get-reads.Asked,
-  get-reads.Learnt,
+  size-reads.Asked,
+  size-reads.Learnt,
   opening-reads.Asked,
   opening-reads.Learnt,
   seek-reads.Asked,
   seek-reads.Learnt,
+  get-reads.Asked,
+  get-reads.Learnt,
   write-below t,
   write.Post,
   byte-after-reads.Asked,
@@ -438,66 +483,74 @@ write-slice-write-log-2 : (t : ℕ) → write-lts.Need-slice-write-log-2 (
   write-plain-reads.Learnt,
   write-short-reads.Asked,
   write-short-reads.Learnt,
-  get-reads.Asked,
-  get-reads.Learnt,
+  size-reads.Asked,
+  size-reads.Learnt,
   opening-reads.Asked,
   opening-reads.Learnt,
   seek-reads.Asked,
   seek-reads.Learnt,
+  get-reads.Asked,
+  get-reads.Learnt,
   write-below t,
   write.Post,
   byte-after-reads.Asked,
   byte-after-reads.Learnt,
 ) (write-at t) write.Post write-Inv-loop write-μ-loop
-write-slice-write-log-2 t c = after-fits (c .before .before .before .before .before .before .before .before .before .before .before .before .before .before .if1 .left) (c .before .before .before .before .before .before .before .before .before .before .before .before .before .before .before .before .before .before .pre .1) (c .before .before .before .before .before .before .before .before .before .before .before .before .before .if2 .left) (omega (arith, c .before .before .before .before .before .before .before .before .before .before .before .before .get .ensures, c .before .before .before .before .before .before .before .before .before .before .before .if3 .left)) (length-set (c .before .before .before .before .before .before .before .before .before .before .before .before .before .before .before .before .before .before .args .log .now) (c .before .before .before .before .before .before .before .before .before .before .before .before .before .before .before .before .before .before .args .at) (c .before .before .before .before .before .before .before .before .before .before .opening .result)) (c .before .before .before .before .before .before .before .before .loop .inv .2) (omega (arith, c .before .before .before .before .before .before .before .loop-test .taken, c .before .before .before .before .before .before .before .before .before .before .before .before .get .ensures)) _ (c .before .before .before .before .before .before .before .before .loop .inv .1) (c .before .before .before .before .before .before .get2 .ensures) (c .before .before .before .before .before .get3 .ensures) (c .before .before .before .write .ensures) (c .before .before .before .write .kept .1 .1 .0)
+write-slice-write-log-2 t c = after-fits (c .before .before .before .before .before .before .before .before .before .before .before .before .before .before .if1 .left) (c .before .before .before .before .before .before .before .before .before .before .before .before .before .before .before .before .before .before .pre .1) (c .before .before .before .before .before .before .before .before .before .before .before .before .before .if2 .left) (omega (arith, c .before .before .before .before .before .before .before .before .before .before .before .before .size .ensures, c .before .before .before .before .before .before .before .before .before .before .before .if3 .left)) (length-set (c .before .before .before .before .before .before .before .before .before .before .before .before .before .before .before .before .before .before .args .log .now) (c .before .before .before .before .before .before .before .before .before .before .before .before .before .before .before .before .before .before .args .at) (c .before .before .before .before .before .before .before .before .before .before .opening .result)) (c .before .before .before .before .before .before .before .before .loop .inv .2) (omega (arith, c .before .before .before .before .before .before .before .loop-test .taken, c .before .before .before .before .before .before .before .before .before .before .before .before .size .ensures)) _ (c .before .before .before .before .before .before .before .before .loop .inv .1) (c .before .before .before .before .before .before .get .ensures) (c .before .before .before .before .before .get2 .ensures) (c .before .before .before .write .ensures) (c .before .before .before .write .kept .1 .1 .0)
 
 write-add-next-2 : (t : ℕ) → write-lts.Need-add-next-2 (
   write-plain-reads.Asked,
   write-plain-reads.Learnt,
   write-short-reads.Asked,
   write-short-reads.Learnt,
-  get-reads.Asked,
-  get-reads.Learnt,
+  size-reads.Asked,
+  size-reads.Learnt,
   opening-reads.Asked,
   opening-reads.Learnt,
   seek-reads.Asked,
   seek-reads.Learnt,
+  get-reads.Asked,
+  get-reads.Learnt,
   write-below t,
   write.Post,
   byte-after-reads.Asked,
   byte-after-reads.Learnt,
 ) (write-at t) write.Post write-Inv-loop write-μ-loop
-write-add-next-2 t c = omega (arith, after-fits (c .before .before .before .before .before .before .before .before .before .before .before .before .before .before .if1 .left) (c .before .before .before .before .before .before .before .before .before .before .before .before .before .before .before .before .before .before .pre .1) (c .before .before .before .before .before .before .before .before .before .before .before .before .before .if2 .left) (omega (arith, c .before .before .before .before .before .before .before .before .before .before .before .before .get .ensures, c .before .before .before .before .before .before .before .before .before .before .before .if3 .left)) (length-set (c .before .before .before .before .before .before .before .before .before .before .before .before .before .before .before .before .before .before .args .log .now) (c .before .before .before .before .before .before .before .before .before .before .before .before .before .before .before .before .before .before .args .at) (c .before .before .before .before .before .before .before .before .before .before .opening .result)) (c .before .before .before .before .before .before .before .before .loop .inv .2) (omega (arith, c .before .before .before .before .before .before .before .loop-test .taken, c .before .before .before .before .before .before .before .before .before .before .before .before .get .ensures)) _ (c .before .before .before .before .before .before .before .before .loop .inv .1) (c .before .before .before .before .before .before .get2 .ensures) (c .before .before .before .before .before .get3 .ensures) (c .before .before .before .write .ensures) (c .before .before .before .write .kept .1 .1 .0), c .before .before .before .write .kept .1 .1 .0, c .before .before .before .before .before .before .before .before .loop .inv .2 .long, length-set (c .before .before .before .before .before .before .before .before .before .before .before .before .before .before .before .before .before .before .args .log .now) (c .before .before .before .before .before .before .before .before .before .before .before .before .before .before .before .before .before .before .args .at) (c .before .before .before .before .before .before .before .before .before .before .opening .result))
+write-add-next-2 t c = omega (arith, after-fits (c .before .before .before .before .before .before .before .before .before .before .before .before .before .before .if1 .left) (c .before .before .before .before .before .before .before .before .before .before .before .before .before .before .before .before .before .before .pre .1) (c .before .before .before .before .before .before .before .before .before .before .before .before .before .if2 .left) (omega (arith, c .before .before .before .before .before .before .before .before .before .before .before .before .size .ensures, c .before .before .before .before .before .before .before .before .before .before .before .if3 .left)) (length-set (c .before .before .before .before .before .before .before .before .before .before .before .before .before .before .before .before .before .before .args .log .now) (c .before .before .before .before .before .before .before .before .before .before .before .before .before .before .before .before .before .before .args .at) (c .before .before .before .before .before .before .before .before .before .before .opening .result)) (c .before .before .before .before .before .before .before .before .loop .inv .2) (omega (arith, c .before .before .before .before .before .before .before .loop-test .taken, c .before .before .before .before .before .before .before .before .before .before .before .before .size .ensures)) _ (c .before .before .before .before .before .before .before .before .loop .inv .1) (c .before .before .before .before .before .before .get .ensures) (c .before .before .before .before .before .get2 .ensures) (c .before .before .before .write .ensures) (c .before .before .before .write .kept .1 .1 .0), c .before .before .before .write .kept .1 .1 .0, c .before .before .before .before .before .before .before .before .loop .inv .2 .long, length-set (c .before .before .before .before .before .before .before .before .before .before .before .before .before .before .before .before .before .before .args .log .now) (c .before .before .before .before .before .before .before .before .before .before .before .before .before .before .before .before .before .before .args .at) (c .before .before .before .before .before .before .before .before .before .before .opening .result))
 
-write-get-requires-4 : (t : ℕ) → write-lts.Need-get-requires-4 (
+write-get-requires-3 : (t : ℕ) → write-lts.Need-get-requires-3 (
   write-plain-reads.Asked,
   write-plain-reads.Learnt,
   write-short-reads.Asked,
   write-short-reads.Learnt,
-  get-reads.Asked,
-  get-reads.Learnt,
+  size-reads.Asked,
+  size-reads.Learnt,
   opening-reads.Asked,
   opening-reads.Learnt,
   seek-reads.Asked,
   seek-reads.Learnt,
+  get-reads.Asked,
+  get-reads.Learnt,
   write-below t,
   write.Post,
   byte-after-reads.Asked,
   byte-after-reads.Learnt,
 ) (write-at t) write.Post write-Inv-loop write-μ-loop
-write-get-requires-4 t c κs = (omega arith, element-room (c .before .before .before .before .before .before .before .before .before .before .before .before .before .before .if1 .left) (c .before .before .before .before .before .before .before .before .before .before .before .before .before .before .before .before .before .before .pre .1 .known) (c .before .before .before .before .before .before .before .before .loop .i) (omega (arith, c .before .before .before .before .before .before .before .loop-test .taken, c .before .before .before .before .before .before .before .before .before .before .before .before .get .ensures)) _ (c .before .before .before .before .before .before .before .before .loop .inv .1))
+write-get-requires-3 t c κs = (omega arith, element-room (c .before .before .before .before .before .before .before .before .before .before .before .before .before .before .if1 .left) (c .before .before .before .before .before .before .before .before .before .before .before .before .before .before .before .before .before .before .pre .1 .known) (c .before .before .before .before .before .before .before .before .loop .i) (omega (arith, c .before .before .before .before .before .before .before .loop-test .taken, c .before .before .before .before .before .before .before .before .before .before .before .before .size .ensures)) _ (c .before .before .before .before .before .before .before .before .loop .inv .1))
 
 write-loop-less : (t : ℕ) → write-lts.Need-loop-less (
   write-plain-reads.Asked,
   write-plain-reads.Learnt,
   write-short-reads.Asked,
   write-short-reads.Learnt,
-  get-reads.Asked,
-  get-reads.Learnt,
+  size-reads.Asked,
+  size-reads.Learnt,
   opening-reads.Asked,
   opening-reads.Learnt,
   seek-reads.Asked,
   seek-reads.Learnt,
+  get-reads.Asked,
+  get-reads.Learnt,
   write-below t,
   write.Post,
   byte-after-reads.Asked,
@@ -510,30 +563,34 @@ write-loop-again : (t : ℕ) → write-lts.Need-loop-again (
   write-plain-reads.Learnt,
   write-short-reads.Asked,
   write-short-reads.Learnt,
-  get-reads.Asked,
-  get-reads.Learnt,
+  size-reads.Asked,
+  size-reads.Learnt,
   opening-reads.Asked,
   opening-reads.Learnt,
   seek-reads.Asked,
   seek-reads.Learnt,
+  get-reads.Asked,
+  get-reads.Learnt,
   write-below t,
   write.Post,
   byte-after-reads.Asked,
   byte-after-reads.Learnt,
 ) (write-at t) write.Post write-Inv-loop write-μ-loop
-write-loop-again t c = (omega (arith, c .before .before .before .before .before .before .before .before .loop-test .taken), found-after _ _ _ _ _ (c .before .before .before .before .before .before .before .before .before .loop .inv .1) (c .get4 .ensures), listed-again (c .before .before .before .before .before .before .before .before .before .before .before .before .before .before .before .if1 .left) (c .before .before .before .before .before .before .before .before .before .before .before .before .before .before .before .before .before .before .before .pre .1) (c .before .before .before .before .before .before .before .before .before .before .before .before .before .before .if2 .left) (omega (arith, c .before .before .before .before .before .before .before .before .before .before .before .before .before .get .ensures, c .before .before .before .before .before .before .before .before .before .before .before .before .if3 .left)) (length-set (c .before .before .before .before .before .before .before .before .before .before .before .before .before .before .before .before .before .before .before .args .log .now) (c .before .before .before .before .before .before .before .before .before .before .before .before .before .before .before .before .before .before .before .args .at) (c .before .before .before .before .before .before .before .before .before .before .before .opening .result)) (c .before .before .before .before .before .before .before .before .before .loop .inv .2) (omega (arith, c .before .before .before .before .before .before .before .before .loop-test .taken, c .before .before .before .before .before .before .before .before .before .before .before .before .before .get .ensures)) _ (c .before .before .before .before .before .before .before .before .before .loop .inv .1) (c .before .before .before .before .before .before .before .get2 .ensures) (c .before .before .before .before .before .before .get3 .ensures) (c .before .before .before .before .write .ensures) (c .before .before .before .before .write .kept .1 .1 .0) (c .before .before .before .before .before .before .before .before .before .before .before .before .before .get .ensures) (c .before .byte-after .ensures))
+write-loop-again t c = (omega (arith, c .before .before .before .before .before .before .before .before .loop-test .taken), found-after _ _ _ _ _ (c .before .before .before .before .before .before .before .before .before .loop .inv .1) (c .get3 .ensures), listed-again (c .before .before .before .before .before .before .before .before .before .before .before .before .before .before .before .if1 .left) (c .before .before .before .before .before .before .before .before .before .before .before .before .before .before .before .before .before .before .before .pre .1) (c .before .before .before .before .before .before .before .before .before .before .before .before .before .before .if2 .left) (omega (arith, c .before .before .before .before .before .before .before .before .before .before .before .before .before .size .ensures, c .before .before .before .before .before .before .before .before .before .before .before .before .if3 .left)) (length-set (c .before .before .before .before .before .before .before .before .before .before .before .before .before .before .before .before .before .before .before .args .log .now) (c .before .before .before .before .before .before .before .before .before .before .before .before .before .before .before .before .before .before .before .args .at) (c .before .before .before .before .before .before .before .before .before .before .before .opening .result)) (c .before .before .before .before .before .before .before .before .before .loop .inv .2) (omega (arith, c .before .before .before .before .before .before .before .before .loop-test .taken, c .before .before .before .before .before .before .before .before .before .before .before .before .before .size .ensures)) _ (c .before .before .before .before .before .before .before .before .before .loop .inv .1) (c .before .before .before .before .before .before .before .get .ensures) (c .before .before .before .before .before .before .get2 .ensures) (c .before .before .before .before .write .ensures) (c .before .before .before .before .write .kept .1 .1 .0) (c .before .before .before .before .before .before .before .before .before .before .before .before .before .size .ensures) (c .before .byte-after .ensures))
 
 write-same-length-4 : (t : ℕ) → write-lts.Need-same-length-4 (
   write-plain-reads.Asked,
   write-plain-reads.Learnt,
   write-short-reads.Asked,
   write-short-reads.Learnt,
-  get-reads.Asked,
-  get-reads.Learnt,
+  size-reads.Asked,
+  size-reads.Learnt,
   opening-reads.Asked,
   opening-reads.Learnt,
   seek-reads.Asked,
   seek-reads.Learnt,
+  get-reads.Asked,
+  get-reads.Learnt,
   write-below t,
   write.Post,
   byte-after-reads.Asked,
@@ -546,18 +603,20 @@ write-returns-4 : (t : ℕ) → write-lts.Need-returns-4 (
   write-plain-reads.Learnt,
   write-short-reads.Asked,
   write-short-reads.Learnt,
-  get-reads.Asked,
-  get-reads.Learnt,
+  size-reads.Asked,
+  size-reads.Learnt,
   opening-reads.Asked,
   opening-reads.Learnt,
   seek-reads.Asked,
   seek-reads.Learnt,
+  get-reads.Asked,
+  get-reads.Learnt,
   write-below t,
   write.Post,
   byte-after-reads.Asked,
   byte-after-reads.Learnt,
 ) (write-at t) write.Post write-Inv-loop write-μ-loop
-write-returns-4 t c = listed-ends (c .before .before .before .before .before .before .before .if1 .left) (c .before .before .before .before .before .before .before .before .before .before .before .pre .1) (c .before .before .before .before .before .before .if2 .left) (omega (arith, c .before .before .before .before .before .get .ensures, c .before .before .before .before .if3 .left)) (c .before .before .before .opening .ensures) (omega (arith, c .loop-test .left, c .before .loop .inv .0, c .before .before .before .before .before .get .ensures)) (c .before .loop .inv .2)
+write-returns-4 t c = listed-ends (c .before .before .before .before .before .before .before .if1 .left) (c .before .before .before .before .before .before .before .before .before .before .before .pre .1) (c .before .before .before .before .before .before .if2 .left) (omega (arith, c .before .before .before .before .before .size .ensures, c .before .before .before .before .if3 .left)) (c .before .before .before .opening .ensures) (omega (arith, c .loop-test .left, c .before .loop .inv .0, c .before .before .before .before .before .size .ensures)) (c .before .loop .inv .2)
 
 pub +write-spec : {M : Type 1} → statement M
 +write-spec = close μ-write λ t. write-lts.spec (
@@ -565,12 +624,14 @@ pub +write-spec : {M : Type 1} → statement M
   write-plain-reads.Learnt,
   write-short-reads.Asked,
   write-short-reads.Learnt,
-  get-reads.Asked,
-  get-reads.Learnt,
+  size-reads.Asked,
+  size-reads.Learnt,
   opening-reads.Asked,
   opening-reads.Learnt,
   seek-reads.Asked,
   seek-reads.Learnt,
+  get-reads.Asked,
+  get-reads.Learnt,
   write-below t,
   write.Post,
   byte-after-reads.Asked,
@@ -586,7 +647,7 @@ pub +write-spec : {M : Type 1} → statement M
     (write-write-short-requires t)
     (write-same-length-2 t)
     (write-returns-2 t)
-    (write-get-requires t)
+    (write-size-requires t)
     (write-write-short-requires-2 t)
     (write-same-length-3 t)
     (write-returns-3 t)
@@ -595,8 +656,8 @@ pub +write-spec : {M : Type 1} → statement M
     (write-add-next t)
     (write-seek-requires t)
     (write-loop-holds t)
+    (write-get-requires t)
     (write-get-requires-2 t)
-    (write-get-requires-3 t)
     (write-sub-write t)
     (write-write-requires t)
     (write-add-i t)
@@ -604,7 +665,7 @@ pub +write-spec : {M : Type 1} → statement M
     (write-byte-after-requires t)
     (write-slice-write-log-2 t)
     (write-add-next-2 t)
-    (write-get-requires-4 t)
+    (write-get-requires-3 t)
     (write-loop-less t)
     (write-loop-again t)
     (write-same-length-4 t)
