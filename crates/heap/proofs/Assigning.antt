@@ -13,46 +13,28 @@ use Rattle.heap.specs.Chain.{live, on}
 use Rattle.heap.specs.Shape.{Ghost, Shape, Counts, Full, isHead, isBody, is, target, firstObject}
 use Rattle.heap.specs.Assign.{aimed, Stored}
 use Rattle.heap.specs.declared.Lists.{Lists}
-use Rattle.heap.proofs.Upds.{same?, at-upd, total-upd, total-bound}
-use Rattle.heap.proofs.Chains.{chains-nxt, live-on, on-list}
-use Rattle.heap.proofs.Shapes.{inside, not-header, one-at-most}
+use Rattle.heap.proofs.Upds.{at-upd, total-upd, total-bound}
+use Rattle.heap.proofs.Chains.{live-on, on-list}
+use Rattle.heap.proofs.Shapes.{inside, not-header, one-at-most, keep-shape, same-words}
 use Rattle.heap.proofs.Pops.{body-head}
 use Rattle.heap.proofs.Parts.{object, no-object}
-use Rattle.heap.proofs.Falls.{is-same, is-other, true-false, body-object}
-
-module _ (g : Ghost) (e p : ℕ) (m m′ : List ℕ) (S : Shape g e m) (C : Counts g p 0 m) (o : ℕ) (l : g .own o ≡ live) (P : Put m o 2 (word m o 2 + 1) m′) where
-  rise-shape : Shape g e m′
-  rise-shape = record {
-    chains = chains-nxt _ _ _ (λ c. word m c 2) (λ c. word m′ c 2) (λ c s k q. P .there c 2 (omega arith) (λ r _. live-on (sym l ∙ ap (g .own) (sym r) ∙ q))) (S .chains);
-    few = rw (P .size) (S .few);
-    within = rw (P .size) (S .within);
-    low = S .low;
-    header = λ x. rw (P .there x 1 (omega arith) (λ q r. omega arith), P .there x 3 (omega arith) (λ q r. omega arith)) (S .header x);
-    counted = rw (P .size) (S .counted);
-    skips = λ x s k i q. rw (P .there x 3 (omega arith) (λ r t. omega arith)) (S .skips x s k i q);
-    plain = λ x s k i q. rw (P .there x 3 (omega arith) (λ r t. omega arith)) (S .plain x s k i q);
-  }
-
-  rise-counts : Counts g p (suc o) m′
-  rise-counts = record {
-    places = rw (P .size) (C .places);
-    aimed = C .aimed;
-    held = λ h q. let r : h ≡ o = omega arith in rw r l;
-    count = λ h a. ⊎-elim
-        (λ (q : h ≡ o). rw (q, P .here) (omega (arith, C .count o l, is-same o (suc o) refl, is-other o 0 (λ r. omega arith))))
-        (λ (q : h ≡ o → ⊥). rw (P .there h 2 (omega arith) (λ r _. q r)) (omega (arith, C .count h a, is-other h (suc o) (λ r. q (omega arith)), is-other h 0 (λ r. omega arith))))
-        (same? h o);
-    some = λ h a. ⊎-elim (λ (q : h ≡ o). rw (q, P .here) (omega arith)) (λ (q : h ≡ o → ⊥). rw (P .there h 2 (omega arith) (λ r _. q r)) (C .some h a)) (same? h o);
-    body = λ c a k q. rw (P .there a 0 (omega arith) (λ r s. omega arith), P .there c 0 (omega arith) (λ r s. omega arith), P .there c 1 (omega arith) (λ r s. omega arith)) (C .body c a k q);
-    other = λ c r f. C .other c (rw (P .size) at r) f;
-  }
+use Rattle.heap.proofs.Falls.{is-other, true-false, body-object, recount-shape, recount-counts, in-hand, not-in-hand}
 
 pub rises : {g : Ghost} {p o : ℕ} {s : Lists} {m m′ : List ℕ} → Full g p 0 s m → g .own o ≡ live → Put m o 2 (word m o 2 + 1) m′ → Full g p (suc o) s m′
 rises {g} {p} {o} {s} {m} {m′} F l P =
     record {
-      heap = record { shape = rise-shape g _ p m m′ (F .heap .shape) (F .counts) o l P; free = F .heap .free; listed = F .heap .listed; work = F .heap .work; dead = F .heap .dead };
-      counts = rise-counts g _ p m m′ (F .heap .shape) (F .counts) o l P;
+      heap = record { shape = recount-shape l P (F .heap .shape); free = F .heap .free; listed = F .heap .listed; work = F .heap .work; dead = F .heap .dead };
+      counts = recount-counts l P (suc o) (F .counts) (λ h q. let r : h ≡ o = omega arith in rw r l) (omega arith) (in-hand o (word m o 2 + 1) (word m o 2) (omega arith)) (not-in-hand o);
     }
+
+-- words 0 and 1 of a body cell are seen by no list and no header
+pub element-shape : {g : Ghost} {e : ℕ} {m m′ : List ℕ} (aim : ℕ → ℕ) (c a k : ℕ) → Shape g e m → g .own c ≡ on (a + 2) k → length m′ ≡ length m
+    → ((x u : ℕ) → u < 4 → (x ≡ c → (u ≡ 2) ⊎ (u ≡ 3)) → word m′ x u ≡ word m x u)
+    → Shape (record { own = g .own; top = g .top; size = g .size; aim = aim }) e m′
+element-shape {g} aim c a k S oc long same = keep-shape aim S long (λ x s j q. same x 2 (omega arith) (λ _. inl refl))
+    (λ h t. let n : h ≡ c → ⊥ = λ q. true-false (sym t ∙ ap (λ x. isHead (g .own x)) q ∙ ap isHead oc ∙ body-head a) in
+    same-words (same h 1 (omega arith) (λ q. absurd (n q))) (same h 3 (omega arith) (λ q. absurd (n q))))
+    (λ x s j n q. same x 3 (omega arith) (λ _. inr refl))
 
 -- the value in hand and the one in the cell c change places
 module _ (g : Ghost) (e p tag pay : ℕ) (m m₁ m₂ : List ℕ) (S : Shape g e m) (C : Counts g p (target 0 tag pay) m) (c a k : ℕ) (oc : g .own c ≡ on (a + 2) k) (w : word m a 0 ≡ 0)
@@ -74,18 +56,7 @@ module _ (g : Ghost) (e p tag pay : ℕ) (m m₁ m₂ : List ℕ) (S : Shape g e
   not-live h l q = live-on (sym l ∙ ap (g .own) q ∙ oc)
 
   pub swap-shape : Shape (aimed g c (target 0 tag pay)) e m₂
-  swap-shape = record {
-    chains = chains-nxt _ _ _ (λ d. word m d 2) (λ d. word m₂ d 2) (λ d s j q. same d 2 (omega arith) (λ _. inl refl)) (S .chains);
-    few = rw long (S .few);
-    within = rw long (S .within);
-    low = S .low;
-    header = λ x. ⊎-elim
-        (λ (q : x ≡ c). let f : isHead (g .own x) ≡ false = ap (λ z. isHead (g .own z)) q ∙ no-head in rw f (rw f at (S .header x)))
-        (λ (q : x ≡ c → ⊥). rw (same x 1 (omega arith) (λ r. absurd (q r)), same x 3 (omega arith) (λ r. absurd (q r))) (S .header x)) (same? x c);
-    counted = rw long (S .counted);
-    skips = λ x s j i q. rw (same x 3 (omega arith) (λ _. inr refl)) (S .skips x s j i q);
-    plain = λ x s j i q. rw (same x 3 (omega arith) (λ _. inr refl)) (S .plain x s j i q);
-  }
+  swap-shape = element-shape (aimed g c (target 0 tag pay) .aim) c a k S oc long same
 
   pub swap-counts : Counts (aimed g c (target 0 tag pay)) p (g .aim c) m₂
   swap-counts = record {

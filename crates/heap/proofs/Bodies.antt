@@ -15,7 +15,7 @@ use Rattle.heap.specs.Shape.{Ghost, Shape, Skip, Counts, Full, NoOut, On
 use Rattle.heap.specs.Grow.{Grows, Took, Filled}
 use Rattle.heap.specs.declared.Lists.{Lists}
 use Rattle.heap.proofs.Upds.{upd-same, upd-at, upd-other, same?, at-upd, upd-keeps, total-same, pick-zero}
-use Rattle.heap.proofs.Chains.{push, out-on, out-live, live-on, on-list, on-rank, no-out}
+use Rattle.heap.proofs.Chains.{push, chains-aside, out-on, out-live, live-on, on-list, on-rank, no-out}
 use Rattle.heap.proofs.Skips.{skips-aside, plain-aside}
 use Rattle.heap.proofs.Shapes.{inside, list-le, header-of, push-counted, not-header, bare}
 use Rattle.heap.proofs.Pops.{body-head}
@@ -130,12 +130,8 @@ module _ (g : Ghost) (e p : ℕ) (m m′ : List ℕ) (S : Shape g e m) (C : Coun
 
   pub head-shape : Shape born e m′
   head-shape = record {
-    chains = record {
-      above = λ c s k q. S .chains .above c s k (was-on c s k q);
-      link = λ c s k q. let b = was-on c s (suc k) q in rw (same c 2 (omega arith) (stay c b out-on .1)) (stay (word m c 2) (S .chains .link c s k b) out-on .0);
-      first = λ s k q. rw (upd-other (g .top) (h + 2) 0 s (λ r. omega (arith, ap (g .size) r, bare S h (ap isHead oh)))) (stay (g .top s) (S .chains .first s k q) out-on .0);
-      one = λ c d s k q r. S .chains .one c d s k (was-on c s k q) (was-on d s k r);
-    };
+    chains = chains-aside (g .own) (g .top) (upd (g .top) (h + 2) 0) (g .size) (λ c. word m c 2) (λ c. word m′ c 2) h live (λ s k q. out-on (sym oh ∙ q)) (λ s k q. live-on q)
+        (λ s k q. upd-other (g .top) (h + 2) 0 s (λ r. omega (arith, ap (g .size) r, bare S h (ap isHead oh)))) (λ c s k q. same c 2 (omega arith) (stay c q out-on .1)) (S .chains);
     few = rw long (S .few);
     within = rw long (S .within);
     low = λ d. upd-keeps isFresh (g .own) h live d (sym (ap isFresh oh)) ∙ S .low d;

@@ -65,6 +65,22 @@ chains-nxt own top size nxt nxt′ h K = record {
   one = K .one;
 }
 
+-- what is on no list becomes something else that is on none: the first of an empty list may change, and the links of what is on no list
+pub chains-aside : (own : ℕ → Owner) (top top′ size nxt nxt′ : ℕ → ℕ) (c : ℕ) (v : Owner) → ((s k : ℕ) → own c ≡ on s k → ⊥) → ((s k : ℕ) → v ≡ on s k → ⊥)
+    → ((s k : ℕ) → size s ≡ suc k → top′ s ≡ top s) → ((d s k : ℕ) → own d ≡ on s k → nxt′ d ≡ nxt d) → Chains own top size nxt → Chains (upd own c v) top′ size nxt′
+chains-aside own top top′ size nxt nxt′ c v o n tops links K = record {
+  above = λ d s k q. K .above d s k (was-on d s k q);
+  link = λ d s k q. let b = was-on d s (suc k) q in rw (links d s (suc k) b) (stays-on (nxt d) s k (K .link d s k b));
+  first = λ s k q. rw (tops s k q) (stays-on (top s) s k (K .first s k q));
+  one = λ d d′ s k q r. K .one d d′ s k (was-on d s k q) (was-on d′ s k r);
+}
+  where
+    was-on : (d s k : ℕ) → upd own c v d ≡ on s k → own d ≡ on s k
+    was-on d s k = at-upd (λ x. x ≡ on s k → own d ≡ on s k) own c v d (λ r q. absurd (n s k q)) (λ r q. q)
+
+    stays-on : (d s k : ℕ) → own d ≡ on s k → upd own c v d ≡ on s k
+    stays-on d s k q = upd-other own c v d (λ r. o s k (ap own (sym r) ∙ q)) ∙ q
+
 -- c, which is on no list, goes on list t
 module _ (own : ℕ → Owner) (top size nxt nxt′ : ℕ → ℕ) (K : Chains own top size nxt) (c t : ℕ) (o : (s k : ℕ) → own c ≡ on s k → ⊥)
     (here : nxt′ c ≡ top t) (there : (d s k : ℕ) → own d ≡ on s k → nxt′ d ≡ nxt d) where

@@ -1,4 +1,5 @@
--- A count goes down: the object lives on, or goes on the list of dead headers. And the counts where a cell of no object changes lists.
+-- A count changes, and with it what is in hand; it goes down: the object lives on, or goes on the list of dead headers. And the counts where a cell of no
+-- object changes lists.
 -- Assumes nothing.
 use Prim.Native.Nat.{ℕ, zero, suc, _+_, _≤_, _<_}
 use mathlib.Core.Path.{_≡_, refl, sym, ap, _∙_}
@@ -11,11 +12,10 @@ use lib.ListN.{length}
 use Rattle.heap.specs.Word.{word, Put}
 use Rattle.heap.specs.Upd.{pick, upd, total}
 use Rattle.heap.specs.Chain.{Owner, fresh, live, out, on}
-use Rattle.heap.specs.Shape.{Ghost, Shape, Counts, Step, cells, isHead, isBody, isObject, isFresh, isOn, is, pushed}
+use Rattle.heap.specs.Shape.{Ghost, Shape, Counts, Step, isBody, isObject, is, pushed}
 use Rattle.heap.proofs.Upds.{upd-other, same?, at-upd, upd-keeps}
-use Rattle.heap.proofs.Chains.{push, chains-nxt, live-on, on-list}
-use Rattle.heap.proofs.Skips.{skips-aside, plain-aside}
-use Rattle.heap.proofs.Shapes.{inside, push-counted}
+use Rattle.heap.proofs.Chains.{live-on, on-list}
+use Rattle.heap.proofs.Shapes.{keep-shape, same-words, push-shape}
 
 pub is-same : (h t : ℕ) → t ≡ suc h → is h t ≡ 1
 is-same h t e = rw (eq-eqb t (suc h) e)
@@ -28,36 +28,39 @@ unfolding total
 total-zero f zero x e l = absurd (omega arith)
 total-zero f (suc n) x e l = ⊎-elim (λ (q : x ≡ n). rw q (omega arith)) (λ (q : x ≡ n → ⊥). total-zero f n x (omega arith) (omega arith)) (same? x n)
 
--- the count of o, which is v + 1, falls to v: what was in hand is let go
-module _ (g : Ghost) (e p : ℕ) (m m′ : List ℕ) (S : Shape g e m) (o v : ℕ) (C : Counts g p (suc o) m) (w : word m o 2 ≡ suc v) (v1 : 1 ≤ v) (P : Put m o 2 v m′) where
-  l : g .own o ≡ live
-  l = C .held o refl
+-- the count of the live header o becomes v
+module _ {g : Ghost} {m m′ : List ℕ} {o v : ℕ} (l : g .own o ≡ live) (P : Put m o 2 v m′) where
+  pub recount-shape : {e : ℕ} → Shape g e m → Shape g e m′
+  recount-shape S = keep-shape (g .aim) S (P .size) (λ c s k q. P .there c 2 (omega arith) (λ r _. live-on (sym l ∙ ap (g .own) (sym r) ∙ q)))
+      (λ h t. same-words (P .there h 1 (omega arith) (λ q r. omega arith)) (P .there h 3 (omega arith) (λ q r. omega arith))) (λ c s k n q. P .there c 3 (omega arith) (λ r t. omega arith))
 
-  pub drop-shape : Shape g e m′
-  drop-shape = record {
-    chains = chains-nxt _ _ _ (λ c. word m c 2) (λ c. word m′ c 2) (λ c s k q. P .there c 2 (omega arith) (λ r _. live-on (sym l ∙ ap (g .own) (sym r) ∙ q))) (S .chains);
-    few = rw (P .size) (S .few);
-    within = rw (P .size) (S .within);
-    low = S .low;
-    header = λ x. rw (P .there x 1 (omega arith) (λ q r. omega arith), P .there x 3 (omega arith) (λ q r. omega arith)) (S .header x);
-    counted = rw (P .size) (S .counted);
-    skips = λ x s k i q. rw (P .there x 3 (omega arith) (λ r t. omega arith)) (S .skips x s k i q);
-    plain = λ x s k i q. rw (P .there x 3 (omega arith) (λ r t. omega arith)) (S .plain x s k i q);
-  }
-
-  pub drop-counts : Counts g p 0 m′
-  drop-counts = record {
+  -- and hand′ is in hand for hand: v counts the difference
+  pub recount-counts : {p hand : ℕ} (hand′ : ℕ) → Counts g p hand m → ((h : ℕ) → hand′ ≡ suc h → g .own h ≡ live) → 1 ≤ v → v + is o hand ≡ word m o 2 + is o hand′
+      → ((h : ℕ) → (h ≡ o → ⊥) → is h hand′ ≡ is h hand) → Counts g p hand′ m′
+  recount-counts hand′ C held v1 change other = record {
     places = rw (P .size) (C .places);
     aimed = C .aimed;
-    held = λ h q. absurd (omega arith);
+    held = held;
     count = λ h a. ⊎-elim
-        (λ (q : h ≡ o). rw (q, P .here) (omega (arith, C .count o l, is-same o (suc o) refl, is-other o 0 (λ r. omega arith))))
-        (λ (q : h ≡ o → ⊥). rw (P .there h 2 (omega arith) (λ r _. q r)) (omega (arith, C .count h a, is-other h (suc o) (λ r. q (omega arith)), is-other h 0 (λ r. omega arith))))
+        (λ (q : h ≡ o). rw (q, P .here) (omega (arith, C .count o l)))
+        (λ (q : h ≡ o → ⊥). rw (P .there h 2 (omega arith) (λ r _. q r)) (omega (arith, C .count h a, other h q)))
         (same? h o);
     some = λ h a. ⊎-elim (λ (q : h ≡ o). rw (q, P .here) v1) (λ (q : h ≡ o → ⊥). rw (P .there h 2 (omega arith) (λ r _. q r)) (C .some h a)) (same? h o);
     body = λ c a k q. rw (P .there a 0 (omega arith) (λ r s. omega arith), P .there c 0 (omega arith) (λ r s. omega arith), P .there c 1 (omega arith) (λ r s. omega arith)) (C .body c a k q);
     other = λ c r f. C .other c (rw (P .size) at r) f;
   }
+
+-- an object in hand is named by one more than one that is not
+pub in-hand : (o v w : ℕ) → v ≡ suc w → v + is o 0 ≡ w + is o (suc o)
+in-hand o v w e = omega (arith, is-same o (suc o) refl, is-other o 0 (λ r. omega arith))
+
+pub not-in-hand : (o h : ℕ) → (h ≡ o → ⊥) → is h (suc o) ≡ is h 0
+not-in-hand o h n = is-other h (suc o) (λ r. n (omega arith)) ∙ sym (is-other h 0 (λ r. omega arith))
+
+-- the count of o, which is v + 1, falls to v: what was in hand is let go
+module _ (g : Ghost) (p : ℕ) (m m′ : List ℕ) (o v : ℕ) (C : Counts g p (suc o) m) (w : word m o 2 ≡ suc v) (v1 : 1 ≤ v) (P : Put m o 2 v m′) where
+  pub drop-counts : Counts g p 0 m′
+  drop-counts = recount-counts (C .held o refl) P 0 C (λ h q. absurd (omega arith)) v1 (sym (in-hand o (word m o 2) v w)) (λ h n. sym (not-in-hand o h n))
 
   pub drop-step : Step p g m g m′
   drop-step = record {
@@ -90,23 +93,7 @@ module _ (g : Ghost) (e p : ℕ) (m m′ : List ℕ) (S : Shape g e m) (o : ℕ)
   was-body c a k = at-upd (λ x. x ≡ on (a + 2) k → g .own c ≡ on (a + 2) k) (g .own) o (on 1 (g .size 1)) c (λ q r. absurd (omega (arith, on-list r))) (λ q r. r)
 
   pub kill-shape : Shape (pushed g 1 o) e m′
-  kill-shape = record {
-    chains = push (g .own) (g .top) (g .size) (λ d. word m d 2) (λ d. word m′ d 2) (S .chains) o 1 (λ s k q. live-on (sym lo ∙ q)) (P .here)
-        (λ d s k q. P .there d 2 (omega arith) (λ r _. live-on (sym lo ∙ ap (g .own) (sym r) ∙ q)));
-    few = rw (P .size) (S .few);
-    within = rw (P .size) (S .within);
-    low = λ d. upd-keeps isFresh (g .own) o (on 1 (g .size 1)) d (sym (ap isFresh lo)) ∙ S .low d;
-    header = λ d. rw (
-      upd-other (g .size) 1 (suc (g .size 1)) (d + 2) (λ q. omega arith),
-      upd-other (g .top) 1 o (d + 2) (λ q. omega arith),
-      P .there d 1 (omega arith) (λ q r. omega arith),
-      P .there d 3 (omega arith) (λ q r. omega arith),
-      upd-keeps isHead (g .own) o (on 1 (g .size 1)) d (sym (ap isHead lo)),
-    ) (S .header d);
-    counted = rw (P .size) (push-counted (g .own) (g .size) (cells m) o 1 (g .size 1) (inside S o lo refl .0) (λ t. ap (isOn t) lo) (S .counted));
-    skips = skips-aside S o live (on 1 (g .size 1)) lo refl refl m′ (λ x s k q. P .there x 3 (omega arith) (λ r w. omega arith));
-    plain = plain-aside S o live (on 1 (g .size 1)) lo refl refl m′ (λ x s k q. P .there x 3 (omega arith) (λ r w. omega arith)) (λ s k n q. absurd (n (sym (on-list q))));
-  }
+  kill-shape = push-shape g e m m′ S o 1 live lo (omega arith) (λ s. refl) refl refl refl (λ n. absurd (n refl)) P
 
   pub kill-counts : Counts (pushed g 1 o) p 0 m′
   unfolding own′

@@ -15,9 +15,9 @@ use Rattle.heap.specs.Shape.{Ghost, Shape, Full, NoOut, OnlyOut, cells, 
 use Rattle.heap.specs.Grow.{Grows}
 use Rattle.heap.specs.declared.Lists.{Lists}
 use Rattle.heap.proofs.Upds.{upd-same, upd-at, upd-other, at-upd, upd-keeps, total-same}
-use Rattle.heap.proofs.Chains.{pop, out-on, out-live, fresh-on, only-out}
+use Rattle.heap.proofs.Chains.{chains-aside, out-on, out-live, fresh-on, only-out}
 use Rattle.heap.proofs.Skips.{skips-aside, plain-aside}
-use Rattle.heap.proofs.Shapes.{inside, pop-counted}
+use Rattle.heap.proofs.Shapes.{bare, pop-shape}
 use Rattle.heap.proofs.Since.{lt-or-le}
 use Rattle.heap.proofs.Falls.{quiet-counts, true-false, body-object}
 
@@ -58,23 +58,6 @@ module _ (g : Ghost) (m : List ℕ) (c : ℕ) (o : Owner) (top size : ℕ → �
   }
 
 -- the first cell of the free list
-module _ (g : Ghost) (e : ℕ) (m : List ℕ) (S : Shape g e m) (n : ℕ) (z : g .size 0 ≡ suc n) where
-  pub pick-shape : Shape (popped g 0 n (word m (g .top 0) 2)) e m
-  pick-shape = let b = g .top 0 in let ob : g .own b ≡ on 0 n = S .chains .first 0 n z in record {
-    chains = pop (g .own) (g .top) (g .size) (λ c. word m c 2) (S .chains) 0 n z;
-    few = S .few;
-    within = S .within;
-    low = λ c. upd-keeps isFresh (g .own) b out c (sym (ap isFresh ob)) ∙ S .low c;
-    header = λ x. rw (
-      upd-other (g .size) 0 n (x + 2) (λ r. omega arith),
-      upd-other (g .top) 0 (word m b 2) (x + 2) (λ r. omega arith),
-      upd-keeps isHead (g .own) b out x (sym (ap isHead ob)),
-    ) (S .header x);
-    counted = pop-counted (g .own) (g .size) (cells m) b 0 n (inside S b ob refl .0) ob z (S .counted);
-    skips = skips-aside S b (on 0 n) out ob refl refl m (λ x s k q. refl);
-    plain = plain-aside S b (on 0 n) out ob refl refl m (λ x s k q. refl) (λ s k l q. absurd (out-on q));
-  }
-
 pub picks : {g : Ghost} {p hand : ℕ} {s : Lists} {m : List ℕ} → Full g p hand s m → (s .listed ≡ 0 → ⊥)
     → (g′ : Ghost) × Full g′ p hand (record { free = word m (s .free) 2; listed = s .listed - 1; edge = s .edge; work = s .work; dead = s .dead }) m × (g′ .own (s .free) ≡ out)
     × ((h : ℕ) → Grows h g m g′ m) × (NoOut g → OnlyOut g′ (s .free))
@@ -85,7 +68,7 @@ picks {g} {p} {hand} {s} {m} F l =
       popped g 0 n v,
       record {
         heap = record {
-          shape = pick-shape g _ m S n z;
+          shape = pop-shape g _ m S 0 n (omega arith) z (bare S (g .top 0) (ap isHead ob));
           free = upd-same (g .top) 0 v ∙ rw (F .heap .free);
           listed = upd-same (g .size) 0 n;
           work = upd-other (g .top) 0 v 1 (λ q. omega arith) ∙ F .heap .work;
@@ -109,20 +92,10 @@ module _ (g : Ghost) (e : ℕ) (m : List ℕ) (S : Shape g e m) (l : e < cells m
       go out q t = absurd (true-false (sym t ∙ ap isFresh q))
       go (on s k) q t = absurd (true-false (sym t ∙ ap isFresh q))
 
-  was-on : (d s k : ℕ) → upd (g .own) e out d ≡ on s k → g .own d ≡ on s k
-  was-on d s k = at-upd (λ x. x ≡ on s k → g .own d ≡ on s k) (g .own) e out d (λ r q. absurd (out-on q)) (λ r q. q)
-
-  stays-on : (d s k : ℕ) → g .own d ≡ on s k → upd (g .own) e out d ≡ on s k
-  stays-on d s k q = upd-other (g .own) e out d (λ r. fresh-on (sym new ∙ ap (g .own) (sym r) ∙ q)) ∙ q
-
   pub edge-shape : Shape (record { own = upd (g .own) e out; top = g .top; size = g .size; aim = g .aim }) (e + 1) m
   edge-shape = record {
-    chains = record {
-      above = λ c s k q. S .chains .above c s k (was-on c s k q);
-      link = λ c s k q. stays-on (word m c 2) s k (S .chains .link c s k (was-on c s (suc k) q));
-      first = λ s k q. stays-on (g .top s) s k (S .chains .first s k q);
-      one = λ c d s k q r. S .chains .one c d s k (was-on c s k q) (was-on d s k r);
-    };
+    chains = chains-aside (g .own) (g .top) (g .top) (g .size) (λ c. word m c 2) (λ c. word m c 2) e out (λ s k q. fresh-on (sym new ∙ q)) (λ s k q. out-on q)
+        (λ s k q. refl) (λ c s k q. refl) (S .chains);
     few = S .few;
     within = omega arith;
     low = λ c. at-upd (λ x. isFresh x ≡ leb (e + 1) c) (g .own) e out c (λ r. sym (lt-leb (e + 1) c (omega arith))) (λ r. S .low c ∙ later c r);

@@ -16,9 +16,9 @@ use Rattle.heap.specs.Gone.{After, Shed}
 use Rattle.heap.specs.declared.Lists.{Lists}
 use Rattle.heap.proofs.Upds.{upd-same, upd-at, upd-other}
 use Rattle.heap.proofs.Chains.{live-on, out-on, out-live, on-list, no-out, only-out}
-use Rattle.heap.proofs.Shapes.{header-of}
-use Rattle.heap.proofs.Pops.{shed-shape, shed-word, bury-shape, pop-counts, pop-step}
-use Rattle.heap.proofs.Falls.{drop-shape, drop-counts, drop-step, kill-shape, kill-counts, kill-step, quiet-counts, quiet-step, true-false}
+use Rattle.heap.proofs.Shapes.{header-of, pop-shape}
+use Rattle.heap.proofs.Pops.{shed-shape, shed-word, pop-counts, pop-step}
+use Rattle.heap.proofs.Falls.{recount-shape, drop-counts, drop-step, kill-shape, kill-counts, kill-step, quiet-counts, quiet-step, true-false}
 use Rattle.heap.proofs.Scratches.{scratch, scratch-step}
 use Rattle.heap.proofs.Since.{then}
 
@@ -26,10 +26,10 @@ use Rattle.heap.proofs.Since.{then}
 pub lives : {g : Ghost} {p o v : ℕ} {s : Lists} {m m′ : List ℕ} → Full g p (suc o) s m → word m o 2 ≡ suc v → 1 ≤ v → Put m o 2 v m′ → Full g p 0 s m′ × After p g m g m′ × (NoOut g → NoOut g)
 lives {g} {p} {o} {v} {s} {m} {m′} F w v1 P = let S = F .heap .shape in (
   record {
-    heap = record { shape = drop-shape g _ p m m′ S o v (F .counts) w v1 P; free = F .heap .free; listed = F .heap .listed; work = F .heap .work; dead = F .heap .dead };
-    counts = drop-counts g _ p m m′ S o v (F .counts) w v1 P;
+    heap = record { shape = recount-shape (F .counts .held o refl) P S; free = F .heap .free; listed = F .heap .listed; work = F .heap .work; dead = F .heap .dead };
+    counts = drop-counts g p m m′ o v (F .counts) w v1 P;
   },
-  λ g₀ m₀ R. then p g₀ m₀ g m g m′ R (drop-step g _ p m m′ S o v (F .counts) w v1 P),
+  λ g₀ m₀ R. then p g₀ m₀ g m g m′ R (drop-step g p m m′ o v (F .counts) w v1 P),
   λ n. n,
 )
 
@@ -96,7 +96,7 @@ buries {g} {p} {s} {m} F l w =
       popped g 1 n v,
       record {
         heap = record {
-          shape = bury-shape g _ m S n (d .1) none;
+          shape = pop-shape g _ m S 1 n (omega arith) (d .1) none;
           free = upd-other (g .top) 1 v 0 (λ q. omega arith) ∙ F .heap .free;
           listed = upd-other (g .size) 1 n 0 (λ q. omega arith) ∙ F .heap .listed;
           work = upd-same (g .top) 1 v ∙ rw (F .heap .work);

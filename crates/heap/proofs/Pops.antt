@@ -1,4 +1,4 @@
--- A cell comes off a list: the first cell of a dead header's body, or a dead header with no body. One point of the ghost changes.
+-- The first cell of a dead header's body comes off it; and the counts and the step where a cell comes off a list. One point of the ghost changes.
 -- Assumes nothing.
 use Prim.Native.Nat.{ℕ, suc, _+_, _%_, _<_}
 use mathlib.Core.Path.{_≡_, refl, sym, ap, _∙_}
@@ -12,10 +12,10 @@ use lib.Dec.{eqb}
 use Rattle.heap.specs.Word.{word, Put}
 use Rattle.heap.specs.Upd.{upd}
 use Rattle.heap.specs.Chain.{live, out, on}
-use Rattle.heap.specs.Shape.{Ghost, Shape, Header, Counts, Step, cells, isHead, isFresh, is, popped, emptied, headerMark, firstUnit, sizeUnit}
+use Rattle.heap.specs.Shape.{Ghost, Shape, Counts, Step, cells, isHead, isFresh, is, popped, emptied, headerMark, firstUnit}
 use Rattle.heap.proofs.Upds.{upd-same, upd-other, same?, at-upd, upd-keeps, total-upd}
-use Rattle.heap.proofs.Chains.{pop, pop-to, chains-nxt, out-on, out-live, live-on, on-list, keeps, was}
-use Rattle.heap.proofs.Skips.{skips-aside, plain-aside, skips-keep, plain-keep}
+use Rattle.heap.proofs.Chains.{pop-to, chains-nxt, out-live, live-on, on-list, keeps, was}
+use Rattle.heap.proofs.Skips.{skips-keep, plain-keep}
 use Rattle.heap.proofs.Shapes.{inside, list-le, pop-counted}
 
 pub body-head : (a : ℕ) → eqb (a + 2) 1 ≡ false
@@ -61,20 +61,6 @@ module _ (g : Ghost) (e : ℕ) (m m₁ m₂ : List ℕ) (S : Shape g e m) (d j n
     plain = plain-keep S (upd (g .own) b out) m₂
         (λ x s k l q. let w = was (g .own) (g .top) (g .size) (λ c. word m c 2) (S .chains) (d + 2) n z x s k q in
         (w .0, shed-word x 3 (omega arith) (λ i r. absurd (l (on-list (sym (w .0) ∙ r))))));
-  }
-
-module _ (g : Ghost) (e : ℕ) (m : List ℕ) (S : Shape g e m) (n : ℕ) (z : g .size 1 ≡ suc n) (none : g .size (g .top 1 + 2) ≡ 0) where
-  pub bury-shape : Shape (popped g 1 n (word m (g .top 1) 2)) e m
-  bury-shape = let b = g .top 1 in let ob : g .own b ≡ on 1 n = S .chains .first 1 n z in record {
-    chains = pop (g .own) (g .top) (g .size) (λ c. word m c 2) (S .chains) 1 n z;
-    few = S .few;
-    within = S .within;
-    low = λ c. upd-keeps isFresh (g .own) b out c (sym (ap isFresh ob)) ∙ S .low c;
-    header = λ x. rw (upd-other (g .size) 1 n (x + 2) (λ r. omega arith), upd-other (g .top) 1 (word m b 2) (x + 2) (λ r. omega arith))
-        (at-upd (λ w. Header (isHead w) (g .size (x + 2)) (g .top (x + 2)) (word m x 1) (word m x 3)) (g .own) b out x (λ q. rw q none) (λ q. S .header x));
-    counted = pop-counted (g .own) (g .size) (cells m) b 1 n (inside S b ob refl .0) ob z (S .counted);
-    skips = skips-aside S b (on 1 n) out ob refl refl m (λ x s k q. refl);
-    plain = plain-aside S b (on 1 n) out ob refl refl m (λ x s k q. refl) (λ s k l q. absurd (out-on q));
   }
 
 -- the counts and the step, for a cell that comes off list t, which is no body of a live header. Of the words, those of dead headers may change, but for word 0

@@ -9,12 +9,12 @@ use Rattle.heap.specs.Shape.{Ghost, Full, cells, is}
 use Rattle.heap.specs.Assign.{aimed}
 use Rattle.heap.specs.declared.Lists.{Lists}
 use Rattle.heap.proofs.Upds.{upd-other, at-upd, total-upd}
-use Rattle.heap.proofs.Shapes.{inside}
+use Rattle.heap.proofs.Shapes.{inside, aim-shape}
 
 pub root-swap : {g : Ghost} {p hand : ℕ} {s : Lists} {m : List ℕ} (x : ℕ) → Full g p hand s m → cells m ≤ x → x < p → Full (aimed g x hand) p (g .aim x) s m
 root-swap {g} {p} {hand} {s} {m} x F lo hi = let S = F .heap .shape in let C = F .counts in record {
   heap = record {
-    shape = record { chains = S .chains; few = S .few; within = S .within; low = S .low; header = S .header; counted = S .counted; skips = S .skips; plain = S .plain };
+    shape = aim-shape (aimed g x hand .aim) S;
     free = F .heap .free;
     listed = F .heap .listed;
     work = F .heap .work;

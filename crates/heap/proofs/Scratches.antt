@@ -1,34 +1,20 @@
 -- What may be written into a header's word 3 beside its body's first cell changes nothing of the heap: the shape, the counts and a release's step stay.
 -- Assumes nothing.
-use Prim.Native.Nat.{ℕ, _+_, _%_, _≤_}
-use mathlib.Core.Path.{_≡_, refl, sym, ap, _∙_}
-use mathlib.Core.Bool.{Bool, true, false}
+use Prim.Native.Nat.{ℕ, _%_}
+use mathlib.Core.Path.{_≡_, refl, ap, _∙_}
 use mathlib.Core.List.{List}
 use mathlib.Core.Logic.{inl}
 use native.Mathlib.Omega.{arith}
 use Rattle.heap.specs.Word.{word}
-use Rattle.heap.specs.Chain.{live, on}
-use Rattle.heap.specs.Shape.{Ghost, Shape, Header, Counts, Full, Step, Scratch, isHead, headerMark, firstUnit}
+use Rattle.heap.specs.Chain.{live}
+use Rattle.heap.specs.Shape.{Ghost, Shape, Counts, Full, Step, Scratch, sizeUnit}
 use Rattle.heap.specs.declared.Lists.{Lists}
-use Rattle.heap.proofs.Chains.{chains-nxt}
-
--- a header's word 3 becomes another that has the same first cell
-header-other : (b : Bool) (z t w1 w3 v3 : ℕ) → (b ≡ true → (v3 % firstUnit ≡ w3 % firstUnit) × (headerMark ≤ v3)) → Header b z t w1 w3 → Header b z t w1 v3
-header-other true z t w1 w3 v3 k h = let x = k refl in (h .0, x .0 ∙ h .1, x .1)
-header-other false z t w1 w3 v3 k h = h
+use Rattle.heap.proofs.Shapes.{keep-shape}
 
 module _ {g : Ghost} {m m′ : List ℕ} (K : Scratch g m m′) where
   pub scratch-shape : {e : ℕ} → Shape g e m → Shape g e m′
-  scratch-shape S = record {
-    chains = chains-nxt _ _ _ (λ c. word m c 2) (λ c. word m′ c 2) (λ c s k q. K .there c 2 (omega arith) (λ r. omega arith)) (S .chains);
-    few = rw (K .size) (S .few);
-    within = rw (K .size) (S .within);
-    low = S .low;
-    header = λ x. rw (K .there x 1 (omega arith) (λ r. omega arith)) (header-other (isHead (g .own x)) _ _ _ _ _ (K .first x) (S .header x));
-    counted = rw (K .size) (S .counted);
-    skips = λ x s k l q. rw (K .aside x s _ (λ r. omega arith) q) (S .skips x s k l q);
-    plain = λ x s k n q. rw (K .aside x s k n q) (S .plain x s k n q);
-  }
+  scratch-shape S = keep-shape (g .aim) S (K .size) (λ c s k q. K .there c 2 (omega arith) (λ r. omega arith))
+      (λ h t. (ap (λ w. w % sizeUnit) (K .there h 1 (omega arith) (λ r. omega arith)), K .first h t .0, λ _. K .first h t .1)) (λ c s k n q. K .aside c s k n q)
 
   pub scratch-counts : {p hand : ℕ} → Counts g p hand m → Counts g p hand m′
   scratch-counts C = record {

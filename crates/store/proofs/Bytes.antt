@@ -17,8 +17,9 @@ use Rattle.heap.specs.Chain.{live, on}
 use Rattle.heap.specs.Shape.{Ghost, Shape, Counts, Full, isHead}
 use Rattle.heap.specs.declared.Lists.{Lists}
 use Rattle.heap.proofs.Upds.{same?}
-use Rattle.heap.proofs.Chains.{chains-nxt, on-list}
+use Rattle.heap.proofs.Chains.{on-list}
 use Rattle.heap.proofs.Parts as parts
+use Rattle.heap.proofs.Assigning.{element-shape}
 use Rattle.heap.proofs.Shapes.{not-header}
 use Rattle.store.specs.Rep.{isText, byteOf, withByte, objectAt, Rep}
 use Rattle.store.proofs.Standing.{null-names}
@@ -59,18 +60,7 @@ module _ {g : Ghost} {e p hand : ℕ} {m m′ : List ℕ} (S : Shape g e m) (C :
   body-head = ap isHead oc ∙ ne-eqb (a + 2) 1 (λ s. omega arith)
 
   word-shape : Shape g e m′
-  word-shape = record {
-    chains = chains-nxt (g .own) (g .top) (g .size) (λ d. word m d 2) (λ d. word m′ d 2) (λ d s f od. P .there d 2 (omega arith) (λ _ r. omega arith)) (S .chains);
-    few = rw (P .size) (S .few);
-    within = rw (P .size) (S .within);
-    low = S .low;
-    header = λ d. ⊎-elim
-        (λ (s : d ≡ c). let t : isHead (g .own d) ≡ false = ap (λ x. isHead (g .own x)) s ∙ body-head in rw t (rw t at (S .header d)))
-        (λ (s : d ≡ c → ⊥). rw (P .there d 1 (omega arith) (λ r. absurd (s r)), P .there d 3 (omega arith) (λ r. absurd (s r))) (S .header d)) (same? d c);
-    counted = rw (P .size) (S .counted);
-    skips = λ d s f l od. rw (P .there d 3 (omega arith) (λ _ r. omega arith)) (S .skips d s f l od);
-    plain = λ d s f l od. rw (P .there d 3 (omega arith) (λ _ r. omega arith)) (S .plain d s f l od);
-  }
+  word-shape = element-shape (g .aim) c a k S oc (P .size) (λ x y l h. P .there x y l (λ q r. ⊎-elim (λ (z : y ≡ 2). omega arith) (λ (z : y ≡ 3). omega arith) (h q)))
 
   word-counts : Counts g p hand m′
   word-counts = record {

@@ -13,7 +13,7 @@ use Rattle.heap.specs.Shape.{Ghost, Shape, Counts, Full, cells, is, target}
 use Rattle.heap.specs.Assign.{aimed}
 use Rattle.heap.specs.declared.Lists.{Lists}
 use Rattle.heap.proofs.Upds.{upd-at, upd-other, same?, at-upd, total-upd}
-use Rattle.heap.proofs.Shapes.{inside}
+use Rattle.heap.proofs.Shapes.{inside, aim-shape}
 use Rattle.heap.proofs.Parts as parts
 use Rattle.heap.proofs.Roots.{root-swap}
 use Rattle.store.specs.Rep.{isText, Stands, Names, Alive, Rep}
@@ -93,7 +93,7 @@ exchanged g x y = aiming g (upd (upd (g .aim) x (g .aim y)) y (g .aim x))
 pub exchange-full : {g : Ghost} {p hand : ℕ} {s : Lists} {m : List ℕ} (x y : ℕ) → Full g p hand s m → cells m ≤ x → x < p → cells m ≤ y → y < p → Full (exchanged g x y) p hand s m
 exchange-full {g} {p} x y F xl xp yl yp = let S = F .heap .shape in let C = F .counts in let f = upd (g .aim) x (g .aim y) in record {
   heap = record {
-    shape = record { chains = S .chains; few = S .few; within = S .within; low = S .low; header = S .header; counted = S .counted; skips = S .skips; plain = S .plain };
+    shape = aim-shape (exchanged g x y .aim) S;
     free = F .heap .free;
     listed = F .heap .listed;
     work = F .heap .work;

@@ -1,12 +1,13 @@
--- `free_cell` meets its contract: the cell goes on the list of free cells (`give-shape`).
+-- `free_cell` meets its contract: the cell goes on the list of free cells (`push-shape`).
 -- Assumes nothing.
 use borrow.Author.Needs.{needs}
 use Prim.Native.Nat.{suc}
 use mathlib.Core.Path.{refl, _∙_}
 use native.Mathlib.Omega.{arith}
 use native.Mathlib.Numerals.{add-one}
+use Rattle.heap.specs.Chain.{out}
 use Rattle.heap.proofs.Upds.{upd-same, upd-other}
-use Rattle.heap.proofs.Shapes.{room, list-lt, give-shape}
+use Rattle.heap.proofs.Shapes.{room, list-lt, push-shape}
 use Rattle.heap.proofs.free_cell.Statement.{statement}
 use Rattle.heap.proofs.free_cell.Tie as tie
 
@@ -28,7 +29,7 @@ returns c =
       P,
       refl,
       λ g H o. record {
-        shape = give-shape g _ _ _ (H .shape) _ o (s .pre .3) (rw (H .free) P);
+        shape = push-shape g _ _ _ (H .shape) _ 0 out o (omega arith) (λ t. refl) refl refl refl (λ _. s .pre .3) (rw (H .free) P);
         free = upd-same (g .top) 0 (s .args .c);
         listed = upd-same (g .size) 0 (suc (g .size 0)) ∙ rw (add-one, H .listed);
         work = upd-other (g .top) 0 _ 1 (λ q. omega arith) ∙ H .work;
