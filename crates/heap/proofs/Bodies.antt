@@ -1,6 +1,6 @@
 -- A body gets one cell more, and a header is made: a cell on no list changes its owner, at one point of the ghost.
 -- Assumes nothing.
-use Prim.Native.Nat.{ℕ, zero, suc, _+_, _-_, _%_, _≤_, _<_}
+use Prim.Native.Nat.{ℕ, zero, suc, _+_, _-_, _/_, _%_, _≤_, _<_}
 use mathlib.Core.Path.{_≡_, refl, sym, ap, _∙_}
 use mathlib.Core.Bool.{false}
 use mathlib.Core.List.{List}
@@ -11,13 +11,13 @@ use lib.Dec.{eqb}
 use Rattle.heap.specs.Word.{word, Put}
 use Rattle.heap.specs.Upd.{upd, total}
 use Rattle.heap.specs.Chain.{Owner, live, out, on}
-use Rattle.heap.specs.Shape.{Ghost, Shape, Skip, Counts, Full, NoOut, OnlyOut, Header, cells, isHead, isBody, isFresh, isOn, is, target, pushed, headerMark, firstUnit, sizeUnit}
-use Rattle.heap.specs.Grow.{Grows, Took, Filled}
+use Rattle.heap.specs.Shape.{Ghost, Shape, Skip, Counts, Full, NoOut, OnlyOut, Header, cells, isHead, isBody, isFresh, isOn, is, target, pushed, headerMark, firstUnit, sizeUnit, scattered}
+use Rattle.heap.specs.Grow.{Grows, Took, Filled, Longer}
 use Rattle.heap.specs.declared.Lists.{Lists}
 use Rattle.heap.proofs.Upds.{upd-same, upd-at, upd-other, same?, at-upd, upd-keeps, total-same, pick-zero}
 use Rattle.heap.proofs.Chains.{push, chains-aside, out-on, out-live, live-on, on-list, on-rank, no-out}
 use Rattle.heap.proofs.Skips.{skips-aside, plain-aside}
-use Rattle.heap.proofs.Shapes.{inside, list-le, header-of, push-counted, not-header, bare}
+use Rattle.heap.proofs.Shapes.{inside, header-of, push-counted, not-header, bare}
 use Rattle.heap.proofs.Pops.{body-head}
 use Rattle.heap.proofs.Falls.{is-same, is-other, true-false, body-object}
 use Rattle.heap.proofs.Walks.{skip-plain}
@@ -36,7 +36,7 @@ total-none f (suc n) h = omega (arith, total-none f n (λ x l. h x (omega arith)
 module _ (g : Ghost) (e p hand : ℕ) (m m′ : List ℕ) (S : Shape g e m) (C : Counts g p hand m) (h c : ℕ) (lh : g .own h ≡ live) (oc : g .own c ≡ out) (long : length m′ ≡ length m)
     (c0 : word m′ c 0 ≡ 0) (c1 : word m′ c 1 ≡ 0) (c2 : word m′ c 2 ≡ g .top (h + 2))
     (c3 : (k : ℕ) → g .size (h + 2) ≡ suc k → Skip (g .own) (h + 2) k (word m′ c 3)) (unmarked : word m′ c 3 < headerMark)
-    (h1 : word m′ h 1 ≡ suc (g .size (h + 2))) (h3 : word m′ h 3 ≡ headerMark + c)
+    (h1 : Longer (word m h 1) (g .top (h + 2)) c (word m′ h 1)) (h3 : word m′ h 3 ≡ headerMark + c)
     (same : (x u : ℕ) → u < 4 → (x ≡ c → ⊥) → (x ≡ h → (u ≡ 0) ⊎ (u ≡ 2)) → word m′ x u ≡ word m x u) where
   v : Owner
   v = on (h + 2) (g .size (h + 2))
@@ -54,6 +54,20 @@ module _ (g : Ghost) (e p hand : ℕ) (m m′ : List ℕ) (S : Shape g e m) (C :
   skip-stays : {s k w : ℕ} → Skip (g .own) s k w → Skip (upd (g .own) c v) s k w
   skip-stays K = record { lands = stays _ (K .lands) out-on .0; lower = K .lower }
 
+  -- the body of h stays side by side if c is next to its first cell
+  side-more : (d k : ℕ) → word m′ h 1 / scattered % 2 ≡ 0 → upd (g .own) c v d ≡ on (h + 2) k → d + suc (g .size (h + 2)) ≡ c + suc k
+  unfolding v
+  side-more d k b = at-upd (λ w. w ≡ on (h + 2) k → d + suc (g .size (h + 2)) ≡ c + suc k) (g .own) c v d
+      (λ r q. omega (arith, on-rank q))
+      (λ r q. ⊎-elim (λ (z : word m h 1 % sizeUnit ≡ 0). absurd (omega (arith, S .chains .above d (h + 2) k q, header-of S h lh refl .0)))
+      (λ (z : c ≡ g .top (h + 2) + 1). omega (arith, S .side h d k lh (h1 .side b .0) q)) (h1 .side b .1))
+
+  side-other : (x d k : ℕ) → (x ≡ h → ⊥) → upd (g .own) c v x ≡ live → word m′ x 1 / scattered % 2 ≡ 0 → upd (g .own) c v d ≡ on (x + 2) k → d + g .size (x + 2) ≡ g .top (x + 2) + suc k
+  unfolding v
+  side-other x d k n l b = let a = was-live x l in at-upd (λ w. w ≡ on (x + 2) k → d + g .size (x + 2) ≡ g .top (x + 2) + suc k) (g .own) c v d
+      (λ r q. absurd (n (omega (arith, on-list q))))
+      (λ r q. S .side x d k (a .0) (rw (same x 1 (omega arith) (a .1) (λ s. absurd (n s))) at b) q)
+
   pub grow-shape : Shape (pushed g (h + 2) c) e m′
   unfolding v
   grow-shape = record {
@@ -64,7 +78,7 @@ module _ (g : Ghost) (e p hand : ℕ) (m m′ : List ℕ) (S : Shape g e m) (C :
     low = λ d. upd-keeps isFresh (g .own) c v d (sym (ap isFresh oc)) ∙ S .low d;
     header = λ x. ⊎-elim
         (λ (q : x ≡ h). rw (q, stays h lh out-live .0, upd-same (g .size) (h + 2) (suc (g .size (h + 2))), upd-same (g .top) (h + 2) c)
-        (omega (arith, h1, list-le S (h + 2), S .few), omega (arith, h3, inside S c oc refl .0, S .few), omega (arith, h3)))
+        (h1 .more ∙ ap suc (header-of S h lh refl .0), omega (arith, h3, inside S c oc refl .0, S .few), omega (arith, h3)))
         (λ (q : x ≡ h → ⊥). rw (upd-other (g .size) (h + 2) (suc (g .size (h + 2))) (x + 2) (λ r. q (omega arith)), upd-other (g .top) (h + 2) c (x + 2) (λ r. q (omega arith)))
         (at-upd (λ w. Header (isHead w) (g .size (x + 2)) (g .top (x + 2)) (word m′ x 1) (word m′ x 3)) (g .own) c v x
         (λ r. rw (body-head h, r) (bare S c (ap isHead oc)))
@@ -77,6 +91,11 @@ module _ (g : Ghost) (e p hand : ℕ) (m m′ : List ℕ) (S : Shape g e m) (C :
     plain = λ d s k l. at-upd (λ w. w ≡ on s k → word m′ d 3 < headerMark) (g .own) c v d
         (λ r q. rw r unmarked)
         (λ r q. rw (same d 3 (omega arith) r (λ t. absurd (live-on (sym lh ∙ ap (g .own) (sym t) ∙ q)))) (S .plain d s k l q));
+    side = λ x d k l b q. ⊎-elim
+        (λ (r : x ≡ h). rw (r, upd-same (g .size) (h + 2) (suc (g .size (h + 2))), upd-same (g .top) (h + 2) c) (side-more d k (rw r at b) (rw r at q)))
+        (λ (r : x ≡ h → ⊥). rw (upd-other (g .size) (h + 2) (suc (g .size (h + 2))) (x + 2) (λ t. r (omega arith)), upd-other (g .top) (h + 2) c (x + 2) (λ t. r (omega arith)))
+        (side-other x d k r l b q))
+        (same? x h);
   }
 
   pub grow-counts : Counts (pushed g (h + 2) c) p hand m′
@@ -141,6 +160,10 @@ module _ (g : Ghost) (e p : ℕ) (m m′ : List ℕ) (S : Shape g e m) (C : Coun
     counted = rw long (λ t. total-same (λ c. isOn t (g .own c)) (λ c. isOn t (upd (g .own) h live c)) (cells m) (λ c _. upd-keeps (isOn t) (g .own) h live c (sym (ap (isOn t) oh))) ∙ S .counted t);
     skips = skips-aside S h out live oh refl refl m′ (λ x s k q. same x 3 (omega arith) (stay x q out-on .1));
     plain = plain-aside S h out live oh refl refl m′ (λ x s k q. same x 3 (omega arith) (stay x q out-on .1)) (λ s k n q. absurd (live-on q));
+    side = λ x d k l b q.
+        let o = was-on d (x + 2) k q in
+        let n : x ≡ h → ⊥ = not-header S h (ap isHead oh) d x k o in
+        rw (upd-other (g .top) (h + 2) 0 (x + 2) (λ r. n (omega arith))) (S .side x d k (sym (upd-other (g .own) h live x n) ∙ l) (rw (same x 1 (omega arith) n) at b) o);
   }
 
   pub head-counts : Counts born p (suc h) m′
@@ -178,17 +201,18 @@ module _ (g : Ghost) (e p : ℕ) (m m′ : List ℕ) (S : Shape g e m) (C : Coun
   }
 
 -- the two, as the code does them
-pub grown : {g : Ghost} {p hand h c first n w : ℕ} {s r : Lists} {m m₁ m₂ m₃ : List ℕ} → Full g p hand s m → g .own h ≡ live → Took s m c r → first ≡ word m h 3 % firstUnit → n ≡ word m h 1 % sizeUnit
-    → ((g : Ghost) (e s : ℕ) → Shape g e m → 2 ≤ s → g .size s ≡ n → g .top s ≡ first → (k : ℕ) → n ≡ suc k → Skip (g .own) s k w) → (n ≡ 0 → w ≡ 0)
-    → Filled m c first w m₁ → Put m₁ h 3 (headerMark + c) m₂ → Put m₂ h 1 (n + 1) m₃
+pub grown : {g : Ghost} {p hand h c first n w was v : ℕ} {s r : Lists} {m m₁ m₂ m₃ : List ℕ} → Full g p hand s m → g .own h ≡ live → Took s m c r → first ≡ word m h 3 % firstUnit → was ≡ word m h 1 → n ≡ was % sizeUnit
+    → ((g : Ghost) (e s : ℕ) → Shape g e m → 2 ≤ s → g .size s ≡ n → g .top s ≡ first → (k : ℕ) → n ≡ suc k → Skip (g .own) s k w) → (n ≡ 0 → w ≡ first)
+    → Filled m c first w m₁ → Put m₁ h 3 (headerMark + c) m₂ → Put m₂ h 1 v m₃ → Longer was first c v
     → (g′ : Ghost) × Full g′ p hand r m₃ × Grows h g m g′ m₃ × (g′ .own h ≡ live) × (g′ .size (h + 2) ≡ 1 + g .size (h + 2)) × (NoOut g → NoOut g′)
-grown {g} {p} {hand} {h} {c} {first} {n} {w} {s} {r} {m} {m₁} {m₂} {m₃} F l T ef en K K₀ Fi P₂ P₃ =
+grown {g} {p} {hand} {h} {c} {first} {n} {w} {was} {v} {s} {r} {m} {m₁} {m₂} {m₃} F l T ef ew es K K₀ Fi P₂ P₃ L =
     let X = T p hand g F in
     let g₁ = X .0 in
     let S = X .1 .heap .shape in
     let hc : h ≡ c → ⊥ = λ q. out-live (sym (X .2) ∙ ap (g₁ .own) (sym q) ∙ l₁ X) in
     let head = header-of S h (l₁ X) refl in
     let top : first ≡ g₁ .top (h + 2) = omega (arith, head .1) in
+    let en : n ≡ word m h 1 % sizeUnit = es ∙ ap (λ x. x % sizeUnit) ew in
     let same : (x u : ℕ) → u < 4 → (x ≡ c → ⊥) → (x ≡ h → (u ≡ 0) ⊎ (u ≡ 2)) → word m₃ x u ≡ word m x u =
     λ x u a b d. P₃ .there x u a (λ q w. ⊎-elim (λ (z : u ≡ 0). omega arith) (λ (z : u ≡ 2). omega arith) (d q))
     ∙ P₂ .there x u a (λ q w. ⊎-elim (λ (z : u ≡ 0). omega arith) (λ (z : u ≡ 2). omega arith) (d q)) ∙ Fi .there x u a b in
@@ -201,7 +225,7 @@ grown {g} {p} {hand} {h} {c} {first} {n} {w} {s} {r} {m} {m₁} {m₂} {m₃} F 
     λ k z. rw (at-c 3 (omega arith), Fi .skip) (K g₁ _ (h + 2) S (omega arith) (sym (head .0) ∙ sym en) (sym top) k (en ∙ head .0 ∙ z)) in
     let unmarked : word m₃ c 3 < headerMark = rw (at-c 3 (omega arith), Fi .skip) (⊎-elim (λ (q : 0 < n). skip-plain S (h + 2) (n - 1) w
     (K g₁ _ (h + 2) S (omega arith) (sym (head .0) ∙ sym en) (sym top) (n - 1) (omega arith))) (λ (q : n ≤ 0). omega (arith, K₀ (omega arith))) (lt-or-le 0 n)) in
-    let h1 : word m₃ h 1 ≡ suc (g₁ .size (h + 2)) = omega (arith, P₃ .here, head .0) in
+    let h1 : Longer (word m h 1) (g₁ .top (h + 2)) c (word m₃ h 1) = rw (P₃ .here, ← top, ← ew) L in
     let h3 = P₃ .there h 3 (omega arith) (λ q w. omega arith) ∙ P₂ .here in
     let H = X .1 .heap in (
       pushed g₁ (h + 2) c,

@@ -16,7 +16,7 @@ use Rattle.heap.specs.Grow.{Grows}
 use Rattle.heap.specs.declared.Lists.{Lists}
 use Rattle.heap.proofs.Upds.{upd-same, upd-at, upd-other, at-upd, upd-keeps, total-same}
 use Rattle.heap.proofs.Chains.{chains-aside, out-on, out-live, fresh-on, only-out}
-use Rattle.heap.proofs.Skips.{skips-aside, plain-aside}
+use Rattle.heap.proofs.Skips.{skips-aside, plain-aside, side-aside}
 use Rattle.heap.proofs.Shapes.{bare, pop-shape}
 use Rattle.heap.proofs.Since.{lt-or-le}
 use Rattle.heap.proofs.Falls.{quiet-counts, true-false, body-object}
@@ -103,6 +103,7 @@ module _ (g : Ghost) (e : ℕ) (m : List ℕ) (S : Shape g e m) (l : e < cells m
     counted = λ t. total-same (λ c. isOn t (g .own c)) (λ c. isOn t (upd (g .own) e out c)) (cells m) (λ c _. upd-keeps (isOn t) (g .own) e out c (sym (ap (isOn t) new))) ∙ S .counted t;
     skips = skips-aside S e fresh out new refl refl m (λ x s k q. refl);
     plain = plain-aside S e fresh out new refl refl m (λ x s k q. refl) (λ s k l q. absurd (out-on q));
+    side = side-aside S e fresh out new refl refl m (λ x s k q. refl) out-live (g .top) (g .size) (λ h. refl) (λ h. refl) (λ h. refl);
   }
     where
       later : (c : ℕ) → (c ≡ e → ⊥) → leb e c ≡ leb (e + 1) c

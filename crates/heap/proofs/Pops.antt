@@ -61,6 +61,12 @@ module _ (g : Ghost) (e : ℕ) (m m₁ m₂ : List ℕ) (S : Shape g e m) (d j n
     plain = plain-keep S (upd (g .own) b out) m₂
         (λ x s k l q. let w = was (g .own) (g .top) (g .size) (λ c. word m c 2) (S .chains) (d + 2) n z x s k q in
         (w .0, shed-word x 3 (omega arith) (λ i r. absurd (l (on-list (sym (w .0) ∙ r))))));
+    side = λ x c k l w q.
+        let lx : g .own x ≡ live = at-upd (λ y. y ≡ live → g .own x ≡ live) (g .own) b out x (λ r y. absurd (out-live y)) (λ r y. y) l in
+        let n₁ : x ≡ d → ⊥ = λ r. live-on (sym lx ∙ ap (g .own) r ∙ o) in
+        rw (upd-other (g .size) (d + 2) n (x + 2) (λ r. n₁ (omega arith)), upd-other (g .top) (d + 2) (word m b 2 % firstUnit) (x + 2) (λ r. n₁ (omega arith)))
+        (S .side x c k lx (rw (shed-word x 1 (omega arith) (λ i r. absurd (live-on (sym lx ∙ r)))) at w)
+        (was (g .own) (g .top) (g .size) (λ c. word m c 2) (S .chains) (d + 2) n z c (x + 2) k q .0));
   }
 
 -- the counts and the step, for a cell that comes off list t, which is no body of a live header. Of the words, those of dead headers may change, but for word 0

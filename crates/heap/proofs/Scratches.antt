@@ -1,20 +1,20 @@
 -- What may be written into a header's word 3 beside its body's first cell changes nothing of the heap: the shape, the counts and a release's step stay.
 -- Assumes nothing.
-use Prim.Native.Nat.{ℕ, _%_}
+use Prim.Native.Nat.{ℕ, _/_, _%_}
 use mathlib.Core.Path.{_≡_, refl, ap, _∙_}
 use mathlib.Core.List.{List}
 use mathlib.Core.Logic.{inl}
 use native.Mathlib.Omega.{arith}
 use Rattle.heap.specs.Word.{word}
 use Rattle.heap.specs.Chain.{live}
-use Rattle.heap.specs.Shape.{Ghost, Shape, Counts, Full, Step, Scratch, sizeUnit}
+use Rattle.heap.specs.Shape.{Ghost, Shape, Counts, Full, Step, Scratch, sizeUnit, scattered}
 use Rattle.heap.specs.declared.Lists.{Lists}
 use Rattle.heap.proofs.Shapes.{keep-shape}
 
 module _ {g : Ghost} {m m′ : List ℕ} (K : Scratch g m m′) where
   pub scratch-shape : {e : ℕ} → Shape g e m → Shape g e m′
   scratch-shape S = keep-shape (g .aim) S (K .size) (λ c s k q. K .there c 2 (omega arith) (λ r. omega arith))
-      (λ h t. (ap (λ w. w % sizeUnit) (K .there h 1 (omega arith) (λ r. omega arith)), K .first h t .0, λ _. K .first h t .1)) (λ c s k n q. K .aside c s k n q)
+      (λ h t. let w1 = K .there h 1 (omega arith) (λ r. omega arith) in (ap (λ w. w % sizeUnit) w1, ap (λ w. w / scattered % 2) w1, K .first h t .0, λ _. K .first h t .1)) (λ c s k n q. K .aside c s k n q)
 
   pub scratch-counts : {p hand : ℕ} → Counts g p hand m → Counts g p hand m′
   scratch-counts C = record {

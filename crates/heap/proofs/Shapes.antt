@@ -1,7 +1,7 @@
 -- What the shape of the heap tells of one cell or one list, by projections and by sums; what it sees of the words; and a cell that is in no body goes on
 -- a list and off it, which changes one point.
 -- Assumes nothing.
-use Prim.Native.Nat.{ℕ, suc, _+_, _*_, _%_, _≤_, _<_}
+use Prim.Native.Nat.{ℕ, suc, _+_, _*_, _/_, _%_, _≤_, _<_}
 use mathlib.Core.Path.{_≡_, refl, sym, ap, _∙_}
 use mathlib.Core.Bool.{Bool, true, false}
 use mathlib.Core.List.{List}
@@ -13,10 +13,10 @@ use lib.Dec.{eqb}
 use Rattle.heap.specs.Word.{word, Put}
 use Rattle.heap.specs.Upd.{pick, upd, total}
 use Rattle.heap.specs.Chain.{Owner, fresh, live, out, on}
-use Rattle.heap.specs.Shape.{Ghost, Shape, Header, cells, isHead, isBody, isFresh, isOn, pushed, popped, headerMark, firstUnit, sizeUnit}
+use Rattle.heap.specs.Shape.{Ghost, Shape, Header, cells, isHead, isBody, isFresh, isOn, pushed, popped, headerMark, firstUnit, sizeUnit, scattered}
 use Rattle.heap.proofs.Upds.{upd-at, upd-other, same?, at-upd, upd-keeps, total-upd, total-bound}
-use Rattle.heap.proofs.Chains.{push, pop, chains-nxt, out-on, on-list}
-use Rattle.heap.proofs.Skips.{skips-aside, plain-aside}
+use Rattle.heap.proofs.Chains.{push, pop, chains-nxt, out-on, out-live, live-on, on-list}
+use Rattle.heap.proofs.Skips.{skips-aside, plain-aside, side-aside}
 
 -- a cell in use lies within the words
 pub inside : {g : Ghost} {e : ℕ} {m : List ℕ} → Shape g e m → (c : ℕ) {o : Owner} → g .own c ≡ o → isFresh o ≡ false → (c < cells m) × (c < e)
@@ -82,15 +82,15 @@ pop-counted own size n b s k l o z h t = ⊎-elim
     (λ (q : t ≡ s → ⊥). rw (upd-other size s k t q) (omega (arith, h t, ap (isOn t) o ∙ on-other s t (λ r. q (sym r)), total-upd (isOn t) own n b out l)))
     (same? t s)
 
--- words v1 and v3 of a header tell the same as w1 and w3: the size, the first cell, and the mark
+-- words v1 and v3 of a header tell the same as w1 and w3: the size, whether the body is scattered, the first cell, and the mark
 abbrev pub Alike : ℕ → ℕ → ℕ → ℕ → Type 0
-Alike w1 w3 v1 v3 = (v1 % sizeUnit ≡ w1 % sizeUnit) × (v3 % firstUnit ≡ w3 % firstUnit) × (headerMark ≤ w3 → headerMark ≤ v3)
+Alike w1 w3 v1 v3 = (v1 % sizeUnit ≡ w1 % sizeUnit) × (v1 / scattered % 2 ≡ w1 / scattered % 2) × (v3 % firstUnit ≡ w3 % firstUnit) × (headerMark ≤ w3 → headerMark ≤ v3)
 
 pub same-words : {w1 w3 v1 v3 : ℕ} → v1 ≡ w1 → v3 ≡ w3 → Alike w1 w3 v1 v3
-same-words p q = (ap (λ w. w % sizeUnit) p, ap (λ w. w % firstUnit) q, λ l. rw q l)
+same-words p q = (ap (λ w. w % sizeUnit) p, ap (λ w. w / scattered % 2) p, ap (λ w. w % firstUnit) q, λ l. rw q l)
 
 header-alike : (b : Bool) (z t w1 w3 v1 v3 : ℕ) → (b ≡ true → Alike w1 w3 v1 v3) → Header b z t w1 w3 → Header b z t v1 v3
-header-alike true z t w1 w3 v1 v3 k h = let x = k refl in (x .0 ∙ h .0, x .1 ∙ h .1, x .2 (h .2))
+header-alike true z t w1 w3 v1 v3 k h = let x = k refl in (x .0 ∙ h .0, x .2 ∙ h .1, x .3 (h .2))
 header-alike false z t w1 w3 v1 v3 k h = h
 
 -- the shape sees the links and word 3 of cells on lists, and words 1 and 3 of headers; what places name it does not see
@@ -108,6 +108,7 @@ keep-shape {g} {e} {m} {m′} aim S long link head aside = record {
   counted = rw long (S .counted);
   skips = λ c s k l q. rw (aside c s (suc k) (λ r. omega arith) q) (S .skips c s k l q);
   plain = λ c s k n q. rw (aside c s k n q) (S .plain c s k n q);
+  side = λ h c k l b q. S .side h c k l (sym (head h (ap isHead l) .1) ∙ b) q;
 }
 
 pub aim-shape : {g : Ghost} {e : ℕ} {m : List ℕ} (aim : ℕ → ℕ) → Shape g e m → Shape (record { own = g .own; top = g .top; size = g .size; aim = aim }) e m
@@ -137,6 +138,9 @@ module _ (g : Ghost) (e : ℕ) (m m′ : List ℕ) (S : Shape g e m) (c t : ℕ)
     skips = skips-aside S c o (on t (g .size t)) oc apart (le-ltb 1 t (omega arith)) m′ (λ x s k q. P .there x 3 (omega arith) (λ r w. omega arith));
     plain = plain-aside S c o (on t (g .size t)) oc apart (le-ltb 1 t (omega arith)) m′ (λ x s k q. P .there x 3 (omega arith) (λ r w. omega arith))
         (λ s k n q. rw (P .there c 3 (omega arith) (λ r w. omega arith)) (w (λ r. n (sym (on-list q) ∙ r))));
+    side = side-aside S c o (on t (g .size t)) oc apart (le-ltb 1 t (omega arith)) m′ (λ x s k q. P .there x 3 (omega arith) (λ r w. omega arith)) (λ q. live-on (sym q))
+        (upd (g .top) t c) (upd (g .size) t (suc (g .size t))) (λ h. upd-other (g .top) t c (h + 2) (λ q. omega arith)) (λ h. upd-other (g .size) t (suc (g .size t)) (h + 2) (λ q. omega arith))
+        (λ h. P .there h 1 (omega arith) (λ q r. omega arith));
   }
 
 -- the first cell of list t comes off it: a free cell, or a dead header with no body
@@ -152,4 +156,6 @@ module _ (g : Ghost) (e : ℕ) (m : List ℕ) (S : Shape g e m) (t n : ℕ) (l :
     counted = pop-counted (g .own) (g .size) (cells m) b t n (inside S b ob refl .0) ob z (S .counted);
     skips = skips-aside S b (on t n) out ob (le-ltb 1 t (omega arith)) refl m (λ x s k q. refl);
     plain = plain-aside S b (on t n) out ob (le-ltb 1 t (omega arith)) refl m (λ x s k q. refl) (λ s k l q. absurd (out-on q));
+    side = side-aside S b (on t n) out ob (le-ltb 1 t (omega arith)) refl m (λ x s k q. refl) out-live (upd (g .top) t (word m b 2)) (upd (g .size) t n)
+        (λ h. upd-other (g .top) t (word m b 2) (h + 2) (λ r. omega arith)) (λ h. upd-other (g .size) t n (h + 2) (λ r. omega arith)) (λ h. refl);
   }

@@ -1,6 +1,7 @@
--- Skip words stay where cells go on lists and off them: a skip word leads to a lower rank, and only the first cell of a body comes off.
+-- Skip words stay where cells go on lists and off them: a skip word leads to a lower rank, and only the first cell of a body comes off. And bodies of live
+-- headers stay side by side where only cells of no body change.
 -- Assumes nothing.
-use Prim.Native.Nat.{ℕ, suc, _≤_, _<_}
+use Prim.Native.Nat.{ℕ, suc, _+_, _/_, _%_, _≤_, _<_}
 use mathlib.Core.Path.{_≡_, sym, ap, _∙_}
 use mathlib.Core.Bool.{Bool, false}
 use mathlib.Core.List.{List}
@@ -8,8 +9,8 @@ use native.Mathlib.Omega.{arith}
 use borrow.Author.Tests.{lt-ltb}
 use Rattle.heap.specs.Word.{word}
 use Rattle.heap.specs.Upd.{pick, upd}
-use Rattle.heap.specs.Chain.{Owner, on}
-use Rattle.heap.specs.Shape.{Ghost, Shape, Skip, isBody, headerMark}
+use Rattle.heap.specs.Chain.{Owner, live, on}
+use Rattle.heap.specs.Shape.{Ghost, Shape, Skip, isBody, headerMark, scattered}
 use Rattle.heap.proofs.Upds.{upd-other, at-upd}
 
 -- what body cells there are had their places and skip words before, and each stays but the first of its body
@@ -47,3 +48,10 @@ module _ {g : Ghost} {e : ℕ} {m : List ℕ} (S : Shape g e m) (c : ℕ) (o v :
 
   pub plain-aside : ((s k : ℕ) → (s ≡ 1 → ⊥) → v ≡ on s k → word m′ c 3 < headerMark) → (x s k : ℕ) → (s ≡ 1 → ⊥) → upd (g .own) c v x ≡ on s k → word m′ x 3 < headerMark
   plain-aside new x s k n = at-upd (λ w. w ≡ on s k → word m′ x 3 < headerMark) (g .own) c v x (λ r q. rw r (new s k n q)) (λ r q. rw (same x s k q) (S .plain x s k n q))
+
+  -- it does not become a live header, and the lists of the bodies and words 1 stay
+  pub side-aside : (v ≡ live → ⊥) → (top size : ℕ → ℕ) → ((h : ℕ) → top (h + 2) ≡ g .top (h + 2)) → ((h : ℕ) → size (h + 2) ≡ g .size (h + 2)) → ((h : ℕ) → word m′ h 1 ≡ word m h 1)
+      → (h d k : ℕ) → upd (g .own) c v h ≡ live → word m′ h 1 / scattered % 2 ≡ 0 → upd (g .own) c v d ≡ on (h + 2) k → d + size (h + 2) ≡ top (h + 2) + suc k
+  side-aside n top size tops sizes w h d k l b q =
+      let l₁ = at-upd (λ x. x ≡ live → g .own h ≡ live) (g .own) c v h (λ r q. absurd (n q)) (λ r q. q) l in
+      rw (sizes h, tops h) (S .side h d k l₁ (rw (w h) at b) (was-body d (h + 2) k (omega arith) q .0))

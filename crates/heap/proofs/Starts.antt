@@ -20,6 +20,7 @@ empty m p few lo hi = (
         counted = λ t. total-none (λ _. 0) (cells m) (λ x l. refl);
         skips = λ c s k l q. absurd (fresh-on q);
         plain = λ c s k l q. absurd (fresh-on q);
+        side = λ h c k l b q. absurd (fresh-on q);
       };
       free = refl;
       listed = refl;

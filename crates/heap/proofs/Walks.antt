@@ -1,12 +1,13 @@
--- How a body is walked: by next words one rank down, by skip words some ranks down; and the skip word of a new first cell.
+-- How a body is walked: by next words one rank down, by skip words some ranks down; the skip word of a new first cell; and where each cell is if they stand
+-- side by side.
 -- Assumes nothing.
-use Prim.Native.Nat.{ℕ, suc, _+_, _*_, _-_, _/_, _%_, _≤_, _<_}
-use mathlib.Core.Path.{_≡_, refl, sym, _∙_}
+use Prim.Native.Nat.{ℕ, zero, suc, _+_, _*_, _-_, _/_, _%_, _≤_, _<_}
+use mathlib.Core.Path.{_≡_, refl, sym, ap, _∙_}
 use mathlib.Core.List.{List}
 use native.Mathlib.Omega.{arith}
 use Rattle.heap.specs.Word.{word}
 use Rattle.heap.specs.Chain.{live, on}
-use Rattle.heap.specs.Shape.{Ghost, Shape, Skip, rankUnit, headerMark, firstUnit}
+use Rattle.heap.specs.Shape.{Ghost, Shape, Skip, rankUnit, headerMark, firstUnit, scattered}
 use Rattle.heap.proofs.Shapes.{inside, header-of, list-le}
 
 module _ {g : Ghost} {e : ℕ} {m : List ℕ} (S : Shape g e m) where
@@ -46,3 +47,16 @@ module _ {g : Ghost} {e : ℕ} {m : List ℕ} (S : Shape g e m) where
   skip-over s j k w v l K p i d =
       let L = skip-of (w % rankUnit) s (w / rankUnit) l p (K .lands) in
       rw d (record { lands = L .lands; lower = omega (arith, L .lower, K .lower) })
+
+  -- each rank has its cell
+  cell-of : (s i k : ℕ) → g .size s ≡ i + suc k → (c : ℕ) × (g .own c ≡ on s k)
+  cell-of s zero k z = (g .top s, S .chains .first s k (omega arith))
+  cell-of s (suc i) k z = let x = cell-of s i (suc k) (omega arith) in (word m (x .0) 2, S .chains .link (x .0) s k (x .1))
+
+  -- of cells side by side, the one of rank k is i cells before the first
+  pub side-cell : (h i k : ℕ) → g .own h ≡ live → word m h 1 / scattered % 2 ≡ 0 → g .size (h + 2) ≡ i + suc k → (i ≤ word m h 3 % firstUnit) × (g .own (word m h 3 % firstUnit - i) ≡ on (h + 2) k)
+  side-cell h i k l b z =
+      let x = cell-of (h + 2) i k z in
+      let e : x .0 + i ≡ word m h 3 % firstUnit = omega (arith, S .side h (x .0) k l b (x .1), first-is h l) in
+      let q : word m h 3 % firstUnit - i ≡ x .0 = omega arith in
+      (omega arith, ap (g .own) q ∙ x .1)

@@ -1,12 +1,12 @@
 -- A new object.
-use Prim.Native.Nat.{ℕ, suc, _+_, _<_}
+use Prim.Native.Nat.{ℕ, suc, _+_, _/_, _%_, _<_}
 use mathlib.Core.Path.{_≡_}
 use mathlib.Core.List.{List}
 use mathlib.Core.Logic.{_⊎_}
 use lib.ListN.{length}
 use Rattle.heap.specs.Word.{word}
 use Rattle.heap.specs.Chain.{live, out, on}
-use Rattle.heap.specs.Shape.{Ghost, Full, NoOut, OnlyOut}
+use Rattle.heap.specs.Shape.{Ghost, Full, NoOut, OnlyOut, sizeUnit, scattered}
 use Rattle.heap.specs.declared.Lists.{Lists}
 
 -- from g and m to g′ and m′ the object of header h is made or grows, by cells with 0 in words 0 and 1, and the others stay
@@ -41,6 +41,11 @@ abbrev pub Made : ℕ → ℕ → ℕ → Lists → List ℕ → Lists → List 
 Made kind n h s m r m′ = (p : ℕ) (g : Ghost) → Full g p 0 s m
     → (g′ : Ghost) × Full g′ p (suc h) r m′ × Grows h g m g′ m′ × (g′ .own h ≡ live) × (g′ .size (h + 2) ≡ n) × (word m′ h 0 ≡ kind) × (g .own h ≡ live → ⊥) × (NoOut g → NoOut g′)
     × ((c k : ℕ) → g .own c ≡ on (h + 2) k → ⊥)
+
+-- a header's word 1 from w to v, where the cell c comes before `first`: one cell more, and they stand side by side only if they did and c is next to `first`
+pub record Longer (w first c v : ℕ) : Type 0 where
+  pub more : v % sizeUnit ≡ suc (w % sizeUnit)
+  pub side : v / scattered % 2 ≡ 0 → (w / scattered % 2 ≡ 0) × ((w % sizeUnit ≡ 0) ⊎ (c ≡ first + 1))
 
 -- the words of cell c become 0, 0, v and w
 pub record Filled (m : List ℕ) (c v w : ℕ) (m′ : List ℕ) : Type 0 where

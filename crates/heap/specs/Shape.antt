@@ -65,6 +65,10 @@ firstUnit = 32768
 abbrev pub sizeUnit : ℕ
 sizeUnit = 65536
 
+-- a header's word 1 in units of it is odd where the cells of its body do not stand side by side
+abbrev pub scattered : ℕ
+scattered = 131072
+
 -- a header's words 1 and 3 have its body's size and first cell in their lower parts, and word 3 has the mark; what is no header has no body
 abbrev pub Header : Bool → ℕ → ℕ → ℕ → ℕ → Type 0
 Header true size top w1 w3 = (w1 % sizeUnit ≡ size) × (w3 % firstUnit ≡ top) × (headerMark ≤ w3)
@@ -80,7 +84,8 @@ pub record Skip (own : ℕ → Owner) (s k w : ℕ) : Type 0 where
   pub lower : w / rankUnit ≤ k
 
 -- the lists, the headers, the skip words (word 3 of each body cell but the last), no mark in a cell on a list but for dead headers, and the cells
--- from e on, which were never used
+-- from e on, which were never used. Where a live header's word 1 does not say that they are scattered, the cells of its body stand side by side, the first
+-- one last
 pub record Shape (g : Ghost) (e : ℕ) (m : List ℕ) : Type 0 where
   pub chains : Chains (g .own) (g .top) (g .size) (λ c. word m c 2)
   pub few : cells m ≤ 32768
@@ -90,6 +95,7 @@ pub record Shape (g : Ghost) (e : ℕ) (m : List ℕ) : Type 0 where
   pub counted : (t : ℕ) → total (λ c. isOn t (g .own c)) (cells m) ≡ g .size t
   pub skips : (c s k : ℕ) → 2 ≤ s → g .own c ≡ on s (suc k) → Skip (g .own) s k (word m c 3)
   pub plain : (c s k : ℕ) → (s ≡ 1 → ⊥) → g .own c ≡ on s k → word m c 3 < headerMark
+  pub side : (h c k : ℕ) → g .own h ≡ live → word m h 1 / scattered % 2 ≡ 0 → g .own c ≡ on (h + 2) k → c + g .size (h + 2) ≡ g .top (h + 2) + suc k
 
 -- the same, with the lists that s holds
 pub record Heap (g : Ghost) (s : Lists) (m : List ℕ) : Type 0 where

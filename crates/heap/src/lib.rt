@@ -1,6 +1,6 @@
 // Arrays and strings in cells of four words, over a lent slice, each object with the number of places that name it.
 // A header is (kind, number of body cells, count, first body cell and a mark), and a body cell (tag, payload, next cell, skip word).
-// Of a header's word 1 the lower 16 bits and of its word 3 the lower 15 bits and the topmost are meant; the others may be anything.
+// Of a header's word 1 the lower 16 bits and SCATTERED and of its word 3 the lower 15 bits and the topmost are meant; the others may be anything.
 // The promise: where every count is exact before, it is exact after, and what is freed is what only dead objects name.
 ghost use mathlib.Core.Path.{_≡_};
 ghost use Prim.Native.Nat.{ℕ, suc, _+_, _-_, _*_, _%_, _<_, _≤_};
@@ -9,7 +9,7 @@ ghost use Rattle.heap.specs.Word.{word, Put};
 ghost use Rattle.heap.specs.Chain.{live, out, on};
 ghost use Rattle.heap.specs.Shape.{Ghost, Shape, Skip, Empty, Heap, Full, cells, headerMark, firstUnit, sizeUnit};
 ghost use Rattle.heap.specs.Assign.{Alives, Assigned, Target, Risen};
-ghost use Rattle.heap.specs.Grow.{Fine, FineLive, Took, Grew, Made, Filled};
+ghost use Rattle.heap.specs.Grow.{Fine, FineLive, Took, Grew, Made, Filled, Longer};
 ghost use Rattle.heap.specs.Gone.{Sound, Goes, Shed, Freed};
 
 // Tags below it are plain values; from it on the payload is a header cell.
@@ -26,6 +26,9 @@ pub const FIRST_UNIT: u32 = 32768;
 
 // A header's word 1 modulo it is the number of cells of its body.
 const SIZE_UNIT: u32 = 65536;
+
+// A header's word 1 has it where the cells of its body do not stand side by side, the first one last.
+const SCATTERED: u32 = 131072;
 
 // The lists of cells: the free cells (first, how many), the cells from `edge` on that were never used, and the dead
 // headers whose cells are still to be freed (first, how many).
@@ -81,9 +84,20 @@ pub fn size(m: &[u32], h: u32) -> u32
     get(m, h, 1) % SIZE_UNIT
 }
 
-// Cell i of the body of the header h: by skip words, while they do not lead past it.
+// Cell i of the body of the header h: at once where the cells stand side by side.
 // Rules out: a link that is not followed; an element counted from the wrong end.
 pub fn seek(m: &[u32], h: u32, i: u32) -> u32
+    requires { ⌜ ((g : Ghost) × (e : ℕ) × Shape g e (now m) × (g .own h ≡ live) × (i < g .size (h + 2))) ⌝ }
+    ensures { λ r. ⌜ ((g : Ghost) (e : ℕ) → Shape g e (now (m .entry)) → g .own h ≡ live → (k : ℕ) → g .size (h + 2) ≡ i + suc k → g .own r ≡ on (h + 2) k) ⌝ }
+{
+    if get(m, h, 1) / SCATTERED % 2 == 0 {
+        return get(m, h, 3) % FIRST_UNIT - i;
+    }
+    walk(m, h, i)
+}
+
+// The same, wherever the cells stand: by skip words, while they do not lead past it.
+fn walk(m: &[u32], h: u32, i: u32) -> u32
     requires { ⌜ ((g : Ghost) × (e : ℕ) × Shape g e (now m) × (g .own h ≡ live) × (i < g .size (h + 2))) ⌝ }
     ensures { λ r. ⌜ ((g : Ghost) (e : ℕ) → Shape g e (now (m .entry)) → g .own h ≡ live → (k : ℕ) → g .size (h + 2) ≡ i + suc k → g .own r ≡ on (h + 2) k) ⌝ }
 {
@@ -218,33 +232,42 @@ fn prepend(s: Lists, m: &mut [u32], h: u32) -> Lists
     let t = take(s, m);
     let c = t.cell;
     let first = get(m, h, 3) % FIRST_UNIT;
-    let n = size(m, h);
-    let skip = skip_word(m, first, n);
+    let w = get(m, h, 1);
+    let skip = skip_word(m, first, w % SIZE_UNIT);
     init_cell(m, c, first, skip);
     put(m, h, 3, HEADER_MARK + c);
-    put(m, h, 1, n + 1);
+    put(m, h, 1, longer(w, first, c));
     t.lists
 }
 
+// A header's word 1, which was w, once the cell c stands before `first`: one cell more, and SCATTERED unless the two stand side by side.
+fn longer(w: u32, first: u32, c: u32) -> u32
+    requires { ⌜ (w % sizeUnit < 65535) × (first < firstUnit) ⌝ }
+    ensures { λ r. ⌜ Longer w first c r ⌝ }
+{
+    if c == first + 1 {
+        return w + 1;
+    }
+    if w % SIZE_UNIT == 0 {
+        return w + 1;
+    }
+    w % SCATTERED + SCATTERED + 1
+}
+
 // The skip word of a cell that is to stand before `first`, the first of n cells. It leads to `first`, or, where the two
-// skips from there are of one length, past both (Myers, An applicative random-access stack).
+// skips from there are of one length, past both (Myers, An applicative random-access stack). With no cell behind, it leads nowhere.
 fn skip_word(m: &[u32], first: u32, n: u32) -> u32
     requires { ⌜ ((g : Ghost) × (e : ℕ) × (s : ℕ) × Shape g e (now m) × (2 ≤ s) × (g .size s ≡ n) × (g .top s ≡ first)) ⌝ }
-    ensures { λ r. ⌜ ((g : Ghost) (e s : ℕ) → Shape g e (now (m .entry)) → 2 ≤ s → g .size s ≡ n → g .top s ≡ first → (k : ℕ) → n ≡ suc k → Skip (g .own) s k r) × (n ≡ 0 → r ≡ 0) ⌝ }
+    ensures { λ r. ⌜ ((g : Ghost) (e s : ℕ) → Shape g e (now (m .entry)) → 2 ≤ s → g .size s ≡ n → g .top s ≡ first → (k : ℕ) → n ≡ suc k → Skip (g .own) s k r) × (n ≡ 0 → r ≡ first) ⌝ }
 {
-    if n == 0 {
-        return 0;
-    }
-    if n == 1 {
+    if n < 2 {
         return first;
     }
     let w = get(m, first, 3);
     let r = w / RANK_UNIT;
-    if 0 < r {
-        let v = get(m, w % RANK_UNIT, 3);
-        if n - 1 + v / RANK_UNIT == r + r {
-            return v;
-        }
+    let v = get(m, w % RANK_UNIT, 3);
+    if n - 1 + v / RANK_UNIT == r + r {
+        return v;
     }
     first + RANK_UNIT * (n - 1)
 }
