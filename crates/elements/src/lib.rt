@@ -109,7 +109,7 @@ pub fn maximum(m: Machine, stack: &[u32], cells: &[u32], i: usize) -> u32
 {
     let k = m.depth - 1 - i;
     let h = stack[2 * k + 1];
-    heap::get(cells, h, 0) - 1
+    heap::kind(cells, h) - 1
 }
 
 // Byte q of the string that is item i.

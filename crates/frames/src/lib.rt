@@ -165,7 +165,7 @@ pub fn advance(m: Machine, exec: &mut [u32], cells: &[u32])
     let k = m.frames - 1;
     let c = exec[8 * k + 3];
     let left = exec[8 * k + 4];
-    let next = heap::get(cells, c, 2);
+    let next = heap::next(cells, c);
     reset_top(m, exec, RUNNING, next, left - 1);
 }
 

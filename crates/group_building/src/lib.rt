@@ -52,7 +52,7 @@ pub fn build(
             Piece::Leaf(read, next) => {
                 r = put_leaf(r, dict, cells, script, read, c);
                 at = next;
-                c = heap::get(cells, c, 2);
+                c = heap::next(cells, c);
             }
             Piece::Open(next) => {
                 let opened = open_group(r, cells, script, next, c, depth);
@@ -60,7 +60,7 @@ pub fn build(
                 let built = build(with, dict, cells, script, next, opened.first, depth - 1);
                 r = built.machine;
                 at = built.next;
-                c = heap::get(cells, c, 2);
+                c = heap::next(cells, c);
             }
             Piece::Close(next) => {
                 return Built {

@@ -76,6 +76,22 @@ pub fn put(m: &mut [u32], c: u32, w: usize, v: u32)
     m[(c as usize) * 4 + w] = v;
 }
 
+// The kind of the header h: 0 of an array, and 1 and the maximum of a string.
+pub fn kind(m: &[u32], h: u32) -> u32
+    requires { ⌜ h * 4 + 4 ≤ length (now m) ⌝ }
+    ensures { λ r. ⌜ r ≡ word (now (m .entry)) h 0 ⌝ }
+{
+    get(m, h, 0)
+}
+
+// The cell after the body cell c.
+pub fn next(m: &[u32], c: u32) -> u32
+    requires { ⌜ c * 4 + 4 ≤ length (now m) ⌝ }
+    ensures { λ r. ⌜ r ≡ word (now (m .entry)) c 2 ⌝ }
+{
+    get(m, c, 2)
+}
+
 // The number of body cells of the header h.
 pub fn size(m: &[u32], h: u32) -> u32
     requires { ⌜ h * 4 + 4 ≤ length (now m) ⌝ }

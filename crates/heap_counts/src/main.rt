@@ -211,7 +211,7 @@ fn find_element(s: Lists, slots: &[u32], m: &[u32], slot: usize, i: u32) -> Elem
         return Element::Nowhere;
     }
     let h = named - 1;
-    if heap::get(m, h, 0) != 0 {
+    if heap::kind(m, h) != 0 {
         return Element::Nowhere;
     }
     if heap::size(m, h) <= i {

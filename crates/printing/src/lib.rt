@@ -49,7 +49,7 @@ pub fn measure(dict: &[u32], cells: &[u32], tag: u32, pay: u32, depth: u32, limi
             return limit;
         }
         sum = sum + k + 1;
-        c = heap::get(cells, c, 2);
+        c = heap::next(cells, c);
         i = i + 1;
     }
     sum
@@ -90,7 +90,7 @@ pub fn write(
         i = i + 1;
         log[next] = byte_after(tag, n - i);
         next = next + 1;
-        c = heap::get(cells, c, 2);
+        c = heap::next(cells, c);
     }
     next
 }
@@ -230,7 +230,7 @@ fn current_size(cells: &[u32], h: u32) -> u32
     ensures { λ r. ⌜ CurrentSize (now (cells .entry)) h r ⌝ }
     ensures { λ r. ⌜ r < word (now (cells .entry)) h 0 ⌝ }
 {
-    let most = heap::get(cells, h, 0) - 1;
+    let most = heap::kind(cells, h) - 1;
     let mut q = 0;
     while q < most {
         if string_byte(cells, h, q) == 0 {

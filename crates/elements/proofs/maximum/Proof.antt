@@ -27,21 +27,21 @@ mul-h-2 c = search needs
 shared-slice-read-h : tie.Need-shared-slice-read-h
 shared-slice-read-h c = search needs
 
-get-requires : tie.Need-get-requires
-get-requires c κs =
+kind-requires : tie.Need-kind-requires
+kind-requires c κs =
     let start = c .before .before .before .before in
     let R = start .pre .1 .4 in
-    (omega arith, room (R .stored .full .heap .shape) _ (string-item R (start .args .i) _ (omega (arith, start .pre .0)) (start .pre .1 .5 .item) .lives) refl)
+    room (R .stored .full .heap .shape) _ (string-item R (start .args .i) _ (omega (arith, start .pre .0)) (start .pre .1 .5 .item) .lives) refl
 
 sub-result : tie.Need-sub-result
 sub-result c =
     let start = c .before .before .before .before .before in
-    let k = start .args .m .depth - 1 - start .args .i in omega (arith, c .get .ensures, maximum-read (start .pre .1 .4) (start .args .i) k (omega (arith, start .pre .0)) (start .pre .1 .5 .item))
+    let k = start .args .m .depth - 1 - start .args .i in omega (arith, c .kind .ensures, maximum-read (start .pre .1 .4) (start .args .i) k (omega (arith, start .pre .0)) (start .pre .1 .5 .item))
 
 returns : tie.Need-returns
 returns c =
     let start = c .before .before .before .before .before in
-    let k = start .args .m .depth - 1 - start .args .i in record { says = λ e d l μ R id q. omega (arith, c .get .ensures, maximum-read R (start .args .i) k (omega (arith, start .pre .0)) q) }
+    let k = start .args .m .depth - 1 - start .args .i in record { says = λ e d l μ R id q. omega (arith, c .kind .ensures, maximum-read R (start .args .i) k (omega (arith, start .pre .0)) q) }
 
 pub maximum-spec : {M : Type 1} → statement M
 maximum-spec =
@@ -53,6 +53,6 @@ maximum-spec =
     add-h
     mul-h-2
     shared-slice-read-h
-    get-requires
+    kind-requires
     sub-result
     returns)

@@ -33,8 +33,8 @@ mul-left-2 c = search needs
 slice-read-left : tie.Need-slice-read-left
 slice-read-left c = search needs
 
-get-requires : tie.Need-get-requires
-get-requires c κs = let R = c .before .before .before .before .before .pre .3 .4 in let x = run-at R _ (omega (arith, c .before .before .before .before .before .pre .0)) (c .before .before .before .before .before .pre .1) in (omega arith, cell-room R _ (omega (arith, c .before .before .before .before .before .pre .0)) (x .0) (x .1) (x .2) (c .before .before .before .before .before .pre .2))
+next-requires : tie.Need-next-requires
+next-requires c κs = let R = c .before .before .before .before .before .pre .3 .4 in let x = run-at R _ (omega (arith, c .before .before .before .before .before .pre .0)) (c .before .before .before .before .before .pre .1) in cell-room R _ (omega (arith, c .before .before .before .before .before .pre .0)) (x .0) (x .1) (x .2) (c .before .before .before .before .before .pre .2)
 
 sub-reset-top : tie.Need-sub-reset-top
 sub-reset-top c = search needs
@@ -46,7 +46,7 @@ same-length : tie.Need-same-length
 same-length c = search needs
 
 returns : tie.Need-returns
-returns c = (advances _ _ (c .before .before .before .before .before .before .before .before .before .before .pre .0) (c .before .before .before .before .before .before .before .before .before .before .pre .2) (c .before .before .before .before .get .ensures) (c .before .before .reset-top .ensures .0), (_, _, c .before .before .reset-top .ensures .1))
+returns c = (advances _ _ (c .before .before .before .before .before .before .before .before .before .before .pre .0) (c .before .before .before .before .before .before .before .before .before .before .pre .2) (c .before .before .before .before .next .ensures) (c .before .before .reset-top .ensures .0), (_, _, c .before .before .reset-top .ensures .1))
 
 pub advance-spec : {M : Type 1} → statement M
 advance-spec =
@@ -61,7 +61,7 @@ advance-spec =
     add-left
     mul-left-2
     slice-read-left
-    get-requires
+    next-requires
     sub-reset-top
     reset-top-requires
     same-length

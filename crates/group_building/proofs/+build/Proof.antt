@@ -14,7 +14,7 @@ use Rattle.group_building.proofs.+build.Lts-build as build-lts
 use Rattle.group_building.proofs.open_group.Reads as open-group-reads
 use Rattle.group_building.proofs.put_leaf.Reads as put-leaf-reads
 use Rattle.group_building.proofs.read_piece.Reads as read-piece-reads
-use Rattle.heap.proofs.get.Reads as get-reads
+use Rattle.heap.proofs.next.Reads as next-reads
 use Rattle.group_building.proofs.+build.{statement}
 use Rattle.group_building.proofs.+build.Tie.{close}
 
@@ -38,8 +38,8 @@ build-loop-holds : (t : ℕ) → build-lts.Need-loop-holds (
   read-piece-reads.Learnt,
   put-leaf-reads.Asked,
   put-leaf-reads.Learnt,
-  get-reads.Asked,
-  get-reads.Learnt,
+  next-reads.Asked,
+  next-reads.Learnt,
   open-group-reads.Asked,
   open-group-reads.Learnt,
   build-below t,
@@ -52,8 +52,8 @@ build-read-piece-requires : (t : ℕ) → build-lts.Need-read-piece-requires (
   read-piece-reads.Learnt,
   put-leaf-reads.Asked,
   put-leaf-reads.Learnt,
-  get-reads.Asked,
-  get-reads.Learnt,
+  next-reads.Asked,
+  next-reads.Learnt,
   open-group-reads.Asked,
   open-group-reads.Learnt,
   build-below t,
@@ -66,8 +66,8 @@ build-enum-known-read : (t : ℕ) → build-lts.Need-enum-known-read (
   read-piece-reads.Learnt,
   put-leaf-reads.Asked,
   put-leaf-reads.Learnt,
-  get-reads.Asked,
-  get-reads.Learnt,
+  next-reads.Asked,
+  next-reads.Learnt,
   open-group-reads.Asked,
   open-group-reads.Learnt,
   build-below t,
@@ -80,8 +80,8 @@ build-put-leaf-requires : (t : ℕ) → build-lts.Need-put-leaf-requires (
   read-piece-reads.Learnt,
   put-leaf-reads.Asked,
   put-leaf-reads.Learnt,
-  get-reads.Asked,
-  get-reads.Learnt,
+  next-reads.Asked,
+  next-reads.Learnt,
   open-group-reads.Asked,
   open-group-reads.Learnt,
   build-below t,
@@ -93,32 +93,32 @@ build-put-leaf-requires t c κs =
     let turn = after-read-piece .before in
     leaf-ready (turn .loop .inv) (after-read-piece .read-piece .ensures) _ _ (after-read .read .given .1)
 
-build-get-requires : (t : ℕ) → build-lts.Need-get-requires (
+build-next-requires : (t : ℕ) → build-lts.Need-next-requires (
   read-piece-reads.Asked,
   read-piece-reads.Learnt,
   put-leaf-reads.Asked,
   put-leaf-reads.Learnt,
-  get-reads.Asked,
-  get-reads.Learnt,
+  next-reads.Asked,
+  next-reads.Learnt,
   open-group-reads.Asked,
   open-group-reads.Learnt,
   build-below t,
   build.Post,
 ) (build-at t) build.Post build-Inv-loop build-μ-loop
-build-get-requires t c κs =
+build-next-requires t c κs =
     let after-put-leaf = c .before .before .before in
     let after-read = after-put-leaf .before .before .before in
     let after-read-piece = after-read .before .before in
     let turn = after-read-piece .before in
-    (omega arith, leaf-inside (turn .loop .inv) (after-read-piece .read-piece .ensures) _ _ (after-read .read .given .1) (after-put-leaf .put-leaf .kept .1 .1 .0))
+    leaf-inside (turn .loop .inv) (after-read-piece .read-piece .ensures) _ _ (after-read .read .given .1) (after-put-leaf .put-leaf .kept .1 .1 .0)
 
 build-loop-less : (t : ℕ) → build-lts.Need-loop-less (
   read-piece-reads.Asked,
   read-piece-reads.Learnt,
   put-leaf-reads.Asked,
   put-leaf-reads.Learnt,
-  get-reads.Asked,
-  get-reads.Learnt,
+  next-reads.Asked,
+  next-reads.Learnt,
   open-group-reads.Asked,
   open-group-reads.Learnt,
   build-below t,
@@ -135,8 +135,8 @@ build-loop-again : (t : ℕ) → build-lts.Need-loop-again (
   read-piece-reads.Learnt,
   put-leaf-reads.Asked,
   put-leaf-reads.Learnt,
-  get-reads.Asked,
-  get-reads.Learnt,
+  next-reads.Asked,
+  next-reads.Learnt,
   open-group-reads.Asked,
   open-group-reads.Learnt,
   build-below t,
@@ -147,15 +147,15 @@ build-loop-again t c =
     let after-read = after-put-leaf .before .before .before in
     let after-read-piece = after-read .before .before in
     let turn = after-read-piece .before in
-    leaf-again (turn .loop .inv) (after-read-piece .read-piece .ensures) _ _ (after-read .read .given .1) (after-put-leaf .put-leaf .ensures) (after-put-leaf .put-leaf .kept .1 .1 .0) (c .get .ensures)
+    leaf-again (turn .loop .inv) (after-read-piece .read-piece .ensures) _ _ (after-read .read .given .1) (after-put-leaf .put-leaf .ensures) (after-put-leaf .put-leaf .kept .1 .1 .0) (c .next .ensures)
 
 build-enum-known-next : (t : ℕ) → build-lts.Need-enum-known-next (
   read-piece-reads.Asked,
   read-piece-reads.Learnt,
   put-leaf-reads.Asked,
   put-leaf-reads.Learnt,
-  get-reads.Asked,
-  get-reads.Learnt,
+  next-reads.Asked,
+  next-reads.Learnt,
   open-group-reads.Asked,
   open-group-reads.Learnt,
   build-below t,
@@ -168,44 +168,44 @@ build-open-group-requires : (t : ℕ) → build-lts.Need-open-group-requires (
   read-piece-reads.Learnt,
   put-leaf-reads.Asked,
   put-leaf-reads.Learnt,
-  get-reads.Asked,
-  get-reads.Learnt,
+  next-reads.Asked,
+  next-reads.Learnt,
   open-group-reads.Asked,
   open-group-reads.Learnt,
   build-below t,
   build.Post,
 ) (build-at t) build.Post build-Inv-loop build-μ-loop
 build-open-group-requires t c κs =
-    let after-next = c .before .before in
-    let after-read-piece = after-next .before .before in
+    let after-opening = c .before .before in
+    let after-read-piece = after-opening .before .before in
     let turn = after-read-piece .before in
-    open-ready (turn .loop .inv) (after-read-piece .read-piece .ensures) _ (after-next .next .given .1)
+    open-ready (turn .loop .inv) (after-read-piece .read-piece .ensures) _ (after-opening .next2 .given .1)
 
 build-sub-build : (t : ℕ) → build-lts.Need-sub-build (
   read-piece-reads.Asked,
   read-piece-reads.Learnt,
   put-leaf-reads.Asked,
   put-leaf-reads.Learnt,
-  get-reads.Asked,
-  get-reads.Learnt,
+  next-reads.Asked,
+  next-reads.Learnt,
   open-group-reads.Asked,
   open-group-reads.Learnt,
   build-below t,
   build.Post,
 ) (build-at t) build.Post build-Inv-loop build-μ-loop
 build-sub-build t c =
-    let after-next = c .before .before .before .before .before .before .before in
-    let after-read-piece = after-next .before .before in
+    let after-opening = c .before .before .before .before .before .before .before in
+    let after-read-piece = after-opening .before .before in
     let turn = after-read-piece .before in
-    deeper (turn .loop .inv) (after-read-piece .read-piece .ensures) _ (after-next .next .given .1)
+    deeper (turn .loop .inv) (after-read-piece .read-piece .ensures) _ (after-opening .next2 .given .1)
 
 build-build-requires : (t : ℕ) → build-lts.Need-build-requires (
   read-piece-reads.Asked,
   read-piece-reads.Learnt,
   put-leaf-reads.Asked,
   put-leaf-reads.Learnt,
-  get-reads.Asked,
-  get-reads.Learnt,
+  next-reads.Asked,
+  next-reads.Learnt,
   open-group-reads.Asked,
   open-group-reads.Learnt,
   build-below t,
@@ -213,39 +213,39 @@ build-build-requires : (t : ℕ) → build-lts.Need-build-requires (
 ) (build-at t) build.Post build-Inv-loop build-μ-loop
 build-build-requires t c κs =
     let after-open-group = c .before .before .before .before in
-    let after-next = after-open-group .before .before .before in
-    let after-read-piece = after-next .before .before in
+    let after-opening = after-open-group .before .before .before in
+    let after-read-piece = after-opening .before .before in
     let turn = after-read-piece .before in
     let start = turn .before .before .before .before in
-    (omega (arith, start .pre .0, deeper (turn .loop .inv) (after-read-piece .read-piece .ensures) _ (after-next .next .given .1)), inner-ready (turn .loop .inv) (after-read-piece .read-piece .ensures) _ (after-next .next .given .1) (after-open-group .open-group .ensures))
+    (omega (arith, start .pre .0, deeper (turn .loop .inv) (after-read-piece .read-piece .ensures) _ (after-opening .next2 .given .1)), inner-ready (turn .loop .inv) (after-read-piece .read-piece .ensures) _ (after-opening .next2 .given .1) (after-open-group .open-group .ensures))
 
-build-get-requires-2 : (t : ℕ) → build-lts.Need-get-requires-2 (
+build-next-requires-2 : (t : ℕ) → build-lts.Need-next-requires-2 (
   read-piece-reads.Asked,
   read-piece-reads.Learnt,
   put-leaf-reads.Asked,
   put-leaf-reads.Learnt,
-  get-reads.Asked,
-  get-reads.Learnt,
+  next-reads.Asked,
+  next-reads.Learnt,
   open-group-reads.Asked,
   open-group-reads.Learnt,
   build-below t,
   build.Post,
 ) (build-at t) build.Post build-Inv-loop build-μ-loop
-build-get-requires-2 t c κs =
+build-next-requires-2 t c κs =
     let after-build = c .before .before .before .before in
     let after-open-group = after-build .before .before .before .before .before in
-    let after-next = after-open-group .before .before .before in
-    let after-read-piece = after-next .before .before in
+    let after-opening = after-open-group .before .before .before in
+    let after-read-piece = after-opening .before .before in
     let turn = after-read-piece .before in
-    (omega arith, inner-inside (turn .loop .inv) (after-read-piece .read-piece .ensures) _ (after-next .next .given .1) (after-open-group .open-group .ensures) (after-build .build .kept .1 .1 .0 ∙ after-open-group .open-group .kept .1 .0))
+    inner-inside (turn .loop .inv) (after-read-piece .read-piece .ensures) _ (after-opening .next2 .given .1) (after-open-group .open-group .ensures) (after-build .build .kept .1 .1 .0 ∙ after-open-group .open-group .kept .1 .0)
 
 build-loop-less-2 : (t : ℕ) → build-lts.Need-loop-less-2 (
   read-piece-reads.Asked,
   read-piece-reads.Learnt,
   put-leaf-reads.Asked,
   put-leaf-reads.Learnt,
-  get-reads.Asked,
-  get-reads.Learnt,
+  next-reads.Asked,
+  next-reads.Learnt,
   open-group-reads.Asked,
   open-group-reads.Learnt,
   build-below t,
@@ -254,18 +254,18 @@ build-loop-less-2 : (t : ℕ) → build-lts.Need-loop-less-2 (
 build-loop-less-2 t c =
     let after-build = c .before .before .before .before .before in
     let after-open-group = after-build .before .before .before .before .before in
-    let after-next = after-open-group .before .before .before in
-    let after-read-piece = after-next .before .before in
+    let after-opening = after-open-group .before .before .before in
+    let after-read-piece = after-opening .before .before in
     let turn = after-read-piece .before in
-    inner-nearer (turn .loop .inv) (after-read-piece .read-piece .ensures) _ (after-next .next .given .1) (after-open-group .open-group .ensures) (after-build .build .ensures)
+    inner-nearer (turn .loop .inv) (after-read-piece .read-piece .ensures) _ (after-opening .next2 .given .1) (after-open-group .open-group .ensures) (after-build .build .ensures)
 
 build-loop-again-2 : (t : ℕ) → build-lts.Need-loop-again-2 (
   read-piece-reads.Asked,
   read-piece-reads.Learnt,
   put-leaf-reads.Asked,
   put-leaf-reads.Learnt,
-  get-reads.Asked,
-  get-reads.Learnt,
+  next-reads.Asked,
+  next-reads.Learnt,
   open-group-reads.Asked,
   open-group-reads.Learnt,
   build-below t,
@@ -274,18 +274,18 @@ build-loop-again-2 : (t : ℕ) → build-lts.Need-loop-again-2 (
 build-loop-again-2 t c =
     let after-build = c .before .before .before .before .before in
     let after-open-group = after-build .before .before .before .before .before in
-    let after-next = after-open-group .before .before .before in
-    let after-read-piece = after-next .before .before in
+    let after-opening = after-open-group .before .before .before in
+    let after-read-piece = after-opening .before .before in
     let turn = after-read-piece .before in
-    inner-again (turn .loop .inv) (after-read-piece .read-piece .ensures) _ (after-next .next .given .1) (after-open-group .open-group .ensures) (after-build .build .ensures) (after-build .build .kept .1 .1 .0 ∙ after-open-group .open-group .kept .1 .0) (c .get2 .ensures)
+    inner-again (turn .loop .inv) (after-read-piece .read-piece .ensures) _ (after-opening .next2 .given .1) (after-open-group .open-group .ensures) (after-build .build .ensures) (after-build .build .kept .1 .1 .0 ∙ after-open-group .open-group .kept .1 .0) (c .next3 .ensures)
 
 build-enum-known-next-2 : (t : ℕ) → build-lts.Need-enum-known-next-2 (
   read-piece-reads.Asked,
   read-piece-reads.Learnt,
   put-leaf-reads.Asked,
   put-leaf-reads.Learnt,
-  get-reads.Asked,
-  get-reads.Learnt,
+  next-reads.Asked,
+  next-reads.Learnt,
   open-group-reads.Asked,
   open-group-reads.Learnt,
   build-below t,
@@ -298,8 +298,8 @@ build-same-length : (t : ℕ) → build-lts.Need-same-length (
   read-piece-reads.Learnt,
   put-leaf-reads.Asked,
   put-leaf-reads.Learnt,
-  get-reads.Asked,
-  get-reads.Learnt,
+  next-reads.Asked,
+  next-reads.Learnt,
   open-group-reads.Asked,
   open-group-reads.Learnt,
   build-below t,
@@ -314,18 +314,18 @@ build-returns : (t : ℕ) → build-lts.Need-returns (
   read-piece-reads.Learnt,
   put-leaf-reads.Asked,
   put-leaf-reads.Learnt,
-  get-reads.Asked,
-  get-reads.Learnt,
+  next-reads.Asked,
+  next-reads.Learnt,
   open-group-reads.Asked,
   open-group-reads.Learnt,
   build-below t,
   build.Post,
 ) (build-at t) build.Post build-Inv-loop build-μ-loop
 build-returns t c =
-    let after-next2 = c .before in
-    let after-read-piece = after-next2 .before .before in
+    let after-closing = c .before in
+    let after-read-piece = after-closing .before .before in
     let turn = after-read-piece .before in
-    closing (turn .loop .inv) (after-read-piece .read-piece .ensures) (after-next2 .next2 .given .1)
+    closing (turn .loop .inv) (after-read-piece .read-piece .ensures) (after-closing .next4 .given .1)
 
 pub +build-spec : {M : Type 1} → statement M
 +build-spec = close μ-build λ t. build-lts.spec (
@@ -333,8 +333,8 @@ pub +build-spec : {M : Type 1} → statement M
   read-piece-reads.Learnt,
   put-leaf-reads.Asked,
   put-leaf-reads.Learnt,
-  get-reads.Asked,
-  get-reads.Learnt,
+  next-reads.Asked,
+  next-reads.Learnt,
   open-group-reads.Asked,
   open-group-reads.Learnt,
   build-below t,
@@ -348,14 +348,14 @@ pub +build-spec : {M : Type 1} → statement M
     (build-read-piece-requires t)
     (build-enum-known-read t)
     (build-put-leaf-requires t)
-    (build-get-requires t)
+    (build-next-requires t)
     (build-loop-less t)
     (build-loop-again t)
     (build-enum-known-next t)
     (build-open-group-requires t)
     (build-sub-build t)
     (build-build-requires t)
-    (build-get-requires-2 t)
+    (build-next-requires-2 t)
     (build-loop-less-2 t)
     (build-loop-again-2 t)
     (build-enum-known-next-2 t)

@@ -23,11 +23,11 @@ returns-2 c = search needs
 sub-h : tie.Need-sub-h
 sub-h c = search needs
 
-get-requires : tie.Need-get-requires
-get-requires c κs =
+kind-requires : tie.Need-kind-requires
+kind-requires c κs =
     let start = c .before .before .before .before .before in
     let P = start .pre in
-    (omega arith, room (P .full .heap .shape) _ (slot-lives P (start .args .slot) (omega (arith, c .before .before .if1 .left)) (omega (arith, c .if2 .left))) refl)
+    room (P .full .heap .shape) _ (slot-lives P (start .args .slot) (omega (arith, c .before .before .if1 .left)) (omega (arith, c .if2 .left))) refl
 
 returns-3 : tie.Need-returns-3
 returns-3 c = search needs
@@ -54,7 +54,7 @@ returns-5 c =
     let start = c .before .before .before .before .before .before .before .before .before .before in
     λ D. let S = D .full .heap .shape in
     let l = slot-lives D (start .args .slot) (omega (arith, c .before .before .before .before .before .before .before .if1 .left)) (omega (arith, c .before .before .before .before .before .if2 .left)) in
-    element-at D _ _ _ l (sym (c .before .before .before .before .get .ensures) ∙ c .before .before .before .if3 .left) (omega (arith, header-of S _ l refl .0, c .before .before .size .ensures, c .before .if4 .left)) (c .seek .ensures)
+    element-at D _ _ _ l (sym (c .before .before .before .before .kind .ensures) ∙ c .before .before .before .if3 .left) (omega (arith, header-of S _ l refl .0, c .before .before .size .ensures, c .before .if4 .left)) (c .seek .ensures)
 
 pub find-element-spec : {M : Type 1} → statement M
 find-element-spec =
@@ -65,7 +65,7 @@ find-element-spec =
     shared-slice-read-named
     returns-2
     sub-h
-    get-requires
+    kind-requires
     returns-3
     size-requires
     returns-4

@@ -14,6 +14,7 @@ use Rattle.printing.proofs.measure.Kinds as measure-kinds
 use Rattle.printing.proofs.+measure.Lts-measure as measure-lts
 use Rattle.heap.proofs.size.Reads as size-reads
 use Rattle.heap.proofs.get.Reads as get-reads
+use Rattle.heap.proofs.next.Reads as next-reads
 use Rattle.heap.proofs.seek.Reads as seek-reads
 use Rattle.printing.proofs.at_most.Reads as at-most-reads
 use Rattle.printing.proofs.measure_plain.Reads as measure-plain-reads
@@ -48,6 +49,8 @@ measure-measure-plain-requires : (t : ℕ) → measure-lts.Need-measure-plain-re
   get-reads.Learnt,
   measure-below t,
   measure.Post,
+  next-reads.Asked,
+  next-reads.Learnt,
 ) (measure-at t) measure.Post measure-Inv-loop measure-μ-loop
 measure-measure-plain-requires t c κs = (c .if1 .taken, c .before .before .before .pre .1)
 
@@ -64,6 +67,8 @@ measure-at-most-requires : (t : ℕ) → measure-lts.Need-at-most-requires (
   get-reads.Learnt,
   measure-below t,
   measure.Post,
+  next-reads.Asked,
+  next-reads.Learnt,
 ) (measure-at t) measure.Post measure-Inv-loop measure-μ-loop
 measure-at-most-requires t c κs = tt
 
@@ -80,6 +85,8 @@ measure-returns : (t : ℕ) → measure-lts.Need-returns (
   get-reads.Learnt,
   measure-below t,
   measure.Post,
+  next-reads.Asked,
+  next-reads.Learnt,
 ) (measure-at t) measure.Post measure-Inv-loop measure-μ-loop
 measure-returns t c = plain-measures (c .before .measure-plain .ensures) (c .at-most .ensures)
 
@@ -96,6 +103,8 @@ measure-at-most-requires-2 : (t : ℕ) → measure-lts.Need-at-most-requires-2 (
   get-reads.Learnt,
   measure-below t,
   measure.Post,
+  next-reads.Asked,
+  next-reads.Learnt,
 ) (measure-at t) measure.Post measure-Inv-loop measure-μ-loop
 measure-at-most-requires-2 t c κs = tt
 
@@ -112,6 +121,8 @@ measure-returns-2 : (t : ℕ) → measure-lts.Need-returns-2 (
   get-reads.Learnt,
   measure-below t,
   measure.Post,
+  next-reads.Asked,
+  next-reads.Learnt,
 ) (measure-at t) measure.Post measure-Inv-loop measure-μ-loop
 measure-returns-2 t c = deep-measures (c .before .before .if1 .left) (c .before .if2 .taken) (c .at-most2 .ensures)
 
@@ -128,6 +139,8 @@ measure-size-requires : (t : ℕ) → measure-lts.Need-size-requires (
   get-reads.Learnt,
   measure-below t,
   measure.Post,
+  next-reads.Asked,
+  next-reads.Learnt,
 ) (measure-at t) measure.Post measure-Inv-loop measure-μ-loop
 measure-size-requires t c κs = size-room (c .before .if1 .left) (c .before .before .before .before .pre .1)
 
@@ -144,6 +157,8 @@ measure-at-most-requires-3 : (t : ℕ) → measure-lts.Need-at-most-requires-3 (
   get-reads.Learnt,
   measure-below t,
   measure.Post,
+  next-reads.Asked,
+  next-reads.Learnt,
 ) (measure-at t) measure.Post measure-Inv-loop measure-μ-loop
 measure-at-most-requires-3 t c κs = tt
 
@@ -160,6 +175,8 @@ measure-returns-3 : (t : ℕ) → measure-lts.Need-returns-3 (
   get-reads.Learnt,
   measure-below t,
   measure.Post,
+  next-reads.Asked,
+  next-reads.Learnt,
 ) (measure-at t) measure.Post measure-Inv-loop measure-μ-loop
 measure-returns-3 t c = none-measures (c .before .before .before .before .if1 .left) (c .before .before .before .if2 .left) (sym (c .before .before .size .ensures) ∙ c .before .if3 .taken) (c .at-most3 .ensures)
 
@@ -176,6 +193,8 @@ measure-returns-4 : (t : ℕ) → measure-lts.Need-returns-4 (
   get-reads.Learnt,
   measure-below t,
   measure.Post,
+  next-reads.Asked,
+  next-reads.Learnt,
 ) (measure-at t) measure.Post measure-Inv-loop measure-μ-loop
 measure-returns-4 t c = low-measures (c .before .before .before .before .if1 .left) (c .before .before .before .if2 .left) (omega (arith, c .before .before .size .ensures, c .before .if3 .left)) (c .if4 .taken) refl
 
@@ -192,6 +211,8 @@ measure-seek-requires : (t : ℕ) → measure-lts.Need-seek-requires (
   get-reads.Learnt,
   measure-below t,
   measure.Post,
+  next-reads.Asked,
+  next-reads.Learnt,
 ) (measure-at t) measure.Post measure-Inv-loop measure-μ-loop
 measure-seek-requires t c κs = first-sought (c .before .before .before .before .if1 .left) (c .before .before .before .before .before .before .before .pre .1) (omega (arith, c .before .before .size .ensures, c .before .if3 .left))
 
@@ -208,6 +229,8 @@ measure-loop-holds : (t : ℕ) → measure-lts.Need-loop-holds (
   get-reads.Learnt,
   measure-below t,
   measure.Post,
+  next-reads.Asked,
+  next-reads.Learnt,
 ) (measure-at t) measure.Post measure-Inv-loop measure-μ-loop
 measure-loop-holds t c = (omega (arith, c .before .if4 .left), omega arith, c .seek .ensures, summed-begin _ _ _ _ _)
 
@@ -224,6 +247,8 @@ measure-get-requires : (t : ℕ) → measure-lts.Need-get-requires (
   get-reads.Learnt,
   measure-below t,
   measure.Post,
+  next-reads.Asked,
+  next-reads.Learnt,
 ) (measure-at t) measure.Post measure-Inv-loop measure-μ-loop
 measure-get-requires t c κs = (omega arith, element-room (c .before .before .before .before .before .before .before .if1 .left) (c .before .before .before .before .before .before .before .before .before .before .pre .1) (c .before .loop .i) (omega (arith, c .loop-test .taken, c .before .before .before .before .before .size .ensures)) _ (c .before .loop .inv .2))
 
@@ -240,6 +265,8 @@ measure-get-requires-2 : (t : ℕ) → measure-lts.Need-get-requires-2 (
   get-reads.Learnt,
   measure-below t,
   measure.Post,
+  next-reads.Asked,
+  next-reads.Learnt,
 ) (measure-at t) measure.Post measure-Inv-loop measure-μ-loop
 measure-get-requires-2 t c κs = (omega arith, element-room (c .before .before .before .before .before .before .before .before .if1 .left) (c .before .before .before .before .before .before .before .before .before .before .before .pre .1) (c .before .before .loop .i) (omega (arith, c .before .loop-test .taken, c .before .before .before .before .before .before .size .ensures)) _ (c .before .before .loop .inv .2))
 
@@ -256,6 +283,8 @@ measure-sub-left : (t : ℕ) → measure-lts.Need-sub-left (
   get-reads.Learnt,
   measure-below t,
   measure.Post,
+  next-reads.Asked,
+  next-reads.Learnt,
 ) (measure-at t) measure.Post measure-Inv-loop measure-μ-loop
 measure-sub-left t c = omega (arith, c .before .before .before .loop .inv .0)
 
@@ -272,6 +301,8 @@ measure-sub-measure : (t : ℕ) → measure-lts.Need-sub-measure (
   get-reads.Learnt,
   measure-below t,
   measure.Post,
+  next-reads.Asked,
+  next-reads.Learnt,
 ) (measure-at t) measure.Post measure-Inv-loop measure-μ-loop
 measure-sub-measure t c = omega (arith, c .before .before .before .before .before .before .before .before .if2 .left)
 
@@ -288,6 +319,8 @@ measure-measure-requires : (t : ℕ) → measure-lts.Need-measure-requires (
   get-reads.Learnt,
   measure-below t,
   measure.Post,
+  next-reads.Asked,
+  next-reads.Learnt,
 ) (measure-at t) measure.Post measure-Inv-loop measure-μ-loop
 measure-measure-requires t c κs = (omega (arith, c .before .before .before .before .before .before .before .before .before .before .before .before .pre .0, c .before .before .before .before .before .before .before .before .if2 .left), element-known (c .before .before .before .before .before .before .before .before .before .if1 .left) (c .before .before .before .before .before .before .before .before .before .before .before .before .pre .1) (c .before .before .before .loop .i) (omega (arith, c .before .before .loop-test .taken, c .before .before .before .before .before .before .before .size .ensures)) _ (c .before .before .before .loop .inv .2) (c .before .get .ensures) (c .get2 .ensures))
 
@@ -304,6 +337,8 @@ measure-returns-5 : (t : ℕ) → measure-lts.Need-returns-5 (
   get-reads.Learnt,
   measure-below t,
   measure.Post,
+  next-reads.Asked,
+  next-reads.Learnt,
 ) (measure-at t) measure.Post measure-Inv-loop measure-μ-loop
 measure-returns-5 t c = summed-over (c .before .before .before .before .before .before .before .before .before .before .before .if1 .left) (c .before .before .before .before .before .before .before .before .before .before .if2 .left) (c .before .before .before .before .before .loop .inv .3) (c .before .before .before .before .before .loop .inv .0) (omega (arith, c .before .before .before .before .loop-test .taken, c .before .before .before .before .before .before .before .before .before .size .ensures)) _ (c .before .before .before .before .before .loop .inv .2) (c .before .before .before .get .ensures) (c .before .before .get2 .ensures) (c .before .measure .ensures) (c .if5 .taken) refl
 
@@ -320,6 +355,8 @@ measure-add-sum : (t : ℕ) → measure-lts.Need-add-sum (
   get-reads.Learnt,
   measure-below t,
   measure.Post,
+  next-reads.Asked,
+  next-reads.Learnt,
 ) (measure-at t) measure.Post measure-Inv-loop measure-μ-loop
 measure-add-sum t c = omega (arith, c .if5 .left, c .before .before .before .before .before .loop .inv .0)
 
@@ -336,10 +373,12 @@ measure-add-sum-2 : (t : ℕ) → measure-lts.Need-add-sum-2 (
   get-reads.Learnt,
   measure-below t,
   measure.Post,
+  next-reads.Asked,
+  next-reads.Learnt,
 ) (measure-at t) measure.Post measure-Inv-loop measure-μ-loop
 measure-add-sum-2 t c = omega (arith, c .if5 .left, c .before .before .before .before .before .loop .inv .0)
 
-measure-get-requires-3 : (t : ℕ) → measure-lts.Need-get-requires-3 (
+measure-next-requires : (t : ℕ) → measure-lts.Need-next-requires (
   measure-plain-reads.Asked,
   measure-plain-reads.Learnt,
   at-most-reads.Asked,
@@ -352,8 +391,10 @@ measure-get-requires-3 : (t : ℕ) → measure-lts.Need-get-requires-3 (
   get-reads.Learnt,
   measure-below t,
   measure.Post,
+  next-reads.Asked,
+  next-reads.Learnt,
 ) (measure-at t) measure.Post measure-Inv-loop measure-μ-loop
-measure-get-requires-3 t c κs = (omega arith, element-room (c .before .before .before .before .before .before .before .before .before .before .before .if1 .left) (c .before .before .before .before .before .before .before .before .before .before .before .before .before .before .pre .1) (c .before .before .before .before .before .loop .i) (omega (arith, c .before .before .before .before .loop-test .taken, c .before .before .before .before .before .before .before .before .before .size .ensures)) _ (c .before .before .before .before .before .loop .inv .2))
+measure-next-requires t c κs = element-room (c .before .before .before .before .before .before .before .before .before .before .before .if1 .left) (c .before .before .before .before .before .before .before .before .before .before .before .before .before .before .pre .1) (c .before .before .before .before .before .loop .i) (omega (arith, c .before .before .before .before .loop-test .taken, c .before .before .before .before .before .before .before .before .before .size .ensures)) _ (c .before .before .before .before .before .loop .inv .2)
 
 measure-add-i : (t : ℕ) → measure-lts.Need-add-i (
   measure-plain-reads.Asked,
@@ -368,6 +409,8 @@ measure-add-i : (t : ℕ) → measure-lts.Need-add-i (
   get-reads.Learnt,
   measure-below t,
   measure.Post,
+  next-reads.Asked,
+  next-reads.Learnt,
 ) (measure-at t) measure.Post measure-Inv-loop measure-μ-loop
 measure-add-i t c = omega (arith, c .before .before .before .before .before .loop-test .taken)
 
@@ -384,6 +427,8 @@ measure-loop-less : (t : ℕ) → measure-lts.Need-loop-less (
   get-reads.Learnt,
   measure-below t,
   measure.Post,
+  next-reads.Asked,
+  next-reads.Learnt,
 ) (measure-at t) measure.Post measure-Inv-loop measure-μ-loop
 measure-loop-less t c = omega (arith, c .before .before .before .before .before .loop-test .taken)
 
@@ -400,8 +445,10 @@ measure-loop-again : (t : ℕ) → measure-lts.Need-loop-again (
   get-reads.Learnt,
   measure-below t,
   measure.Post,
+  next-reads.Asked,
+  next-reads.Learnt,
 ) (measure-at t) measure.Post measure-Inv-loop measure-μ-loop
-measure-loop-again t c = (omega (arith, c .before .if5 .left, c .before .before .before .before .before .before .loop .inv .0), omega (arith, c .before .before .before .before .before .loop-test .taken), found-after _ _ _ _ _ (c .before .before .before .before .before .before .loop .inv .2) (c .get3 .ensures), summed-again (c .before .before .before .before .before .before .before .before .before .before .before .before .if1 .left) (c .before .before .before .before .before .before .before .before .before .before .before .if2 .left) (c .before .before .before .before .before .before .loop .inv .3) (c .before .before .before .before .before .before .loop .inv .0) (omega (arith, c .before .before .before .before .before .loop-test .taken, c .before .before .before .before .before .before .before .before .before .before .size .ensures)) _ (c .before .before .before .before .before .before .loop .inv .2) (c .before .before .before .before .get .ensures) (c .before .before .before .get2 .ensures) (c .before .before .measure .ensures) (c .before .if5 .left))
+measure-loop-again t c = (omega (arith, c .before .if5 .left, c .before .before .before .before .before .before .loop .inv .0), omega (arith, c .before .before .before .before .before .loop-test .taken), found-after _ _ _ _ _ (c .before .before .before .before .before .before .loop .inv .2) (c .next .ensures), summed-again (c .before .before .before .before .before .before .before .before .before .before .before .before .if1 .left) (c .before .before .before .before .before .before .before .before .before .before .before .if2 .left) (c .before .before .before .before .before .before .loop .inv .3) (c .before .before .before .before .before .before .loop .inv .0) (omega (arith, c .before .before .before .before .before .loop-test .taken, c .before .before .before .before .before .before .before .before .before .before .size .ensures)) _ (c .before .before .before .before .before .before .loop .inv .2) (c .before .before .before .before .get .ensures) (c .before .before .before .get2 .ensures) (c .before .before .measure .ensures) (c .before .if5 .left))
 
 measure-returns-6 : (t : ℕ) → measure-lts.Need-returns-6 (
   measure-plain-reads.Asked,
@@ -416,6 +463,8 @@ measure-returns-6 : (t : ℕ) → measure-lts.Need-returns-6 (
   get-reads.Learnt,
   measure-below t,
   measure.Post,
+  next-reads.Asked,
+  next-reads.Learnt,
 ) (measure-at t) measure.Post measure-Inv-loop measure-μ-loop
 measure-returns-6 t c = summed-ends (c .before .before .before .before .before .before .before .if1 .left) (c .before .before .before .before .before .before .if2 .left) (c .before .loop .inv .3) (c .before .loop .inv .0) (omega (arith, c .loop-test .left, c .before .before .before .before .before .size .ensures)) (omega (arith, c .before .before .before .before .before .size .ensures, c .before .before .before .before .if3 .left)) (omega (arith, c .before .loop .inv .1, c .before .before .before .before .before .size .ensures))
 
@@ -433,6 +482,8 @@ pub +measure-spec : {M : Type 1} → statement M
   get-reads.Learnt,
   measure-below t,
   measure.Post,
+  next-reads.Asked,
+  next-reads.Learnt,
 )
     (measure-at t)
     measure.Post
@@ -457,7 +508,7 @@ pub +measure-spec : {M : Type 1} → statement M
     (measure-returns-5 t)
     (measure-add-sum t)
     (measure-add-sum-2 t)
-    (measure-get-requires-3 t)
+    (measure-next-requires t)
     (measure-add-i t)
     (measure-loop-less t)
     (measure-loop-again t)

@@ -15,6 +15,7 @@ use Rattle.printing.proofs.write.Kinds as write-kinds
 use Rattle.printing.proofs.+write.Lts-write as write-lts
 use Rattle.heap.proofs.size.Reads as size-reads
 use Rattle.heap.proofs.get.Reads as get-reads
+use Rattle.heap.proofs.next.Reads as next-reads
 use Rattle.heap.proofs.seek.Reads as seek-reads
 use Rattle.printing.proofs.byte_after.Reads as byte-after-reads
 use Rattle.printing.proofs.opening.Reads as opening-reads
@@ -55,6 +56,8 @@ write-write-plain-requires : (t : ℕ) → write-lts.Need-write-plain-requires (
   write.Post,
   byte-after-reads.Asked,
   byte-after-reads.Learnt,
+  next-reads.Asked,
+  next-reads.Learnt,
 ) (write-at t) write.Post write-Inv-loop write-μ-loop
 write-write-plain-requires t c κs = (c .before .if1 .taken, plain-room (c .before .before .before .before .before .pre .1))
 
@@ -75,6 +78,8 @@ write-same-length : (t : ℕ) → write-lts.Need-same-length (
   write.Post,
   byte-after-reads.Asked,
   byte-after-reads.Learnt,
+  next-reads.Asked,
+  next-reads.Learnt,
 ) (write-at t) write.Post write-Inv-loop write-μ-loop
 write-same-length t c = c .before .before .write-plain .kept .1 .1 .0
 
@@ -95,6 +100,8 @@ write-returns : (t : ℕ) → write-lts.Need-returns (
   write.Post,
   byte-after-reads.Asked,
   byte-after-reads.Learnt,
+  next-reads.Asked,
+  next-reads.Learnt,
 ) (write-at t) write.Post write-Inv-loop write-μ-loop
 write-returns t c = plain-writes (c .before .before .write-plain .ensures)
 
@@ -115,6 +122,8 @@ write-write-short-requires : (t : ℕ) → write-lts.Need-write-short-requires (
   write.Post,
   byte-after-reads.Asked,
   byte-after-reads.Learnt,
+  next-reads.Asked,
+  next-reads.Learnt,
 ) (write-at t) write.Post write-Inv-loop write-μ-loop
 write-write-short-requires t c κs = deep-room (c .before .before .if1 .left) (c .before .before .before .before .before .before .pre .1) (c .before .if2 .taken)
 
@@ -135,6 +144,8 @@ write-same-length-2 : (t : ℕ) → write-lts.Need-same-length-2 (
   write.Post,
   byte-after-reads.Asked,
   byte-after-reads.Learnt,
+  next-reads.Asked,
+  next-reads.Learnt,
 ) (write-at t) write.Post write-Inv-loop write-μ-loop
 write-same-length-2 t c = c .before .before .write-short .kept .0
 
@@ -155,6 +166,8 @@ write-returns-2 : (t : ℕ) → write-lts.Need-returns-2 (
   write.Post,
   byte-after-reads.Asked,
   byte-after-reads.Learnt,
+  next-reads.Asked,
+  next-reads.Learnt,
 ) (write-at t) write.Post write-Inv-loop write-μ-loop
 write-returns-2 t c = deep-writes (c .before .before .before .before .before .if1 .left) (c .before .before .before .before .if2 .taken) (c .before .before .write-short .ensures)
 
@@ -175,6 +188,8 @@ write-size-requires : (t : ℕ) → write-lts.Need-size-requires (
   write.Post,
   byte-after-reads.Asked,
   byte-after-reads.Learnt,
+  next-reads.Asked,
+  next-reads.Learnt,
 ) (write-at t) write.Post write-Inv-loop write-μ-loop
 write-size-requires t c κs = size-room (c .before .if1 .left) (c .before .before .before .before .before .pre .1 .known)
 
@@ -195,6 +210,8 @@ write-write-short-requires-2 : (t : ℕ) → write-lts.Need-write-short-requires
   write.Post,
   byte-after-reads.Asked,
   byte-after-reads.Learnt,
+  next-reads.Asked,
+  next-reads.Learnt,
 ) (write-at t) write.Post write-Inv-loop write-μ-loop
 write-write-short-requires-2 t c κs = none-room (c .before .before .before .before .if1 .left) (c .before .before .before .before .before .before .before .before .pre .1) (c .before .before .before .if2 .left) (sym (c .before .before .size .ensures) ∙ c .before .if3 .taken)
 
@@ -215,6 +232,8 @@ write-same-length-3 : (t : ℕ) → write-lts.Need-same-length-3 (
   write.Post,
   byte-after-reads.Asked,
   byte-after-reads.Learnt,
+  next-reads.Asked,
+  next-reads.Learnt,
 ) (write-at t) write.Post write-Inv-loop write-μ-loop
 write-same-length-3 t c = c .before .before .write-short2 .kept .0
 
@@ -235,6 +254,8 @@ write-returns-3 : (t : ℕ) → write-lts.Need-returns-3 (
   write.Post,
   byte-after-reads.Asked,
   byte-after-reads.Learnt,
+  next-reads.Asked,
+  next-reads.Learnt,
 ) (write-at t) write.Post write-Inv-loop write-μ-loop
 write-returns-3 t c = none-writes (c .before .before .before .before .before .before .before .if1 .left) (c .before .before .before .before .before .before .if2 .left) (sym (c .before .before .before .before .before .size .ensures) ∙ c .before .before .before .before .if3 .taken) (c .before .before .write-short2 .ensures)
 
@@ -255,6 +276,8 @@ write-opening-requires : (t : ℕ) → write-lts.Need-opening-requires (
   write.Post,
   byte-after-reads.Asked,
   byte-after-reads.Learnt,
+  next-reads.Asked,
+  next-reads.Learnt,
 ) (write-at t) write.Post write-Inv-loop write-μ-loop
 write-opening-requires t c κs = tt
 
@@ -275,6 +298,8 @@ write-slice-write-log : (t : ℕ) → write-lts.Need-slice-write-log (
   write.Post,
   byte-after-reads.Asked,
   byte-after-reads.Learnt,
+  next-reads.Asked,
+  next-reads.Learnt,
 ) (write-at t) write.Post write-Inv-loop write-μ-loop
 write-slice-write-log t c = omega (arith, list-room (c .before .before .before .before .if1 .left) (c .before .before .before .before .before .before .before .before .pre .1) (c .before .before .before .if2 .left) (omega (arith, c .before .before .size .ensures, c .before .if3 .left)))
 
@@ -295,6 +320,8 @@ write-add-next : (t : ℕ) → write-lts.Need-add-next (
   write.Post,
   byte-after-reads.Asked,
   byte-after-reads.Learnt,
+  next-reads.Asked,
+  next-reads.Learnt,
 ) (write-at t) write.Post write-Inv-loop write-μ-loop
 write-add-next t c = omega (arith, list-room (c .before .before .before .before .if1 .left) (c .before .before .before .before .before .before .before .before .pre .1) (c .before .before .before .if2 .left) (omega (arith, c .before .before .size .ensures, c .before .if3 .left)))
 
@@ -315,6 +342,8 @@ write-seek-requires : (t : ℕ) → write-lts.Need-seek-requires (
   write.Post,
   byte-after-reads.Asked,
   byte-after-reads.Learnt,
+  next-reads.Asked,
+  next-reads.Learnt,
 ) (write-at t) write.Post write-Inv-loop write-μ-loop
 write-seek-requires t c κs = first-sought (c .before .before .before .before .if1 .left) (c .before .before .before .before .before .before .before .before .pre .1 .known) (omega (arith, c .before .before .size .ensures, c .before .if3 .left))
 
@@ -335,6 +364,8 @@ write-loop-holds : (t : ℕ) → write-lts.Need-loop-holds (
   write.Post,
   byte-after-reads.Asked,
   byte-after-reads.Learnt,
+  next-reads.Asked,
+  next-reads.Learnt,
 ) (write-at t) write.Post write-Inv-loop write-μ-loop
 write-loop-holds t c = (omega arith, c .seek .ensures, listed-begin _ _ _ _ _ _ _)
 
@@ -355,6 +386,8 @@ write-get-requires : (t : ℕ) → write-lts.Need-get-requires (
   write.Post,
   byte-after-reads.Asked,
   byte-after-reads.Learnt,
+  next-reads.Asked,
+  next-reads.Learnt,
 ) (write-at t) write.Post write-Inv-loop write-μ-loop
 write-get-requires t c κs = (omega arith, element-room (c .before .before .before .before .before .before .before .if1 .left) (c .before .before .before .before .before .before .before .before .before .before .before .pre .1 .known) (c .before .loop .i) (omega (arith, c .loop-test .taken, c .before .before .before .before .before .size .ensures)) _ (c .before .loop .inv .1))
 
@@ -375,6 +408,8 @@ write-get-requires-2 : (t : ℕ) → write-lts.Need-get-requires-2 (
   write.Post,
   byte-after-reads.Asked,
   byte-after-reads.Learnt,
+  next-reads.Asked,
+  next-reads.Learnt,
 ) (write-at t) write.Post write-Inv-loop write-μ-loop
 write-get-requires-2 t c κs = (omega arith, element-room (c .before .before .before .before .before .before .before .before .if1 .left) (c .before .before .before .before .before .before .before .before .before .before .before .before .pre .1 .known) (c .before .before .loop .i) (omega (arith, c .before .loop-test .taken, c .before .before .before .before .before .before .size .ensures)) _ (c .before .before .loop .inv .1))
 
@@ -395,6 +430,8 @@ write-sub-write : (t : ℕ) → write-lts.Need-sub-write (
   write.Post,
   byte-after-reads.Asked,
   byte-after-reads.Learnt,
+  next-reads.Asked,
+  next-reads.Learnt,
 ) (write-at t) write.Post write-Inv-loop write-μ-loop
 write-sub-write t c = omega (arith, c .before .before .before .before .before .before .before .before .before .if2 .left)
 
@@ -415,6 +452,8 @@ write-write-requires : (t : ℕ) → write-lts.Need-write-requires (
   write.Post,
   byte-after-reads.Asked,
   byte-after-reads.Learnt,
+  next-reads.Asked,
+  next-reads.Learnt,
 ) (write-at t) write.Post write-Inv-loop write-μ-loop
 write-write-requires t c κs = (omega (arith, c .before .before .before .before .before .before .before .before .before .before .before .before .before .before .pre .0, c .before .before .before .before .before .before .before .before .before .if2 .left), element-fits (c .before .before .before .before .before .before .before .before .before .before .if1 .left) (c .before .before .before .before .before .before .before .before .before .before .before .before .before .before .pre .1) (c .before .before .before .before .before .before .before .before .before .if2 .left) (omega (arith, c .before .before .before .before .before .before .before .before .size .ensures, c .before .before .before .before .before .before .before .if3 .left)) (length-set (c .before .before .before .before .before .before .before .before .before .before .before .before .before .before .args .log .now) (c .before .before .before .before .before .before .before .before .before .before .before .before .before .before .args .at) (c .before .before .before .before .before .before .opening .result)) (c .before .before .before .before .loop .inv .2) (omega (arith, c .before .before .before .loop-test .taken, c .before .before .before .before .before .before .before .before .size .ensures)) _ (c .before .before .before .before .loop .inv .1) (c .before .before .get .ensures) (c .before .get2 .ensures))
 
@@ -435,6 +474,8 @@ write-add-i : (t : ℕ) → write-lts.Need-add-i (
   write.Post,
   byte-after-reads.Asked,
   byte-after-reads.Learnt,
+  next-reads.Asked,
+  next-reads.Learnt,
 ) (write-at t) write.Post write-Inv-loop write-μ-loop
 write-add-i t c = omega (arith, c .before .before .before .before .before .before .loop-test .taken)
 
@@ -455,6 +496,8 @@ write-sub-byte-after : (t : ℕ) → write-lts.Need-sub-byte-after (
   write.Post,
   byte-after-reads.Asked,
   byte-after-reads.Learnt,
+  next-reads.Asked,
+  next-reads.Learnt,
 ) (write-at t) write.Post write-Inv-loop write-μ-loop
 write-sub-byte-after t c = omega (arith, c .before .before .before .before .before .before .loop-test .taken)
 
@@ -475,6 +518,8 @@ write-byte-after-requires : (t : ℕ) → write-lts.Need-byte-after-requires (
   write.Post,
   byte-after-reads.Asked,
   byte-after-reads.Learnt,
+  next-reads.Asked,
+  next-reads.Learnt,
 ) (write-at t) write.Post write-Inv-loop write-μ-loop
 write-byte-after-requires t c κs = tt
 
@@ -495,6 +540,8 @@ write-slice-write-log-2 : (t : ℕ) → write-lts.Need-slice-write-log-2 (
   write.Post,
   byte-after-reads.Asked,
   byte-after-reads.Learnt,
+  next-reads.Asked,
+  next-reads.Learnt,
 ) (write-at t) write.Post write-Inv-loop write-μ-loop
 write-slice-write-log-2 t c = after-fits (c .before .before .before .before .before .before .before .before .before .before .before .before .before .before .if1 .left) (c .before .before .before .before .before .before .before .before .before .before .before .before .before .before .before .before .before .before .pre .1) (c .before .before .before .before .before .before .before .before .before .before .before .before .before .if2 .left) (omega (arith, c .before .before .before .before .before .before .before .before .before .before .before .before .size .ensures, c .before .before .before .before .before .before .before .before .before .before .before .if3 .left)) (length-set (c .before .before .before .before .before .before .before .before .before .before .before .before .before .before .before .before .before .before .args .log .now) (c .before .before .before .before .before .before .before .before .before .before .before .before .before .before .before .before .before .before .args .at) (c .before .before .before .before .before .before .before .before .before .before .opening .result)) (c .before .before .before .before .before .before .before .before .loop .inv .2) (omega (arith, c .before .before .before .before .before .before .before .loop-test .taken, c .before .before .before .before .before .before .before .before .before .before .before .before .size .ensures)) _ (c .before .before .before .before .before .before .before .before .loop .inv .1) (c .before .before .before .before .before .before .get .ensures) (c .before .before .before .before .before .get2 .ensures) (c .before .before .before .write .ensures) (c .before .before .before .write .kept .1 .1 .0)
 
@@ -515,10 +562,12 @@ write-add-next-2 : (t : ℕ) → write-lts.Need-add-next-2 (
   write.Post,
   byte-after-reads.Asked,
   byte-after-reads.Learnt,
+  next-reads.Asked,
+  next-reads.Learnt,
 ) (write-at t) write.Post write-Inv-loop write-μ-loop
 write-add-next-2 t c = omega (arith, after-fits (c .before .before .before .before .before .before .before .before .before .before .before .before .before .before .if1 .left) (c .before .before .before .before .before .before .before .before .before .before .before .before .before .before .before .before .before .before .pre .1) (c .before .before .before .before .before .before .before .before .before .before .before .before .before .if2 .left) (omega (arith, c .before .before .before .before .before .before .before .before .before .before .before .before .size .ensures, c .before .before .before .before .before .before .before .before .before .before .before .if3 .left)) (length-set (c .before .before .before .before .before .before .before .before .before .before .before .before .before .before .before .before .before .before .args .log .now) (c .before .before .before .before .before .before .before .before .before .before .before .before .before .before .before .before .before .before .args .at) (c .before .before .before .before .before .before .before .before .before .before .opening .result)) (c .before .before .before .before .before .before .before .before .loop .inv .2) (omega (arith, c .before .before .before .before .before .before .before .loop-test .taken, c .before .before .before .before .before .before .before .before .before .before .before .before .size .ensures)) _ (c .before .before .before .before .before .before .before .before .loop .inv .1) (c .before .before .before .before .before .before .get .ensures) (c .before .before .before .before .before .get2 .ensures) (c .before .before .before .write .ensures) (c .before .before .before .write .kept .1 .1 .0), c .before .before .before .write .kept .1 .1 .0, c .before .before .before .before .before .before .before .before .loop .inv .2 .long, length-set (c .before .before .before .before .before .before .before .before .before .before .before .before .before .before .before .before .before .before .args .log .now) (c .before .before .before .before .before .before .before .before .before .before .before .before .before .before .before .before .before .before .args .at) (c .before .before .before .before .before .before .before .before .before .before .opening .result))
 
-write-get-requires-3 : (t : ℕ) → write-lts.Need-get-requires-3 (
+write-next-requires : (t : ℕ) → write-lts.Need-next-requires (
   write-plain-reads.Asked,
   write-plain-reads.Learnt,
   write-short-reads.Asked,
@@ -535,8 +584,10 @@ write-get-requires-3 : (t : ℕ) → write-lts.Need-get-requires-3 (
   write.Post,
   byte-after-reads.Asked,
   byte-after-reads.Learnt,
+  next-reads.Asked,
+  next-reads.Learnt,
 ) (write-at t) write.Post write-Inv-loop write-μ-loop
-write-get-requires-3 t c κs = (omega arith, element-room (c .before .before .before .before .before .before .before .before .before .before .before .before .before .before .if1 .left) (c .before .before .before .before .before .before .before .before .before .before .before .before .before .before .before .before .before .before .pre .1 .known) (c .before .before .before .before .before .before .before .before .loop .i) (omega (arith, c .before .before .before .before .before .before .before .loop-test .taken, c .before .before .before .before .before .before .before .before .before .before .before .before .size .ensures)) _ (c .before .before .before .before .before .before .before .before .loop .inv .1))
+write-next-requires t c κs = element-room (c .before .before .before .before .before .before .before .before .before .before .before .before .before .before .if1 .left) (c .before .before .before .before .before .before .before .before .before .before .before .before .before .before .before .before .before .before .pre .1 .known) (c .before .before .before .before .before .before .before .before .loop .i) (omega (arith, c .before .before .before .before .before .before .before .loop-test .taken, c .before .before .before .before .before .before .before .before .before .before .before .before .size .ensures)) _ (c .before .before .before .before .before .before .before .before .loop .inv .1)
 
 write-loop-less : (t : ℕ) → write-lts.Need-loop-less (
   write-plain-reads.Asked,
@@ -555,6 +606,8 @@ write-loop-less : (t : ℕ) → write-lts.Need-loop-less (
   write.Post,
   byte-after-reads.Asked,
   byte-after-reads.Learnt,
+  next-reads.Asked,
+  next-reads.Learnt,
 ) (write-at t) write.Post write-Inv-loop write-μ-loop
 write-loop-less t c = omega (arith, c .before .before .before .before .before .before .before .before .loop-test .taken)
 
@@ -575,8 +628,10 @@ write-loop-again : (t : ℕ) → write-lts.Need-loop-again (
   write.Post,
   byte-after-reads.Asked,
   byte-after-reads.Learnt,
+  next-reads.Asked,
+  next-reads.Learnt,
 ) (write-at t) write.Post write-Inv-loop write-μ-loop
-write-loop-again t c = (omega (arith, c .before .before .before .before .before .before .before .before .loop-test .taken), found-after _ _ _ _ _ (c .before .before .before .before .before .before .before .before .before .loop .inv .1) (c .get3 .ensures), listed-again (c .before .before .before .before .before .before .before .before .before .before .before .before .before .before .before .if1 .left) (c .before .before .before .before .before .before .before .before .before .before .before .before .before .before .before .before .before .before .before .pre .1) (c .before .before .before .before .before .before .before .before .before .before .before .before .before .before .if2 .left) (omega (arith, c .before .before .before .before .before .before .before .before .before .before .before .before .before .size .ensures, c .before .before .before .before .before .before .before .before .before .before .before .before .if3 .left)) (length-set (c .before .before .before .before .before .before .before .before .before .before .before .before .before .before .before .before .before .before .before .args .log .now) (c .before .before .before .before .before .before .before .before .before .before .before .before .before .before .before .before .before .before .before .args .at) (c .before .before .before .before .before .before .before .before .before .before .before .opening .result)) (c .before .before .before .before .before .before .before .before .before .loop .inv .2) (omega (arith, c .before .before .before .before .before .before .before .before .loop-test .taken, c .before .before .before .before .before .before .before .before .before .before .before .before .before .size .ensures)) _ (c .before .before .before .before .before .before .before .before .before .loop .inv .1) (c .before .before .before .before .before .before .before .get .ensures) (c .before .before .before .before .before .before .get2 .ensures) (c .before .before .before .before .write .ensures) (c .before .before .before .before .write .kept .1 .1 .0) (c .before .before .before .before .before .before .before .before .before .before .before .before .before .size .ensures) (c .before .byte-after .ensures))
+write-loop-again t c = (omega (arith, c .before .before .before .before .before .before .before .before .loop-test .taken), found-after _ _ _ _ _ (c .before .before .before .before .before .before .before .before .before .loop .inv .1) (c .next .ensures), listed-again (c .before .before .before .before .before .before .before .before .before .before .before .before .before .before .before .if1 .left) (c .before .before .before .before .before .before .before .before .before .before .before .before .before .before .before .before .before .before .before .pre .1) (c .before .before .before .before .before .before .before .before .before .before .before .before .before .before .if2 .left) (omega (arith, c .before .before .before .before .before .before .before .before .before .before .before .before .before .size .ensures, c .before .before .before .before .before .before .before .before .before .before .before .before .if3 .left)) (length-set (c .before .before .before .before .before .before .before .before .before .before .before .before .before .before .before .before .before .before .before .args .log .now) (c .before .before .before .before .before .before .before .before .before .before .before .before .before .before .before .before .before .before .before .args .at) (c .before .before .before .before .before .before .before .before .before .before .before .opening .result)) (c .before .before .before .before .before .before .before .before .before .loop .inv .2) (omega (arith, c .before .before .before .before .before .before .before .before .loop-test .taken, c .before .before .before .before .before .before .before .before .before .before .before .before .before .size .ensures)) _ (c .before .before .before .before .before .before .before .before .before .loop .inv .1) (c .before .before .before .before .before .before .before .get .ensures) (c .before .before .before .before .before .before .get2 .ensures) (c .before .before .before .before .write .ensures) (c .before .before .before .before .write .kept .1 .1 .0) (c .before .before .before .before .before .before .before .before .before .before .before .before .before .size .ensures) (c .before .byte-after .ensures))
 
 write-same-length-4 : (t : ℕ) → write-lts.Need-same-length-4 (
   write-plain-reads.Asked,
@@ -595,6 +650,8 @@ write-same-length-4 : (t : ℕ) → write-lts.Need-same-length-4 (
   write.Post,
   byte-after-reads.Asked,
   byte-after-reads.Learnt,
+  next-reads.Asked,
+  next-reads.Learnt,
 ) (write-at t) write.Post write-Inv-loop write-μ-loop
 write-same-length-4 t c = c .before .loop .inv .2 .long ∙ length-set (c .before .before .before .before .before .before .before .before .before .before .before .args .log .now) (c .before .before .before .before .before .before .before .before .before .before .before .args .at) (c .before .before .before .opening .result)
 
@@ -615,6 +672,8 @@ write-returns-4 : (t : ℕ) → write-lts.Need-returns-4 (
   write.Post,
   byte-after-reads.Asked,
   byte-after-reads.Learnt,
+  next-reads.Asked,
+  next-reads.Learnt,
 ) (write-at t) write.Post write-Inv-loop write-μ-loop
 write-returns-4 t c = listed-ends (c .before .before .before .before .before .before .before .if1 .left) (c .before .before .before .before .before .before .before .before .before .before .before .pre .1) (c .before .before .before .before .before .before .if2 .left) (omega (arith, c .before .before .before .before .before .size .ensures, c .before .before .before .before .if3 .left)) (c .before .before .before .opening .ensures) (omega (arith, c .loop-test .left, c .before .loop .inv .0, c .before .before .before .before .before .size .ensures)) (c .before .loop .inv .2)
 
@@ -636,6 +695,8 @@ pub +write-spec : {M : Type 1} → statement M
   write.Post,
   byte-after-reads.Asked,
   byte-after-reads.Learnt,
+  next-reads.Asked,
+  next-reads.Learnt,
 )
     (write-at t)
     write.Post
@@ -665,7 +726,7 @@ pub +write-spec : {M : Type 1} → statement M
     (write-byte-after-requires t)
     (write-slice-write-log-2 t)
     (write-add-next-2 t)
-    (write-get-requires-3 t)
+    (write-next-requires t)
     (write-loop-less t)
     (write-loop-again t)
     (write-same-length-4 t)

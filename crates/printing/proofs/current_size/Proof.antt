@@ -13,20 +13,20 @@ Inv-loop cells h most q₀ q = Scanned cells h q
 abbrev μ-loop : tie.MeasureT-loop
 μ-loop cells h most q₀ q = most - q
 
-get-requires : tie.Need-get-requires Inv-loop μ-loop
-get-requires c κs = let K = c .before .pre in (omega arith, string-room (K .rep) (K .words))
+kind-requires : tie.Need-kind-requires Inv-loop μ-loop
+kind-requires c κs = let K = c .before .pre in string-room (K .rep) (K .words)
 
 sub-most : tie.Need-sub-most Inv-loop μ-loop
-sub-most c = let K = c .before .before .pre in omega (arith, c .get .ensures, most-is (K .rep) (K .words))
+sub-most c = let K = c .before .before .pre in omega (arith, c .kind .ensures, most-is (K .rep) (K .words))
 
 loop-holds : tie.Need-loop-holds Inv-loop μ-loop
 loop-holds c = scan-begin (c .before .before .pre)
 
 string-byte-requires : tie.Need-string-byte-requires Inv-loop μ-loop
-string-byte-requires c κs = (omega (arith, c .loop-test .taken, c .before .before .get .ensures), c .before .before .before .before .pre)
+string-byte-requires c κs = (omega (arith, c .loop-test .taken, c .before .before .kind .ensures), c .before .before .before .before .pre)
 
 returns : tie.Need-returns Inv-loop μ-loop
-returns c = (scan-stops (c .before .before .before .loop .inv) (omega (arith, c .before .before .loop-test .taken, c .before .before .before .before .get .ensures)) (c .before .string-byte .ensures) (c .if1 .taken), c .before .before .before .loop .inv .within)
+returns c = (scan-stops (c .before .before .before .loop .inv) (omega (arith, c .before .before .loop-test .taken, c .before .before .before .before .kind .ensures)) (c .before .string-byte .ensures) (c .if1 .taken), c .before .before .before .loop .inv .within)
 
 add-q : tie.Need-add-q Inv-loop μ-loop
 add-q c = omega arith
@@ -35,10 +35,10 @@ loop-less : tie.Need-loop-less Inv-loop μ-loop
 loop-less c = omega (arith, c .before .before .loop-test .taken)
 
 loop-again : tie.Need-loop-again Inv-loop μ-loop
-loop-again c = scan-again (c .before .before .before .loop .inv) (omega (arith, c .before .before .loop-test .taken, c .before .before .before .before .get .ensures)) (c .before .string-byte .ensures) (c .if1 .left)
+loop-again c = scan-again (c .before .before .before .loop .inv) (omega (arith, c .before .before .loop-test .taken, c .before .before .before .before .kind .ensures)) (c .before .string-byte .ensures) (c .if1 .left)
 
 returns-2 : tie.Need-returns-2 Inv-loop μ-loop
-returns-2 c = (scan-ends (c .before .loop .inv) (omega (arith, c .loop-test .left, c .before .before .get .ensures)), c .before .loop .inv .within)
+returns-2 c = (scan-ends (c .before .loop .inv) (omega (arith, c .loop-test .left, c .before .before .kind .ensures)), c .before .loop .inv .within)
 
 pub current-size-spec : {M : Type 1} → statement M
 current-size-spec =
@@ -46,7 +46,7 @@ current-size-spec =
     (tie.spec
     Inv-loop
     μ-loop
-    get-requires
+    kind-requires
     sub-most
     loop-holds
     string-byte-requires
