@@ -33,6 +33,10 @@ unfolding total
 total-none f zero h = refl
 total-none f (suc n) h = omega (arith, total-none f n (λ x l. h x (omega arith)), h n (omega arith))
 
+-- what is not out is not the cell c, which is, and stays
+other-stays : (own : ℕ → Owner) (c : ℕ) (v : Owner) → own c ≡ out → (x : ℕ) {o : Owner} → own x ≡ o → (out ≡ o → ⊥) → (upd own c v x ≡ o) × (x ≡ c → ⊥)
+other-stays own c v oc x q n = let r : x ≡ c → ⊥ = λ r. n (sym oc ∙ ap own (sym r) ∙ q) in (upd-other own c v x r ∙ q, r)
+
 module _ (g : Ghost) (e p hand : ℕ) (m m′ : List ℕ) (S : Shape g e m) (C : Counts g p hand m) (h c : ℕ) (lh : g .own h ≡ live) (oc : g .own c ≡ out) (long : length m′ ≡ length m)
     (c0 : word m′ c 0 ≡ 0) (c1 : word m′ c 1 ≡ 0) (c2 : word m′ c 2 ≡ g .top (h + 2))
     (c3 : (k : ℕ) → g .size (h + 2) ≡ suc k → Skip (g .own) (h + 2) k (word m′ c 3)) (unmarked : word m′ c 3 < headerMark)
@@ -42,7 +46,7 @@ module _ (g : Ghost) (e p hand : ℕ) (m m′ : List ℕ) (S : Shape g e m) (C :
   v = on (h + 2) (g .size (h + 2))
 
   stays : (x : ℕ) {o : Owner} → g .own x ≡ o → (out ≡ o → ⊥) → (upd (g .own) c v x ≡ o) × (x ≡ c → ⊥)
-  stays x q n = let r : x ≡ c → ⊥ = λ r. n (sym oc ∙ ap (g .own) (sym r) ∙ q) in (upd-other (g .own) c v x r ∙ q, r)
+  stays x = other-stays (g .own) c v oc x
 
   was-live : (x : ℕ) → upd (g .own) c v x ≡ live → (g .own x ≡ live) × (x ≡ c → ⊥)
   unfolding v
@@ -142,7 +146,7 @@ module _ (g : Ghost) (e p : ℕ) (m m′ : List ℕ) (S : Shape g e m) (C : Coun
   born = record { own = upd (g .own) h live; top = upd (g .top) (h + 2) 0; size = g .size; aim = g .aim }
 
   stay : (x : ℕ) {o : Owner} → g .own x ≡ o → (out ≡ o → ⊥) → (upd (g .own) h live x ≡ o) × (x ≡ h → ⊥)
-  stay x q n = let r : x ≡ h → ⊥ = λ r. n (sym oh ∙ ap (g .own) (sym r) ∙ q) in (upd-other (g .own) h live x r ∙ q, r)
+  stay x = other-stays (g .own) h live oh x
 
   was-on : (d s k : ℕ) → upd (g .own) h live d ≡ on s k → g .own d ≡ on s k
   was-on d s k = at-upd (λ w. w ≡ on s k → g .own d ≡ on s k) (g .own) h live d (λ r q. absurd (live-on q)) (λ r q. q)

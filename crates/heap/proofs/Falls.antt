@@ -7,21 +7,21 @@ use mathlib.Core.Bool.{Bool, true, false}
 use mathlib.Core.List.{List}
 use mathlib.Core.Logic.{inl, inr, ⊎-elim}
 use native.Mathlib.Omega.{arith}
-use borrow.Author.Tests.{eq-eqb, ne-eqb, le-leb}
+use borrow.Author.Tests.{le-leb}
 use lib.ListN.{length}
 use Rattle.heap.specs.Word.{word, Put}
 use Rattle.heap.specs.Upd.{pick, upd, total}
 use Rattle.heap.specs.Chain.{Owner, fresh, live, out, on}
 use Rattle.heap.specs.Shape.{Ghost, Shape, Counts, Step, isBody, isObject, is, pushed}
-use Rattle.heap.proofs.Upds.{upd-other, same?, at-upd, upd-keeps}
+use Rattle.heap.proofs.Upds.{pick-same, pick-other, upd-other, same?, at-upd, upd-keeps}
 use Rattle.heap.proofs.Chains.{live-on, on-list}
 use Rattle.heap.proofs.Shapes.{keep-shape, same-words, push-shape}
 
 pub is-same : (h t : ℕ) → t ≡ suc h → is h t ≡ 1
-is-same h t e = rw (eq-eqb t (suc h) e)
+is-same h t = pick-same t (suc h) 1 0
 
 pub is-other : (h t : ℕ) → (t ≡ suc h → ⊥) → is h t ≡ 0
-is-other h t n = rw (ne-eqb t (suc h) n)
+is-other h t = pick-other t (suc h) 1 0
 
 pub total-zero : (f : ℕ → ℕ) (n x : ℕ) → total f n ≡ 0 → x < n → f x ≡ 0
 unfolding total

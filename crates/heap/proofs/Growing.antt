@@ -81,16 +81,16 @@ picks {g} {p} {hand} {s} {m} F l =
       λ n x q. only-out (g .own) (g .top 0) n x q ∙ F .heap .free,
     )
 
+pub is-fresh : (o : Owner) → isFresh o ≡ true → o ≡ fresh
+is-fresh fresh t = refl
+is-fresh live t = absurd (true-false (sym t))
+is-fresh out t = absurd (true-false (sym t))
+is-fresh (on s k) t = absurd (true-false (sym t))
+
 -- the first cell that was never used
 module _ (g : Ghost) (e : ℕ) (m : List ℕ) (S : Shape g e m) (l : e < cells m) where
   new : g .own e ≡ fresh
-  new = go (g .own e) refl (S .low e ∙ le-leb e e (omega arith))
-    where
-      go : (o : Owner) → g .own e ≡ o → isFresh (g .own e) ≡ true → g .own e ≡ fresh
-      go fresh q t = q
-      go live q t = absurd (true-false (sym t ∙ ap isFresh q))
-      go out q t = absurd (true-false (sym t ∙ ap isFresh q))
-      go (on s k) q t = absurd (true-false (sym t ∙ ap isFresh q))
+  new = is-fresh (g .own e) (S .low e ∙ le-leb e e (omega arith))
 
   pub edge-shape : Shape (record { own = upd (g .own) e out; top = g .top; size = g .size; aim = g .aim }) (e + 1) m
   edge-shape = record {

@@ -22,9 +22,9 @@ use Rattle.heap.proofs.Chains.{on-list, on-rank, live-on, fresh-on, fre
 use Rattle.heap.proofs.Shapes.{inside, header-of}
 use Rattle.heap.proofs.Walks.{first-cell}
 use Rattle.heap.proofs.Pops.{body-head}
-use Rattle.heap.proofs.Falls.{true-false}
 use Rattle.heap.proofs.Since.{lt-or-le, alive-of}
 use Rattle.heap.proofs.Rooms.{free-cells}
+use Rattle.heap.proofs.Growing.{is-fresh}
 use Rattle.heap.proofs.Listing.{not-none, in-cons, here, there, in-append, append-left, append-right, in-only, only-in, in-from, from-in, length-from, length-walk, once-from, once-only, once-append, sum-only, sum-from}
 
 -- ---- a list of the ghost is a walk
@@ -62,12 +62,6 @@ module _ {own : ℕ → Owner} {top size : ℕ → ℕ} (m : List ℕ) (K : Chai
   )
 
 -- ---- owners
-
-is-fresh : (o : Owner) → isFresh o ≡ true → o ≡ fresh
-is-fresh fresh t = refl
-is-fresh live t = absurd (true-false (sym t))
-is-fresh out t = absurd (true-false (sym t))
-is-fresh (on s k) t = absurd (true-false (sym t))
 
 yes-true : (b : Bool) → T b → b ≡ true
 yes-true true t = refl

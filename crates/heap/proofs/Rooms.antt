@@ -11,7 +11,7 @@ use Rattle.heap.specs.Word.{word}
 use Rattle.heap.specs.Upd.{pick, total}
 use Rattle.heap.specs.Chain.{Owner, fresh, live, out, on}
 use Rattle.heap.specs.Shape.{Ghost, Shape, Header, NoOut, cells, isHead, isBody, isFresh, isOn}
-use Rattle.heap.proofs.Upds.{same?, total-same, total-change}
+use Rattle.heap.proofs.Upds.{pick-same, pick-other, same?, total-same, total-change}
 use Rattle.heap.proofs.Bodies.{total-none}
 use Rattle.heap.proofs.Shapes.{on-same, on-other}
 use Rattle.heap.proofs.Falls.{true-false}
@@ -111,12 +111,6 @@ pub total-by-id : (ρ : ℕ → ℕ) (f : ℕ → ℕ) (n k : ℕ) → ((h : ℕ
 unfolding by-id
 total-by-id ρ f n k r = total-swap (λ h i. pick (eqb i (ρ h)) (f h) 0) n k ∙ total-same f (λ h. total (λ i. pick (eqb i (ρ h)) (f h) 0) k) n (λ h l. term h (r h l))
   where
-    hit : (i h : ℕ) → i ≡ ρ h → pick {X = ℕ} (eqb i (ρ h)) (f h) 0 ≡ f h
-    hit i h q = rw (borrow.Author.Tests.eq-eqb i (ρ h) q)
-
-    miss : (i h : ℕ) → (i ≡ ρ h → ⊥) → pick {X = ℕ} (eqb i (ρ h)) (f h) 0 ≡ 0
-    miss i h q = rw (borrow.Author.Tests.ne-eqb i (ρ h) q)
-
     term : (h : ℕ) → (ρ h < k) ⊎ (f h ≡ 0) → total (λ i. pick (eqb i (ρ h)) (f h) 0) k ≡ f h
-    term h (inl l) = total-one (λ i. pick (eqb i (ρ h)) (f h) 0) k (ρ h) l (λ x n. miss x h n) ∙ hit (ρ h) h refl
-    term h (inr q) = total-none (λ i. pick (eqb i (ρ h)) (f h) 0) k (λ i _. ⊎-elim (λ (y : i ≡ ρ h). hit i h y ∙ q) (λ y. miss i h y) (same? i (ρ h))) ∙ sym q
+    term h (inl l) = total-one (λ i. pick (eqb i (ρ h)) (f h) 0) k (ρ h) l (λ x n. pick-other x (ρ h) (f h) 0 n) ∙ pick-same (ρ h) (ρ h) (f h) 0 refl
+    term h (inr q) = total-none (λ i. pick (eqb i (ρ h)) (f h) 0) k (λ i _. ⊎-elim (λ (y : i ≡ ρ h). pick-same i (ρ h) (f h) 0 y ∙ q) (λ y. pick-other i (ρ h) (f h) 0 y) (same? i (ρ h))) ∙ sym q

@@ -7,14 +7,14 @@ use mathlib.Core.Bool.{Bool, true, false}
 use mathlib.Core.List.{List}
 use mathlib.Core.Logic.{⊎-elim}
 use native.Mathlib.Omega.{arith}
-use borrow.Author.Tests.{leb-false, eq-eqb, ne-eqb, le-ltb}
+use borrow.Author.Tests.{leb-false, le-ltb}
 use lib.ListN.{length}
 use lib.Dec.{eqb}
 use Rattle.heap.specs.Word.{word, Put}
 use Rattle.heap.specs.Upd.{pick, upd, total}
 use Rattle.heap.specs.Chain.{Owner, fresh, live, out, on}
 use Rattle.heap.specs.Shape.{Ghost, Shape, Header, cells, isHead, isBody, isFresh, isOn, pushed, popped, headerMark, firstUnit, sizeUnit, scattered}
-use Rattle.heap.proofs.Upds.{upd-at, upd-other, same?, at-upd, upd-keeps, total-upd, total-bound}
+use Rattle.heap.proofs.Upds.{pick-same, pick-other, upd-at, upd-other, same?, at-upd, upd-keeps, total-upd, total-bound}
 use Rattle.heap.proofs.Chains.{push, pop, chains-nxt, out-on, out-live, live-on, on-list}
 use Rattle.heap.proofs.Skips.{skips-aside, plain-aside, side-aside}
 
@@ -47,10 +47,10 @@ isOn-le t out = omega arith
 isOn-le t (on s k) = one-at-most (eqb s t)
 
 pub on-same : (s t : ℕ) → s ≡ t → pick {X = ℕ} (eqb s t) 1 0 ≡ 1
-on-same s t e = rw (eq-eqb s t e)
+on-same s t = pick-same s t 1 0
 
 pub on-other : (s t : ℕ) → (s ≡ t → ⊥) → pick {X = ℕ} (eqb s t) 1 0 ≡ 0
-on-other s t n = rw (ne-eqb s t n)
+on-other s t = pick-other s t 1 0
 
 pub list-le : {g : Ghost} {e : ℕ} {m : List ℕ} → Shape g e m → (t : ℕ) → g .size t ≤ cells m
 list-le {g} {e} {m} S t = omega (arith, S .counted t, total-bound (λ d. isOn t (g .own d)) (cells m) (λ d. isOn-le t (g .own d)))

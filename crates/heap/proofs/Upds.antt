@@ -7,19 +7,25 @@ use mathlib.Core.Logic.{_⊎_, inl, inr, ⊎-elim}
 use native.Mathlib.Decide.{ℕ-discrete}
 use native.Mathlib.Omega.{arith}
 use borrow.Author.Tests.{eq-eqb, ne-eqb}
+use lib.Dec.{eqb}
 use Rattle.heap.specs.Upd.{pick, upd, total}
 
-pub upd-same : {X : Type 0} (f : ℕ → X) (a : ℕ) (v : X) → upd f a v a ≡ v
-unfolding upd
-upd-same f a v = rw (eq-eqb a a refl)
+pub pick-same : {X : Type 0} (c a : ℕ) (v w : X) → c ≡ a → pick (eqb c a) v w ≡ v
+pick-same c a v w e = rw (eq-eqb c a e)
+
+pub pick-other : {X : Type 0} (c a : ℕ) (v w : X) → (c ≡ a → ⊥) → pick (eqb c a) v w ≡ w
+pick-other c a v w n = rw (ne-eqb c a n)
 
 pub upd-at : {X : Type 0} (f : ℕ → X) (a : ℕ) (v : X) (c : ℕ) → c ≡ a → upd f a v c ≡ v
 unfolding upd
-upd-at f a v c e = rw (eq-eqb c a e)
+upd-at f a v c = pick-same c a v (f c)
+
+pub upd-same : {X : Type 0} (f : ℕ → X) (a : ℕ) (v : X) → upd f a v a ≡ v
+upd-same f a v = upd-at f a v a refl
 
 pub upd-other : {X : Type 0} (f : ℕ → X) (a : ℕ) (v : X) (c : ℕ) → (c ≡ a → ⊥) → upd f a v c ≡ f c
 unfolding upd
-upd-other f a v c ne = rw (ne-eqb c a ne)
+upd-other f a v c = pick-other c a v (f c)
 
 pub same? : (c a : ℕ) → (c ≡ a) ⊎ (c ≡ a → ⊥)
 same? c a = go (ℕ-discrete c a)
