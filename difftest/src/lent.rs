@@ -8,7 +8,7 @@ use crate::sizes;
 
 const MARGIN: usize = 24;
 
-/// A header's word 3 has it, and no body cell's.
+/// A header's word 3 has it, and no body cell's and no freed cell's.
 pub const HEADER_MARK: u32 = 1 << 31;
 
 #[derive(Clone, PartialEq)]

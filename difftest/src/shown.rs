@@ -2,11 +2,10 @@
 //! with its own cells and as many places as its stored count says.
 //!
 //! The words are walked from the stack, the execution stack and the bindings. What these do not lead to, circles and what only circles name, is looked for in
-//! the other cells: a header has a mark in its word 3, and a freed one has no body cells. Where the cells' earlier contents have no mark, these headers must
-//! be as many as the objects; elsewhere a cell that was never used may look like one.
+//! the other cells: a header has a mark in its word 3, which goes when it is freed. Where the cells' earlier contents have no mark, these headers must be as
+//! many as the objects; elsewhere a cell that was never used may look like one.
 //!
-//! Not compared, since the words do not show it: that each other cell is on the free list, and that an empty object which nothing names has been freed. Both
-//! show in `held` of the outcome alone.
+//! Not compared, since the words do not show it: that each other cell is on the free list. It shows in `held` of the outcome alone.
 
 use std::collections::{HashMap, HashSet};
 
@@ -17,6 +16,13 @@ use crate::lent::{Lent, HEADER_MARK};
 
 const UNBOUND: u32 = 7;
 const STRING: u32 = 8;
+
+/// A header's word 1 modulo the first is its number of body cells, and its word 3 modulo the second the first of them; the bits above have other uses.
+const SIZE_UNIT: u32 = 1 << 16;
+const FIRST_UNIT: u32 = 1 << 15;
+
+/// A header's word 1 has it unless its body's cells stand side by side, the first one last.
+const SCATTERED: u32 = 1 << 17;
 
 /// Headers that are tried for the objects of circles: many more than it takes where they match.
 const MOST_TRIES: usize = 10_000;
@@ -121,7 +127,7 @@ impl Walk<'_> {
     fn circles(&mut self, unmarked: bool) -> Result<(), String> {
         let headers: Vec<u32> = (0..self.cells.len() as u32 / 4).filter(|&c| self.is_left(c)).collect();
         let mut left: Vec<ObjectId> = self.counts.keys().copied().collect();
-        left.retain(|id| !self.matched.headers.contains_key(id) && self.machine.store[*id].cells() > 1);
+        left.retain(|id| !self.matched.headers.contains_key(id));
         if unmarked && headers.len() != left.len() {
             return Err(format!("{} headers for {} objects that no place leads to", headers.len(), left.len()));
         }
@@ -133,10 +139,9 @@ impl Walk<'_> {
         Ok(())
     }
 
-    /// Whether the cell is the header of a body that has not been met.
+    /// Whether the cell is a header that has not been met.
     fn is_left(&self, c: u32) -> bool {
-        let at = 4 * c as usize;
-        self.cells[at + 3] >= HEADER_MARK && self.cells[at + 1] > 0 && !self.matched.cells.contains(&c)
+        self.cells[4 * c as usize + 3] >= HEADER_MARK && !self.matched.cells.contains(&c)
     }
 
     /// How many objects can be met from this one.
@@ -228,7 +233,8 @@ impl Walk<'_> {
 
     /// The number of body cells, where the header's words are this object's.
     fn header(&self, header: u32, id: ObjectId) -> Result<u32, String> {
-        let words = &self.cell(header)?[..3];
+        let words = self.cell(header)?;
+        let shown = [words[0], words[1] % SIZE_UNIT, words[2]];
         let object = &self.machine.store[id];
         let kind = match object {
             Object::Array(_) => 0,
@@ -236,7 +242,7 @@ impl Walk<'_> {
         };
         let count = self.counts.get(&id).copied().unwrap_or(0) as u32;
         let size = object.cells() as u32 - 1;
-        if words != [kind, size, count] {
+        if shown != [kind, size, count] || words[3] < HEADER_MARK {
             return Err(format!("header {words:?} for kind {kind}, {size} cells, count {count}"));
         }
         Ok(size)
@@ -246,8 +252,13 @@ impl Walk<'_> {
         let size = self.header(header, id)?;
         self.take(header)?;
         let object = &self.machine.store[id];
-        let mut next = self.cell(header)?[3].wrapping_sub(HEADER_MARK);
+        let words = self.cell(header)?;
+        let (first, side_by_side) = (words[3] % FIRST_UNIT, words[1] & SCATTERED == 0);
+        let mut next = first;
         for q in 0..size as usize {
+            if side_by_side && next.wrapping_add(q as u32) != first {
+                return Err(format!("element {q} is in cell {next} and not {q} before {first}"));
+            }
             let cell = self.cell(next)?.to_vec();
             self.take(next)?;
             match object {
