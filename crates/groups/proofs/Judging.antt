@@ -22,11 +22,13 @@ use Rattle.token.specs.declared.Lexed.the-variants as lexed
 use Rattle.token.specs.declared.Token.the-variants as read
 use Rattle.token.specs.declared.Token as scanned
 use Rattle.groups.specs.Nodes.{Nodes, end, leaf, inner, count, wanted}
-use Rattle.groups.specs.Parsing.{Parsed, closes, token, opens, Faults, JudgedAs, WeighedAs, faultOf as faultIn}
+use Rattle.groups.specs.Parsing.{Parsed, closes, token, opens, Faults, JudgedAs, WeighedAs, faultOf as faultIn, weighedFault}
 use Rattle.groups.specs.declared.Judged.{Judged}
 use Rattle.groups.specs.declared.Judged.the-variants.{Bad, Good}
 use Rattle.groups.specs.declared.Weighed.{Weighed}
 use Rattle.groups.specs.declared.Weighed.the-variants as weighed
+use Rattle.groups.specs.declared.Weight.{Weight}
+use Rattle.groups.specs.declared.Weight.the-variants.{Element, Open, Close}
 use Rattle.groups.proofs.Trees.{group-token, group-parsed, element-leaf}
 
 -- ---- a string takes more bytes than it holds
@@ -104,11 +106,11 @@ module _ (script : List ℕ) (at start : ℕ) (begins : start ≡ skip script at
     moved : {u : Token} → Lexes script start u next → Lexes script (skip script at) u next
     moved {u} l = subst (λ n. Lexes script n u next) begins l
 
-    pub weigh-integer : {w : ℕ} → t ≡ read.Integer w → WeighedAs script at (weighed.Element 0 next)
+    pub weigh-integer : {w : ℕ} → t ≡ read.Integer w → WeighedAs script at (weighed.Good (Element 0) next)
     unfolding wanted sumOf
     weigh-integer {w} q = let l = at-token (read.Integer w) q in (Token.integer w, moved l, refl, omega arith, omega (arith, l .past, far))
 
-    pub weigh-string : {from size : ℕ} → t ≡ read.String from size → WeighedAs script at (weighed.Element (1 + (size + 7) / 8) next)
+    pub weigh-string : {from size : ℕ} → t ≡ read.String from size → WeighedAs script at (weighed.Good (Element (1 + (size + 7) / 8)) next)
     unfolding wanted sumOf cells
     weigh-string {from} {size} q =
         let l = at-token (read.String from size) q in
@@ -119,22 +121,22 @@ module _ (script : List ℕ) (at start : ℕ) (begins : start ≡ skip script at
         let l = at-token (read.String from size) q in
         omega (arith, string-shorter (l .own), l .holds, l .token .inside)
 
-    pub weigh-executable : {from size : ℕ} → t ≡ read.ExecutableName from size → WeighedAs script at (weighed.Element 0 next)
+    pub weigh-executable : {from size : ℕ} → t ≡ read.ExecutableName from size → WeighedAs script at (weighed.Good (Element 0) next)
     unfolding wanted sumOf
     weigh-executable {from} {size} q =
         let l = at-token (read.ExecutableName from size) q in
         (_, moved (l .token), refl, omega arith, omega (arith, l .token .past, far))
 
-    pub weigh-literal : {from size : ℕ} → t ≡ read.LiteralName from size → WeighedAs script at (weighed.Element 0 next)
+    pub weigh-literal : {from size : ℕ} → t ≡ read.LiteralName from size → WeighedAs script at (weighed.Good (Element 0) next)
     unfolding wanted sumOf
     weigh-literal {from} {size} q =
         let l = at-token (read.LiteralName from size) q in
         (_, moved (l .token), refl, omega arith, omega (arith, l .token .past, far))
 
-    pub weigh-open : t ≡ read.OpenBrace → WeighedAs script at (weighed.Open next)
+    pub weigh-open : t ≡ read.OpenBrace → WeighedAs script at (weighed.Good Open next)
     weigh-open q = moved (at-token read.OpenBrace q .token)
 
-    pub weigh-close : t ≡ read.CloseBrace → WeighedAs script at (weighed.Close next)
+    pub weigh-close : t ≡ read.CloseBrace → WeighedAs script at (weighed.Good Close next)
     weigh-close q = moved (at-token read.CloseBrace q .token)
 
     pub weigh-end : t ≡ read.End → WeighedAs script at (weighed.Bad SyntaxError)
@@ -156,14 +158,20 @@ pub begin : (script : List ℕ) (depth from : ℕ) → from ≤ length script �
 begin script depth from le =
     record { inside = le; few = omega arith; failing = λ e f. f; parsing = λ ns next p. (ns, p, omega arith, omega arith) }
 
-module _ {script : List ℕ} {depth from at size wants : ℕ} (J : Judging script depth from at size wants) where
-  pub judge-fault : {e : Error} {r : Weighed} → r ≡ weighed.Bad e → WeighedAs script at r → JudgedAs script depth from (Bad e)
-  judge-fault {e} g k = J .failing e (subst (WeighedAs script at) g k depth)
+-- What a token is to the group, told apart.
+pub weighs : {r : Weighed} {w v : Weight} {next : ℕ} → r ≡ weighed.Good w next → w ≡ v → r ≡ weighed.Good v next
+weighs {next = next} g q = g ∙ ap (λ x. weighed.Good x next) q
 
-  pub element-inside : {c next : ℕ} {r : Weighed} → r ≡ weighed.Element c next → WeighedAs script at r → (c + 1 + at ≤ next) × (next ≤ length script)
+module _ {script : List ℕ} {depth from at size wants : ℕ} (J : Judging script depth from at size wants) where
+  pub judge-fault : {e x : Error} {r : Weighed} → r ≡ weighed.Bad e → WeighedAs script at r → x ≡ weighedFault r → JudgedAs script depth from (Bad x)
+  judge-fault {e} {x} g k q =
+      let same : x ≡ e = q ∙ ap weighedFault g in
+      rw same (J .failing e (subst (WeighedAs script at) g k depth))
+
+  pub element-inside : {c next : ℕ} {r : Weighed} → r ≡ weighed.Good (Element c) next → WeighedAs script at r → (c + 1 + at ≤ next) × (next ≤ length script)
   element-inside g k = let w = subst (WeighedAs script at) g k in (w .4, w .1 .inside)
 
-  pub judge-element : {c next : ℕ} {r : Weighed} → r ≡ weighed.Element c next → WeighedAs script at r → Judging script depth from next (size + 1) (wants + c)
+  pub judge-element : {c next : ℕ} {r : Weighed} → r ≡ weighed.Good (Element c) next → WeighedAs script at r → Judging script depth from next (size + 1) (wants + c)
   unfolding count wanted
   judge-element {c} {next} g k =
       let w = subst (WeighedAs script at) g k in
@@ -179,7 +187,7 @@ module _ {script : List ℕ} {depth from at size wants : ℕ} (J : Judging scrip
             (r .0, r .1, omega (arith, r .2), omega (arith, r .3, w .3));
       }
 
-  module _ {next : ℕ} {r : Weighed} (g : r ≡ weighed.Open next) (k : WeighedAs script at r) where
+  module _ {next : ℕ} {r : Weighed} (g : r ≡ weighed.Good Open next) (k : WeighedAs script at r) where
     l : Lexes script (skip script at) Token.openBrace next
     l = subst (WeighedAs script at) g k
 
@@ -222,7 +230,7 @@ module _ {script : List ℕ} {depth from at size wants : ℕ} (J : Judging scrip
                 (r .0, r .1, omega (arith, r .2), omega (arith, r .3, w .2, w .3));
           }
 
-  pub judge-close : {next : ℕ} {r : Weighed} → r ≡ weighed.Close next → WeighedAs script at r → JudgedAs script depth from (Good size wants next)
+  pub judge-close : {next : ℕ} {r : Weighed} → r ≡ weighed.Good Close next → WeighedAs script at r → JudgedAs script depth from (Good size wants next)
   unfolding count wanted
   judge-close {next} g k =
       let l : Lexes script (skip script at) Token.closeBrace next = subst (WeighedAs script at) g k in

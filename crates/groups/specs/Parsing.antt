@@ -17,6 +17,8 @@ use Rattle.groups.specs.declared.Judged.{Judged}
 use Rattle.groups.specs.declared.Judged.the-variants.{Bad, Good}
 use Rattle.groups.specs.declared.Weighed.{Weighed}
 use Rattle.groups.specs.declared.Weighed.the-variants as weighed
+use Rattle.groups.specs.declared.Weight.{Weight}
+use Rattle.groups.specs.declared.Weight.the-variants.{Element, Open, Close}
 
 -- From an offset on, with so many levels of inner groups left, the script has these elements and a closing brace, up to the offset after it.
 pub data Parsed (script : List ℕ) : ℕ → ℕ → Nodes → ℕ → Type 0 where
@@ -44,13 +46,20 @@ JudgedAs script depth offset (Good size wants next) =
 
 -- What weighing one token of a group answers: a fault, whatever the depth; an element, the cells of the object that it makes, and the
 -- offset after it; or a brace.
+abbrev pub WeightAs : List ℕ → ℕ → ℕ → Weight → Type 0
+WeightAs script offset next (Element wants) =
+    (t : Token) × Lexes script (skip script offset) t next × (isLeaf t ≡ true) × (wants ≡ wanted (leaf t end)) × (wants + 1 + offset ≤ next)
+WeightAs script offset next Open = Lexes script (skip script offset) Token.openBrace next
+WeightAs script offset next Close = Lexes script (skip script offset) Token.closeBrace next
+
 abbrev pub WeighedAs : List ℕ → ℕ → Weighed → Type 0
 WeighedAs script offset (weighed.Bad e) = (depth : ℕ) → Faults script depth offset e
-WeighedAs script offset (weighed.Element wants next) =
-    (t : Token) × Lexes script (skip script offset) t next × (isLeaf t ≡ true) × (wants ≡ wanted (leaf t end)) × (wants + 1 + offset ≤ next)
-WeighedAs script offset (weighed.Open next) = Lexes script (skip script offset) Token.openBrace next
-WeighedAs script offset (weighed.Close next) = Lexes script (skip script offset) Token.closeBrace next
+WeighedAs script offset (weighed.Good w next) = WeightAs script offset next w
 
 abbrev pub faultOf : Judged → Error
 faultOf (Bad e) = e
 faultOf (Good size wants next) = SyntaxError
+
+abbrev pub weighedFault : Weighed → Error
+weighedFault (weighed.Bad e) = e
+weighedFault (weighed.Good w next) = SyntaxError

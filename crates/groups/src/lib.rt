@@ -3,7 +3,7 @@
 ghost use mathlib.Core.Path.{_≡_};
 ghost use Prim.Native.Nat.{_≤_};
 ghost use lib.ListN.{length};
-ghost use Rattle.groups.specs.Parsing.{JudgedAs, WeighedAs, faultOf};
+ghost use Rattle.groups.specs.Parsing.{JudgedAs, WeighedAs, faultOf, weighedFault};
 use semantics::Error;
 use token::Lexed;
 use token::Token;
@@ -14,12 +14,17 @@ pub enum Judged {
     Good(usize, usize, usize),
 }
 
-// A token of a group: its fault; an element, with the cells that its object takes and the offset after it; or a brace with the offset after it.
+// A token of a group: its fault; or what it is to the group, and the offset after it.
 enum Weighed {
     Bad(Error),
-    Element(usize, usize),
-    Open(usize),
-    Close(usize),
+    Good(Weight, usize),
+}
+
+// An element, with the cells that its object takes; or a brace.
+enum Weight {
+    Element(usize),
+    Open,
+    Close,
 }
 
 // The rest of a group, whose opening brace is before `from`, with `depth` levels of inner groups left.
@@ -32,16 +37,17 @@ pub fn judge(script: &[u8], from: usize, depth: u32) -> Judged
     let mut size = 0;
     let mut wants = 0;
     loop {
-        match weigh(script, at) {
-            Weighed::Bad(e) => {
-                return Judged::Bad(e);
-            }
-            Weighed::Element(cells, next) => {
+        let weighed = weigh(script, at);
+        let Weighed::Good(weight, next) = weighed else {
+            return Judged::Bad(weighed_fault(weighed));
+        };
+        match weight {
+            Weight::Element(cells) => {
                 size = size + 1;
                 wants = wants + cells;
                 at = next;
             }
-            Weighed::Open(next) => {
+            Weight::Open => {
                 if depth == 0 {
                     return Judged::Bad(Error::LimitCheck);
                 }
@@ -53,7 +59,7 @@ pub fn judge(script: &[u8], from: usize, depth: u32) -> Judged
                 wants = wants + (n + 1) + more;
                 at = after;
             }
-            Weighed::Close(next) => {
+            Weight::Close => {
                 return Judged::Good(size, wants, next);
             }
         }
@@ -71,12 +77,12 @@ fn weigh(script: &[u8], at: usize) -> Weighed
         return Weighed::Bad(token::fault_of(lexed));
     };
     match read {
-        Token::Integer(_) => Weighed::Element(0, next),
-        Token::String(_, size) => Weighed::Element(1 + (size + 7) / 8, next),
-        Token::ExecutableName(_, _) => Weighed::Element(0, next),
-        Token::LiteralName(_, _) => Weighed::Element(0, next),
-        Token::OpenBrace => Weighed::Open(next),
-        Token::CloseBrace => Weighed::Close(next),
+        Token::Integer(_) => Weighed::Good(Weight::Element(0), next),
+        Token::String(_, size) => Weighed::Good(Weight::Element(1 + (size + 7) / 8), next),
+        Token::ExecutableName(_, _) => Weighed::Good(Weight::Element(0), next),
+        Token::LiteralName(_, _) => Weighed::Good(Weight::Element(0), next),
+        Token::OpenBrace => Weighed::Good(Weight::Open, next),
+        Token::CloseBrace => Weighed::Good(Weight::Close, next),
         Token::End => Weighed::Bad(Error::SyntaxError),
     }
 }
@@ -88,5 +94,15 @@ pub fn fault_of(judged: Judged) -> Error
     match judged {
         Judged::Bad(e) => e,
         Judged::Good(_, _, _) => Error::SyntaxError,
+    }
+}
+
+// The same of a token.
+fn weighed_fault(weighed: Weighed) -> Error
+    ensures { λ r. ⌜ r ≡ weighedFault weighed ⌝ }
+{
+    match weighed {
+        Weighed::Bad(e) => e,
+        Weighed::Good(_, _) => Error::SyntaxError,
     }
 }

@@ -18,7 +18,7 @@ use Rattle.semantics.specs.Tokens.{isDigit, within, digit, digits, digitsFrom, 
 use Rattle.semantics.specs.Tokens as tokens
 use Rattle.semantics.specs.declared.Error.{Error}
 use Rattle.semantics.specs.declared.Error.the-variants.{SyntaxError, LimitCheck}
-use Rattle.token.specs.Numbers.{numberIs, withDigit, numeral, negation}
+use Rattle.token.specs.Numbers.{numberIs, faultOf, withDigit, numeral, negation}
 use Rattle.token.specs.declared.numbers.Number.{Number}
 use Rattle.token.specs.declared.numbers.Number.the-variants.{Word, Fault}
 
@@ -213,9 +213,11 @@ module _ (n : Number) (w : ℕ) (is : n ≡ Word w) where
       back zero h k = absurd (h refl)
       back (suc v) h k = omega arith
 
-pub negation-fault : (n : Number) (e : Error) → n ≡ Fault e → fault e ≡ negation (numberIs n)
+pub negation-fault : (n : Number) (e x : Error) → n ≡ Fault e → x ≡ faultOf n → fault x ≡ negation (numberIs n)
 unfolding negation _>>=_
-negation-fault n e is = rw is
+negation-fault n e x is q =
+    let same : x ≡ e = q ∙ ap faultOf is in
+    rw (is, same)
 
 associates : (r : Result ℕ) (f g : ℕ → Result ℕ) → (r >>= f >>= g) ≡ (r >>= λ n. f n >>= g)
 unfolding _>>=_

@@ -17,7 +17,7 @@ use Rattle.semantics.specs.declared.Error.{Error}
 use Rattle.semantics.specs.declared.Error.the-variants.{SyntaxError, LimitCheck}
 use Rattle.semantics.specs.TokenLaws.{run-le}
 use Rattle.token.specs.Bytes.{classIs}
-use Rattle.token.specs.Numbers.{numberIs}
+use Rattle.token.specs.Numbers.{numberIs, faultOf as numberFault}
 use Rattle.token.specs.Strings.{JudgedAt}
 use Rattle.token.specs.Lexing.{ClassAt, Lexes, StringToken, NameToken, BraceToken, EndToken}
 use Rattle.token.specs.declared.bytes.Class.{Class}
@@ -191,10 +191,12 @@ module _ {script : List ℕ} {start end : ℕ} (C : ClassAt script start tokens.
       inside = h;
     }
 
-    pub word-fault : t ≡ true → {n : Number} {x : Error} → numberIs n ≡ number (between script start end)
-        → n ≡ Fault x → lex (drop start script) ≡ fault x
+    pub word-fault : t ≡ true → {n : Number} {x y : Error} → numberIs n ≡ number (between script start end)
+        → n ≡ Fault x → y ≡ numberFault n → lex (drop start script) ≡ fault y
     unfolding _>>=_
-    word-fault f {n} {x} g i = word ∙ rw (run-fault (between script start end) t is f x (sym g ∙ ap numberIs i)) refl
+    word-fault f {n} {x} {y} g i q =
+        let same : y ≡ x = q ∙ ap numberFault i in
+        rw same (word ∙ rw (run-fault (between script start end) t is f x (sym g ∙ ap numberIs i)) refl)
 
     pub word-name : t ≡ false → end - start ≤ 31 → NameToken script start true 0 start (end - start) end
     unfolding _>>=_

@@ -17,11 +17,12 @@ use Rattle.semantics.specs.Setup as setup
 use Rattle.semantics.specs.declared.Error.{Error}
 use Rattle.semantics.specs.declared.Kind.{Kind}
 use Rattle.token.specs.Lexing.{TokenAt, LexedAt, faultOf}
-use Rattle.token.specs.Reading.{LocatedAt, Within, Ordered, ownedBy, answer, locatedIs, partOf}
+use Rattle.token.specs.Reading.{LocatedAt, Within, Ordered, ownedBy, answerOf, answer, locatedIs, partOf, refusalOf}
 use Rattle.token.specs.declared.Token.{Token}
 use Rattle.token.specs.declared.Token.the-variants.{Integer, String, ExecutableName, LiteralName, OpenBrace, CloseBrace, End}
 use Rattle.token.specs.declared.Lexed.{Lexed}
 use Rattle.token.specs.declared.Lexed.the-variants as lexed
+use Rattle.token.specs.declared.Reading.{Reading}
 use Rattle.token.specs.declared.Located.{Located}
 use Rattle.token.specs.declared.Located.the-variants.{TooLong, PastEnd, Faulty, At}
 
@@ -126,12 +127,25 @@ module _ {script : List ℕ} {offset : ℕ} {r : Located} (L : LocatedAt script 
       → take (start + size - start) (drop start script) ≡ partOf script (reading script offset)
   part-is {k} {n} {start} {size} e = rw (add-sub-cancel-left start size) (ap (partOf script) (ap locatedIs (sym e) ∙ L .is))
 
--- Where there is no token there is no part: the other answers have the tags 0, 1 and 2.
-pub part-none : (script : List ℕ) (offset : ℕ) (tag : Located → ℕ) → ((k : Kind) (n start size : ℕ) → tag (At k n start size) ≡ 3)
-    → (r : Located) → LocatedAt script offset r → (tag r ≡ 0) ⊎ ((tag r ≡ 1) ⊎ (tag r ≡ 2)) → [] ≡ partOf script (reading script offset)
-part-none script offset tag last TooLong L e = ap (partOf script) (L .is)
-part-none script offset tag last PastEnd L e = ap (partOf script) (L .is)
-part-none script offset tag last (Faulty x) L e = ap (partOf script) (L .is)
-part-none script offset tag last (At k n start size) L (inl e) = let z = last k n start size in absurd (omega arith)
-part-none script offset tag last (At k n start size) L (inr (inl e)) = let z = last k n start size in absurd (omega arith)
-part-none script offset tag last (At k n start size) L (inr (inr e)) = let z = last k n start size in absurd (omega arith)
+-- Where there is no token, the answer has the tag 0, 1 or 2.
+pub without-token : (tag : Located → ℕ) → ((k : Kind) (n start size : ℕ) → tag (At k n start size) ≡ 3)
+    → (P : Located → Type 0) → P TooLong → P PastEnd → ((e : Error) → P (Faulty e))
+    → (r : Located) → (tag r ≡ 0) ⊎ ((tag r ≡ 1) ⊎ (tag r ≡ 2)) → P r
+without-token tag last P a b f TooLong e = a
+without-token tag last P a b f PastEnd e = b
+without-token tag last P a b f (Faulty x) e = f x
+without-token tag last P a b f (At k n start size) (inl e) = let z = last k n start size in absurd (omega arith)
+without-token tag last P a b f (At k n start size) (inr (inl e)) = let z = last k n start size in absurd (omega arith)
+without-token tag last P a b f (At k n start size) (inr (inr e)) = let z = last k n start size in absurd (omega arith)
+
+module _ (script : List ℕ) (offset : ℕ) (tag : Located → ℕ) (last : (k : Kind) (n start size : ℕ) → tag (At k n start size) ≡ 3)
+    (r : Located) (L : LocatedAt script offset r) (e : (tag r ≡ 0) ⊎ ((tag r ≡ 1) ⊎ (tag r ≡ 2))) where
+  -- There is no part, and what is answered is the refusal or the fault.
+  pub part-none : [] ≡ partOf script (reading script offset)
+  part-none = without-token tag last (λ l. [] ≡ partOf script (locatedIs l)) refl refl (λ x. refl) r e ∙ ap (partOf script) (L .is)
+
+  pub told-none : {t : Reading} → t ≡ refusalOf r → answerOf offset t ≡ answer offset (reading script offset)
+  told-none q =
+      ap (answerOf offset) q
+      ∙ without-token tag last (λ l. answerOf offset (refusalOf l) ≡ answer offset (locatedIs l)) refl refl (λ x. refl) r e
+      ∙ ap (answer offset) (L .is)

@@ -9,6 +9,8 @@ use Rattle.semantics.specs.Words.{word}
 use Rattle.semantics.specs.Values.{Result, ok, fault, _>>=_}
 use Rattle.semantics.specs.Tokens.{digits, upTo}
 use Rattle.semantics.specs.Tokens as tokens
+use Rattle.semantics.specs.declared.Error.{Error}
+use Rattle.semantics.specs.declared.Error.the-variants.{SyntaxError}
 use Rattle.token.specs.declared.numbers.Form.{Form}
 use Rattle.token.specs.declared.numbers.Form.the-variants.{Negative, Hexadecimal, Plain}
 use Rattle.token.specs.declared.numbers.Number.{Number}
@@ -22,6 +24,10 @@ formIs Plain = tokens.plain
 abbrev pub numberIs : Number → Result ℕ
 numberIs (Word w) = ok w
 numberIs (Fault e) = fault e
+
+abbrev pub faultOf : Number → Error
+faultOf (Word w) = SyntaxError
+faultOf (Fault e) = e
 
 -- A number over the limit stays as it is.
 unfoldable pub withDigit : ℕ → ℕ → ℕ → ℕ → ℕ

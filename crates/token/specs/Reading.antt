@@ -7,6 +7,7 @@ use lib.ListN.{length, take, drop}
 use Rattle.semantics.specs.Outcome.{errorText}
 use Rattle.semantics.specs.Setup.{kindText}
 use Rattle.semantics.specs.Setup as setup
+use Rattle.semantics.specs.declared.Error.the-variants.{SyntaxError}
 use Rattle.semantics.specs.declared.Kind.the-variants as kind
 use Rattle.token.specs.declared.Token.{Token}
 use Rattle.token.specs.declared.Token.the-variants.{Integer, String, ExecutableName, LiteralName, OpenBrace, CloseBrace, End}
@@ -81,3 +82,10 @@ ownedBy start next (LiteralName at size) = located.At kind.LiteralName next at s
 ownedBy start next OpenBrace = located.At kind.OpenBrace next start 1
 ownedBy start next CloseBrace = located.At kind.CloseBrace next start 1
 ownedBy start next End = located.At kind.End next start 0
+
+-- The public answer where there is no token.
+abbrev pub refusalOf : Located → Reading
+refusalOf located.TooLong = reading.TooLong
+refusalOf located.PastEnd = reading.PastEnd
+refusalOf (located.Faulty e) = reading.Faulty e
+refusalOf (located.At k n start size) = reading.Faulty SyntaxError

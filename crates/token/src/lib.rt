@@ -7,7 +7,7 @@ ghost use lib.ListN.{length};
 ghost use Rattle.semantics.specs.Groups as groups;
 ghost use Rattle.semantics.specs.Setup as setup;
 ghost use Rattle.token.specs.Lexing.{LexedAt, NameByteAt, SlashAt, QuoteAt, faultOf};
-ghost use Rattle.token.specs.Reading.{LocatedAt, Ordered, ownedBy, answerOf, answer, partOf};
+ghost use Rattle.token.specs.Reading.{LocatedAt, Ordered, ownedBy, answerOf, answer, partOf, refusalOf};
 use semantics::Error;
 use semantics::Kind;
 
@@ -20,6 +20,7 @@ use bytes::blank_end;
 use bytes::class_of;
 use bytes::run_end;
 use numbers::Number;
+use numbers::number_fault;
 use numbers::number_of;
 use numbers::starts_number;
 use quoted::Judged;
@@ -72,12 +73,11 @@ pub enum Located {
 pub fn read(script: &[u8], offset: usize) -> Reading
     ensures { λ r. ⌜ answerOf offset r ≡ answer offset (setup.reading (now (script .entry)) offset) ⌝ }
 {
-    match locate(script, offset) {
-        Located::TooLong => Reading::TooLong,
-        Located::PastEnd => Reading::PastEnd,
-        Located::Faulty(e) => Reading::Faulty(e),
-        Located::At(kind, next, _, _) => Reading::Read(kind, next),
-    }
+    let located = locate(script, offset);
+    let Located::At(kind, next, _, _) = located else {
+        return refusal_of(located);
+    };
+    Reading::Read(kind, next)
 }
 
 // That token's own bytes, the very part of the script: a string's without quotes, escapes unread, and a literal name's without its slash.
@@ -152,6 +152,18 @@ pub fn fault_of(lexed: Lexed) -> Error
     }
 }
 
+// The refusal or the fault, by its name, of a reading that found no token.
+fn refusal_of(located: Located) -> Reading
+    ensures { λ r. ⌜ r ≡ refusalOf located ⌝ }
+{
+    match located {
+        Located::TooLong => Reading::TooLong,
+        Located::PastEnd => Reading::PastEnd,
+        Located::Faulty(e) => Reading::Faulty(e),
+        Located::At(_, _, _, _) => Reading::Faulty(Error::SyntaxError),
+    }
+}
+
 // The number or the executable name that begins at a name byte.
 fn word_at(script: &[u8], start: usize) -> Lexed
     requires { ⌜ NameByteAt (now script) start ⌝ }
@@ -160,10 +172,11 @@ fn word_at(script: &[u8], start: usize) -> Lexed
     let end = run_end(script, start);
     let run = &script[start..end];
     if starts_number(run) {
-        return match number_of(run) {
-            Number::Word(w) => Lexed::Token(Token::Integer(w), end),
-            Number::Fault(e) => Lexed::Fault(e),
+        let number = number_of(run);
+        let Number::Word(w) = number else {
+            return Lexed::Fault(number_fault(number));
         };
+        return Lexed::Token(Token::Integer(w), end);
     }
     let size = end - start;
     if NAME_BYTES < size {

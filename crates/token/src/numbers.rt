@@ -3,7 +3,7 @@ ghost use mathlib.Core.Path.{_≡_};
 ghost use Prim.Native.Nat.{_≤_, _<_, _^_};
 ghost use lib.ListN.{drop};
 ghost use Rattle.semantics.specs.Tokens as tokens;
-ghost use Rattle.token.specs.Numbers.{formIs, numberIs, withDigit, numeral, negation};
+ghost use Rattle.token.specs.Numbers.{formIs, numberIs, faultOf, withDigit, numeral, negation};
 use crate::bytes::is_digit;
 use crate::bytes::within;
 use semantics::Error;
@@ -27,6 +27,16 @@ const NEGATIVE_LIMIT: u64 = 2147483648;
 const HEXADECIMAL_LIMIT: u64 = 4294967295;
 
 const PLAIN_LIMIT: u64 = 2147483647;
+
+// The fault of an answer that has one, for the branch of a `let .. else` that returns with its name.
+pub fn number_fault(n: Number) -> Error
+    ensures { λ r. ⌜ r ≡ faultOf n ⌝ }
+{
+    match n {
+        Number::Word(_) => Error::SyntaxError,
+        Number::Fault(e) => e,
+    }
+}
 
 // A digit, or - and a digit.
 pub fn starts_number(s: &[u8]) -> bool
@@ -123,15 +133,13 @@ fn numeral_at(s: &[u8], at: usize, base: u64, limit: u64) -> Number
 fn negated(n: Number) -> Number
     ensures { λ r. ⌜ numberIs r ≡ negation (numberIs n) ⌝ }
 {
-    match n {
-        Number::Word(w) => {
-            if w == 0 {
-                return Number::Word(0);
-            }
-            Number::Word(4294967295 - (w - 1))
-        }
-        Number::Fault(e) => Number::Fault(e),
+    let Number::Word(w) = n else {
+        return Number::Fault(number_fault(n));
+    };
+    if w == 0 {
+        return Number::Word(0);
     }
+    Number::Word(4294967295 - (w - 1))
 }
 
 // The 32 bits of a run that starts as a number does, or its fault.

@@ -1,10 +1,9 @@
 -- `groups::judge` meets its contract: what is known of the rest of a group gives what is known of the whole, and an inner group has a level less.
 -- Assumes nothing.
-use Prim.Native.Nat.{_-_}
 use lib.ListN.{length}
 use native.Mathlib.Omega.{arith}
-use Rattle.groups.proofs.Judging.{Judging, begin, judge-fault, element-inside, judge-element, open-inside, judge-deep, judge-inner-fault, inner-inside, judge-inner, judge-close}
-use Prim.Native.Nat.{ℕ, _<_}
+use Rattle.groups.proofs.Judging.{Judging, begin, weighs, judge-fault, element-inside, judge-element, open-inside, judge-deep, judge-inner-fault, inner-inside, judge-inner, judge-close}
+use Prim.Native.Nat.{ℕ, _-_, _<_}
 use borrow.Fn.Kinds.{In}
 use borrow.Fn.PlainCycle.{Measures, is, falls, and}
 use Rattle.groups.proofs.judge.Reads as judge
@@ -12,6 +11,7 @@ use Rattle.groups.proofs.judge.Kinds as judge-kinds
 use Rattle.groups.proofs.+judge.Lts-judge as judge-lts
 use Rattle.groups.proofs.fault_of.Reads as fault-of-reads
 use Rattle.groups.proofs.weigh.Reads as weigh-reads
+use Rattle.groups.proofs.weighed_fault.Reads as weighed-fault-reads
 use Rattle.groups.proofs.+judge.{statement}
 use Rattle.groups.proofs.+judge.Tie.{close}
 
@@ -24,290 +24,129 @@ judge-at t = and 1 judge-kinds.ps (is 1 judge-kinds.ps μ-judge t) judge.Pre
 abbrev judge-below : ℕ → In 1 judge-kinds.ps
 judge-below t = and 1 judge-kinds.ps (falls 1 judge-kinds.ps _<_ μ-judge t) judge.Pre
 
+-- What is known of the functions that are called.
+abbrev claims : ℕ → judge-lts.Claims
+claims t = (
+  weigh-reads.Asked,
+  weigh-reads.Learnt,
+  weighed-fault-reads.Asked,
+  weighed-fault-reads.Learnt,
+  judge-below t,
+  judge.Post,
+  fault-of-reads.Asked,
+  fault-of-reads.Learnt,
+)
+
 abbrev judge-Inv-loop : judge-lts.InvT-loop
 judge-Inv-loop script from depth at₀ size₀ wants₀ at size wants = Judging script depth from at size wants
 
 abbrev judge-μ-loop : judge-lts.MeasureT-loop
 judge-μ-loop script from depth at₀ size₀ wants₀ at size wants = length script - at
 
-judge-loop-holds : (t : ℕ) → judge-lts.Need-loop-holds (
-  weigh-reads.Asked,
-  weigh-reads.Learnt,
-  judge-below t,
-  judge.Post,
-  fault-of-reads.Asked,
-  fault-of-reads.Learnt,
-) (judge-at t) judge.Post judge-Inv-loop judge-μ-loop
+judge-loop-holds : (t : ℕ) → judge-lts.Need-loop-holds (claims t) (judge-at t) judge.Post judge-Inv-loop judge-μ-loop
 judge-loop-holds t c = begin _ _ _ (c .before .pre .1)
 
-judge-weigh-requires : (t : ℕ) → judge-lts.Need-weigh-requires (
-  weigh-reads.Asked,
-  weigh-reads.Learnt,
-  judge-below t,
-  judge.Post,
-  fault-of-reads.Asked,
-  fault-of-reads.Learnt,
-) (judge-at t) judge.Post judge-Inv-loop judge-μ-loop
+judge-weigh-requires : (t : ℕ) → judge-lts.Need-weigh-requires (claims t) (judge-at t) judge.Post judge-Inv-loop judge-μ-loop
 judge-weigh-requires t c κs = c .loop .inv .inside
 
-judge-enum-known-e : (t : ℕ) → judge-lts.Need-enum-known-e (
-  weigh-reads.Asked,
-  weigh-reads.Learnt,
-  judge-below t,
-  judge.Post,
-  fault-of-reads.Asked,
-  fault-of-reads.Learnt,
-) (judge-at t) judge.Post judge-Inv-loop judge-μ-loop
-judge-enum-known-e t c = c .match .keys1
+judge-enum-known-weighed : (t : ℕ) → judge-lts.Need-enum-known-weighed (claims t) (judge-at t) judge.Post judge-Inv-loop judge-μ-loop
+judge-enum-known-weighed t c = c .match .keys1
 
-judge-returns : (t : ℕ) → judge-lts.Need-returns (
-  weigh-reads.Asked,
-  weigh-reads.Learnt,
-  judge-below t,
-  judge.Post,
-  fault-of-reads.Asked,
-  fault-of-reads.Learnt,
-) (judge-at t) judge.Post judge-Inv-loop judge-μ-loop
-judge-returns t c = judge-fault (c .before .before .before .before .loop .inv) (c .before .e .given .1) (c .before .before .before .weigh .ensures)
+judge-enum-told : (t : ℕ) → judge-lts.Need-enum-told (claims t) (judge-at t) judge.Post judge-Inv-loop judge-μ-loop
+judge-enum-told t c = c .match .keys2
 
-judge-enum-known-cells : (t : ℕ) → judge-lts.Need-enum-known-cells (
-  weigh-reads.Asked,
-  weigh-reads.Learnt,
-  judge-below t,
-  judge.Post,
-  fault-of-reads.Asked,
-  fault-of-reads.Learnt,
-) (judge-at t) judge.Post judge-Inv-loop judge-μ-loop
-judge-enum-known-cells t c = c .match .keys2
+judge-weighed-fault-requires : (t : ℕ) → judge-lts.Need-weighed-fault-requires (claims t) (judge-at t) judge.Post judge-Inv-loop judge-μ-loop
+judge-weighed-fault-requires t c κs = tt
 
-judge-add-size : (t : ℕ) → judge-lts.Need-add-size (
-  weigh-reads.Asked,
-  weigh-reads.Learnt,
-  judge-below t,
-  judge.Post,
-  fault-of-reads.Asked,
-  fault-of-reads.Learnt,
-) (judge-at t) judge.Post judge-Inv-loop judge-μ-loop
-judge-add-size t c = omega (arith, c .before .before .before .before .loop .inv .few, c .before .before .before .before .loop .inv .inside)
+judge-returns : (t : ℕ) → judge-lts.Need-returns (claims t) (judge-at t) judge.Post judge-Inv-loop judge-μ-loop
+judge-returns t c = judge-fault (c .before .before .before .before .loop .inv) (c .before .enum-told .given .1) (c .before .before .before .weigh .ensures) (c .weighed-fault .ensures)
 
-judge-add-wants : (t : ℕ) → judge-lts.Need-add-wants (
-  weigh-reads.Asked,
-  weigh-reads.Learnt,
-  judge-below t,
-  judge.Post,
-  fault-of-reads.Asked,
-  fault-of-reads.Learnt,
-) (judge-at t) judge.Post judge-Inv-loop judge-μ-loop
-judge-add-wants t c = omega (arith, c .before .before .before .before .loop .inv .few, element-inside (c .before .before .before .before .loop .inv) (c .before .cells .given .1) (c .before .before .before .weigh .ensures))
+judge-enum-known-weight : (t : ℕ) → judge-lts.Need-enum-known-weight (claims t) (judge-at t) judge.Post judge-Inv-loop judge-μ-loop
+judge-enum-known-weight t c = c .match2 .keys1
 
-judge-loop-less : (t : ℕ) → judge-lts.Need-loop-less (
-  weigh-reads.Asked,
-  weigh-reads.Learnt,
-  judge-below t,
-  judge.Post,
-  fault-of-reads.Asked,
-  fault-of-reads.Learnt,
-) (judge-at t) judge.Post judge-Inv-loop judge-μ-loop
-judge-loop-less t c = omega (arith, element-inside (c .before .before .before .before .loop .inv) (c .before .cells .given .1) (c .before .before .before .weigh .ensures))
+judge-add-size : (t : ℕ) → judge-lts.Need-add-size (claims t) (judge-at t) judge.Post judge-Inv-loop judge-μ-loop
+judge-add-size t c = omega (arith, c .before .before .before .before .before .before .before .loop .inv .few, c .before .before .before .before .before .before .before .loop .inv .inside)
 
-judge-loop-again : (t : ℕ) → judge-lts.Need-loop-again (
-  weigh-reads.Asked,
-  weigh-reads.Learnt,
-  judge-below t,
-  judge.Post,
-  fault-of-reads.Asked,
-  fault-of-reads.Learnt,
-) (judge-at t) judge.Post judge-Inv-loop judge-μ-loop
-judge-loop-again t c = judge-element (c .before .before .before .before .loop .inv) (c .before .cells .given .1) (c .before .before .before .weigh .ensures)
+judge-add-wants : (t : ℕ) → judge-lts.Need-add-wants (claims t) (judge-at t) judge.Post judge-Inv-loop judge-μ-loop
+judge-add-wants t c = omega (arith, c .before .before .before .before .before .before .before .loop .inv .few, element-inside (c .before .before .before .before .before .before .before .loop .inv) (weighs (c .before .before .before .before .weighed .given .1) (c .before .weight .given .1)) (c .before .before .before .before .before .before .weigh .ensures))
 
-judge-enum-known-next : (t : ℕ) → judge-lts.Need-enum-known-next (
-  weigh-reads.Asked,
-  weigh-reads.Learnt,
-  judge-below t,
-  judge.Post,
-  fault-of-reads.Asked,
-  fault-of-reads.Learnt,
-) (judge-at t) judge.Post judge-Inv-loop judge-μ-loop
-judge-enum-known-next t c = c .match .keys3
+judge-loop-less : (t : ℕ) → judge-lts.Need-loop-less (claims t) (judge-at t) judge.Post judge-Inv-loop judge-μ-loop
+judge-loop-less t c = omega (arith, element-inside (c .before .before .before .before .before .before .before .loop .inv) (weighs (c .before .before .before .before .weighed .given .1) (c .before .weight .given .1)) (c .before .before .before .before .before .before .weigh .ensures))
 
-judge-returns-2 : (t : ℕ) → judge-lts.Need-returns-2 (
-  weigh-reads.Asked,
-  weigh-reads.Learnt,
-  judge-below t,
-  judge.Post,
-  fault-of-reads.Asked,
-  fault-of-reads.Learnt,
-) (judge-at t) judge.Post judge-Inv-loop judge-μ-loop
-judge-returns-2 t c = judge-deep (c .before .before .before .before .before .loop .inv) (c .before .before .next .given .1) (c .before .before .before .before .weigh .ensures) (c .if1 .taken)
+judge-loop-again : (t : ℕ) → judge-lts.Need-loop-again (claims t) (judge-at t) judge.Post judge-Inv-loop judge-μ-loop
+judge-loop-again t c = judge-element (c .before .before .before .before .before .before .before .loop .inv) (weighs (c .before .before .before .before .weighed .given .1) (c .before .weight .given .1)) (c .before .before .before .before .before .before .weigh .ensures)
 
-judge-sub-judge : (t : ℕ) → judge-lts.Need-sub-judge (
-  weigh-reads.Asked,
-  weigh-reads.Learnt,
-  judge-below t,
-  judge.Post,
-  fault-of-reads.Asked,
-  fault-of-reads.Learnt,
-) (judge-at t) judge.Post judge-Inv-loop judge-μ-loop
+judge-enum-told-2 : (t : ℕ) → judge-lts.Need-enum-told-2 (claims t) (judge-at t) judge.Post judge-Inv-loop judge-μ-loop
+judge-enum-told-2 t c = c .match2 .keys2
+
+judge-returns-2 : (t : ℕ) → judge-lts.Need-returns-2 (claims t) (judge-at t) judge.Post judge-Inv-loop judge-μ-loop
+judge-returns-2 t c = judge-deep (c .before .before .before .before .before .before .before .loop .inv) (weighs (c .before .before .before .before .weighed .given .1) (c .before .enum-told2 .given .1)) (c .before .before .before .before .before .before .weigh .ensures) (c .if1 .taken)
+
+judge-sub-judge : (t : ℕ) → judge-lts.Need-sub-judge (claims t) (judge-at t) judge.Post judge-Inv-loop judge-μ-loop
 judge-sub-judge t c = omega (arith, c .if1 .left)
 
-judge-judge-requires : (t : ℕ) → judge-lts.Need-judge-requires (
-  weigh-reads.Asked,
-  weigh-reads.Learnt,
-  judge-below t,
-  judge.Post,
-  fault-of-reads.Asked,
-  fault-of-reads.Learnt,
-) (judge-at t) judge.Post judge-Inv-loop judge-μ-loop
-judge-judge-requires t c κs = (omega (arith, c .if1 .left, c .before .before .before .before .before .before .before .pre .0), open-inside (c .before .before .before .before .before .loop .inv) (c .before .before .next .given .1) (c .before .before .before .before .weigh .ensures))
+judge-judge-requires : (t : ℕ) → judge-lts.Need-judge-requires (claims t) (judge-at t) judge.Post judge-Inv-loop judge-μ-loop
+judge-judge-requires t c κs = (omega (arith, c .if1 .left, c .before .before .before .before .before .before .before .before .before .pre .0), open-inside (c .before .before .before .before .before .before .before .loop .inv) (weighs (c .before .before .before .before .weighed .given .1) (c .before .enum-told2 .given .1)) (c .before .before .before .before .before .before .weigh .ensures))
 
-judge-enum-known-judged : (t : ℕ) → judge-lts.Need-enum-known-judged (
-  weigh-reads.Asked,
-  weigh-reads.Learnt,
-  judge-below t,
-  judge.Post,
-  fault-of-reads.Asked,
-  fault-of-reads.Learnt,
-) (judge-at t) judge.Post judge-Inv-loop judge-μ-loop
-judge-enum-known-judged t c = c .match2 .keys1
+judge-enum-known-judged : (t : ℕ) → judge-lts.Need-enum-known-judged (claims t) (judge-at t) judge.Post judge-Inv-loop judge-μ-loop
+judge-enum-known-judged t c = c .match3 .keys1
 
-judge-enum-told : (t : ℕ) → judge-lts.Need-enum-told (
-  weigh-reads.Asked,
-  weigh-reads.Learnt,
-  judge-below t,
-  judge.Post,
-  fault-of-reads.Asked,
-  fault-of-reads.Learnt,
-) (judge-at t) judge.Post judge-Inv-loop judge-μ-loop
-judge-enum-told t c = c .match2 .keys2
+judge-enum-told-3 : (t : ℕ) → judge-lts.Need-enum-told-3 (claims t) (judge-at t) judge.Post judge-Inv-loop judge-μ-loop
+judge-enum-told-3 t c = c .match3 .keys2
 
-judge-fault-of-requires : (t : ℕ) → judge-lts.Need-fault-of-requires (
-  weigh-reads.Asked,
-  weigh-reads.Learnt,
-  judge-below t,
-  judge.Post,
-  fault-of-reads.Asked,
-  fault-of-reads.Learnt,
-) (judge-at t) judge.Post judge-Inv-loop judge-μ-loop
+judge-fault-of-requires : (t : ℕ) → judge-lts.Need-fault-of-requires (claims t) (judge-at t) judge.Post judge-Inv-loop judge-μ-loop
 judge-fault-of-requires t c κs = tt
 
-judge-returns-3 : (t : ℕ) → judge-lts.Need-returns-3 (
-  weigh-reads.Asked,
-  weigh-reads.Learnt,
-  judge-below t,
-  judge.Post,
-  fault-of-reads.Asked,
-  fault-of-reads.Learnt,
-) (judge-at t) judge.Post judge-Inv-loop judge-μ-loop
-judge-returns-3 t c = judge-inner-fault (c .before .before .before .before .before .before .before .before .before .loop .inv) (c .before .before .before .before .before .before .next .given .1) (c .before .before .before .before .before .before .before .before .weigh .ensures) _ (omega (arith, c .before .before .before .before .if1 .left)) (c .before .before .before .judge .ensures) (c .before .enum-told .given .1) _ (c .fault-of .ensures)
+judge-returns-3 : (t : ℕ) → judge-lts.Need-returns-3 (claims t) (judge-at t) judge.Post judge-Inv-loop judge-μ-loop
+judge-returns-3 t c = judge-inner-fault (c .before .before .before .before .before .before .before .before .before .before .before .loop .inv) (weighs (c .before .before .before .before .before .before .before .before .weighed .given .1) (c .before .before .before .before .before .enum-told2 .given .1)) (c .before .before .before .before .before .before .before .before .before .before .weigh .ensures) _ (omega (arith, c .before .before .before .before .if1 .left)) (c .before .before .before .judge .ensures) (c .before .enum-told3 .given .1) _ (c .fault-of .ensures)
 
-judge-add-size-2 : (t : ℕ) → judge-lts.Need-add-size-2 (
-  weigh-reads.Asked,
-  weigh-reads.Learnt,
-  judge-below t,
-  judge.Post,
-  fault-of-reads.Asked,
-  fault-of-reads.Learnt,
-) (judge-at t) judge.Post judge-Inv-loop judge-μ-loop
-judge-add-size-2 t c = omega (arith, c .before .before .before .before .before .before .before .before .before .loop .inv .few, c .before .before .before .before .before .before .before .before .before .loop .inv .inside)
+judge-add-size-2 : (t : ℕ) → judge-lts.Need-add-size-2 (claims t) (judge-at t) judge.Post judge-Inv-loop judge-μ-loop
+judge-add-size-2 t c = omega (arith, c .before .before .before .before .before .before .before .before .before .before .before .loop .inv .few, c .before .before .before .before .before .before .before .before .before .before .before .loop .inv .inside)
 
-judge-add-wants-2 : (t : ℕ) → judge-lts.Need-add-wants-2 (
-  weigh-reads.Asked,
-  weigh-reads.Learnt,
-  judge-below t,
-  judge.Post,
-  fault-of-reads.Asked,
-  fault-of-reads.Learnt,
-) (judge-at t) judge.Post judge-Inv-loop judge-μ-loop
-judge-add-wants-2 t c = omega (arith, c .before .before .before .before .before .before .before .before .before .loop .inv .few, open-inside (c .before .before .before .before .before .before .before .before .before .loop .inv) (c .before .before .before .before .before .before .next .given .1) (c .before .before .before .before .before .before .before .before .weigh .ensures), inner-inside (c .before .before .before .before .before .before .before .before .before .loop .inv) (c .before .before .before .before .before .before .next .given .1) (c .before .before .before .before .before .before .before .before .weigh .ensures) _ (omega (arith, c .before .before .before .before .if1 .left)) (c .before .before .before .judge .ensures) (c .before .judged .given .1))
+judge-add-wants-2 : (t : ℕ) → judge-lts.Need-add-wants-2 (claims t) (judge-at t) judge.Post judge-Inv-loop judge-μ-loop
+judge-add-wants-2 t c = let o = weighs (c .before .before .before .before .before .before .before .before .weighed .given .1) (c .before .before .before .before .before .enum-told2 .given .1) in omega (arith, c .before .before .before .before .before .before .before .before .before .before .before .loop .inv .few, open-inside (c .before .before .before .before .before .before .before .before .before .before .before .loop .inv) o (c .before .before .before .before .before .before .before .before .before .before .weigh .ensures), inner-inside (c .before .before .before .before .before .before .before .before .before .before .before .loop .inv) o (c .before .before .before .before .before .before .before .before .before .before .weigh .ensures) _ (omega (arith, c .before .before .before .before .if1 .left)) (c .before .before .before .judge .ensures) (c .before .judged .given .1))
 
-judge-add-wants-3 : (t : ℕ) → judge-lts.Need-add-wants-3 (
-  weigh-reads.Asked,
-  weigh-reads.Learnt,
-  judge-below t,
-  judge.Post,
-  fault-of-reads.Asked,
-  fault-of-reads.Learnt,
-) (judge-at t) judge.Post judge-Inv-loop judge-μ-loop
-judge-add-wants-3 t c = omega (arith, c .before .before .before .before .before .before .before .before .before .loop .inv .few, open-inside (c .before .before .before .before .before .before .before .before .before .loop .inv) (c .before .before .before .before .before .before .next .given .1) (c .before .before .before .before .before .before .before .before .weigh .ensures), inner-inside (c .before .before .before .before .before .before .before .before .before .loop .inv) (c .before .before .before .before .before .before .next .given .1) (c .before .before .before .before .before .before .before .before .weigh .ensures) _ (omega (arith, c .before .before .before .before .if1 .left)) (c .before .before .before .judge .ensures) (c .before .judged .given .1))
+judge-add-wants-3 : (t : ℕ) → judge-lts.Need-add-wants-3 (claims t) (judge-at t) judge.Post judge-Inv-loop judge-μ-loop
+judge-add-wants-3 t c = let o = weighs (c .before .before .before .before .before .before .before .before .weighed .given .1) (c .before .before .before .before .before .enum-told2 .given .1) in omega (arith, c .before .before .before .before .before .before .before .before .before .before .before .loop .inv .few, open-inside (c .before .before .before .before .before .before .before .before .before .before .before .loop .inv) o (c .before .before .before .before .before .before .before .before .before .before .weigh .ensures), inner-inside (c .before .before .before .before .before .before .before .before .before .before .before .loop .inv) o (c .before .before .before .before .before .before .before .before .before .before .weigh .ensures) _ (omega (arith, c .before .before .before .before .if1 .left)) (c .before .before .before .judge .ensures) (c .before .judged .given .1))
 
-judge-add-wants-4 : (t : ℕ) → judge-lts.Need-add-wants-4 (
-  weigh-reads.Asked,
-  weigh-reads.Learnt,
-  judge-below t,
-  judge.Post,
-  fault-of-reads.Asked,
-  fault-of-reads.Learnt,
-) (judge-at t) judge.Post judge-Inv-loop judge-μ-loop
-judge-add-wants-4 t c = omega (arith, c .before .before .before .before .before .before .before .before .before .loop .inv .few, open-inside (c .before .before .before .before .before .before .before .before .before .loop .inv) (c .before .before .before .before .before .before .next .given .1) (c .before .before .before .before .before .before .before .before .weigh .ensures), inner-inside (c .before .before .before .before .before .before .before .before .before .loop .inv) (c .before .before .before .before .before .before .next .given .1) (c .before .before .before .before .before .before .before .before .weigh .ensures) _ (omega (arith, c .before .before .before .before .if1 .left)) (c .before .before .before .judge .ensures) (c .before .judged .given .1))
+judge-add-wants-4 : (t : ℕ) → judge-lts.Need-add-wants-4 (claims t) (judge-at t) judge.Post judge-Inv-loop judge-μ-loop
+judge-add-wants-4 t c = let o = weighs (c .before .before .before .before .before .before .before .before .weighed .given .1) (c .before .before .before .before .before .enum-told2 .given .1) in omega (arith, c .before .before .before .before .before .before .before .before .before .before .before .loop .inv .few, open-inside (c .before .before .before .before .before .before .before .before .before .before .before .loop .inv) o (c .before .before .before .before .before .before .before .before .before .before .weigh .ensures), inner-inside (c .before .before .before .before .before .before .before .before .before .before .before .loop .inv) o (c .before .before .before .before .before .before .before .before .before .before .weigh .ensures) _ (omega (arith, c .before .before .before .before .if1 .left)) (c .before .before .before .judge .ensures) (c .before .judged .given .1))
 
-judge-loop-less-2 : (t : ℕ) → judge-lts.Need-loop-less-2 (
-  weigh-reads.Asked,
-  weigh-reads.Learnt,
-  judge-below t,
-  judge.Post,
-  fault-of-reads.Asked,
-  fault-of-reads.Learnt,
-) (judge-at t) judge.Post judge-Inv-loop judge-μ-loop
-judge-loop-less-2 t c = omega (arith, inner-inside (c .before .before .before .before .before .before .before .before .before .loop .inv) (c .before .before .before .before .before .before .next .given .1) (c .before .before .before .before .before .before .before .before .weigh .ensures) _ (omega (arith, c .before .before .before .before .if1 .left)) (c .before .before .before .judge .ensures) (c .before .judged .given .1))
+judge-loop-less-2 : (t : ℕ) → judge-lts.Need-loop-less-2 (claims t) (judge-at t) judge.Post judge-Inv-loop judge-μ-loop
+judge-loop-less-2 t c = omega (arith, inner-inside (c .before .before .before .before .before .before .before .before .before .before .before .loop .inv) (weighs (c .before .before .before .before .before .before .before .before .weighed .given .1) (c .before .before .before .before .before .enum-told2 .given .1)) (c .before .before .before .before .before .before .before .before .before .before .weigh .ensures) _ (omega (arith, c .before .before .before .before .if1 .left)) (c .before .before .before .judge .ensures) (c .before .judged .given .1))
 
-judge-loop-again-2 : (t : ℕ) → judge-lts.Need-loop-again-2 (
-  weigh-reads.Asked,
-  weigh-reads.Learnt,
-  judge-below t,
-  judge.Post,
-  fault-of-reads.Asked,
-  fault-of-reads.Learnt,
-) (judge-at t) judge.Post judge-Inv-loop judge-μ-loop
-judge-loop-again-2 t c = judge-inner (c .before .before .before .before .before .before .before .before .before .loop .inv) (c .before .before .before .before .before .before .next .given .1) (c .before .before .before .before .before .before .before .before .weigh .ensures) _ (omega (arith, c .before .before .before .before .if1 .left)) (c .before .before .before .judge .ensures) (c .before .judged .given .1)
+judge-loop-again-2 : (t : ℕ) → judge-lts.Need-loop-again-2 (claims t) (judge-at t) judge.Post judge-Inv-loop judge-μ-loop
+judge-loop-again-2 t c = judge-inner (c .before .before .before .before .before .before .before .before .before .before .before .loop .inv) (weighs (c .before .before .before .before .before .before .before .before .weighed .given .1) (c .before .before .before .before .before .enum-told2 .given .1)) (c .before .before .before .before .before .before .before .before .before .before .weigh .ensures) _ (omega (arith, c .before .before .before .before .if1 .left)) (c .before .before .before .judge .ensures) (c .before .judged .given .1)
 
-judge-enum-known-next-2 : (t : ℕ) → judge-lts.Need-enum-known-next-2 (
-  weigh-reads.Asked,
-  weigh-reads.Learnt,
-  judge-below t,
-  judge.Post,
-  fault-of-reads.Asked,
-  fault-of-reads.Learnt,
-) (judge-at t) judge.Post judge-Inv-loop judge-μ-loop
-judge-enum-known-next-2 t c = c .match .keys4
+judge-enum-told-4 : (t : ℕ) → judge-lts.Need-enum-told-4 (claims t) (judge-at t) judge.Post judge-Inv-loop judge-μ-loop
+judge-enum-told-4 t c = c .match2 .keys3
 
-judge-returns-4 : (t : ℕ) → judge-lts.Need-returns-4 (
-  weigh-reads.Asked,
-  weigh-reads.Learnt,
-  judge-below t,
-  judge.Post,
-  fault-of-reads.Asked,
-  fault-of-reads.Learnt,
-) (judge-at t) judge.Post judge-Inv-loop judge-μ-loop
-judge-returns-4 t c = judge-close (c .before .before .before .before .loop .inv) (c .before .next2 .given .1) (c .before .before .before .weigh .ensures)
+judge-returns-4 : (t : ℕ) → judge-lts.Need-returns-4 (claims t) (judge-at t) judge.Post judge-Inv-loop judge-μ-loop
+judge-returns-4 t c = judge-close (c .before .before .before .before .before .before .loop .inv) (weighs (c .before .before .before .weighed .given .1) (c .enum-told4 .given .1)) (c .before .before .before .before .before .weigh .ensures)
 
 pub +judge-spec : {M : Type 1} → statement M
-+judge-spec = close μ-judge λ t. judge-lts.spec (
-  weigh-reads.Asked,
-  weigh-reads.Learnt,
-  judge-below t,
-  judge.Post,
-  fault-of-reads.Asked,
-  fault-of-reads.Learnt,
-)
++judge-spec = close μ-judge λ t. judge-lts.spec (claims t)
     (judge-at t)
     judge.Post
     judge-Inv-loop
     judge-μ-loop
     (judge-loop-holds t)
     (judge-weigh-requires t)
-    (judge-enum-known-e t)
+    (judge-enum-known-weighed t)
+    (judge-enum-told t)
+    (judge-weighed-fault-requires t)
     (judge-returns t)
-    (judge-enum-known-cells t)
+    (judge-enum-known-weight t)
     (judge-add-size t)
     (judge-add-wants t)
     (judge-loop-less t)
     (judge-loop-again t)
-    (judge-enum-known-next t)
+    (judge-enum-told-2 t)
     (judge-returns-2 t)
     (judge-sub-judge t)
     (judge-judge-requires t)
     (judge-enum-known-judged t)
-    (judge-enum-told t)
+    (judge-enum-told-3 t)
     (judge-fault-of-requires t)
     (judge-returns-3 t)
     (judge-add-size-2 t)
@@ -316,5 +155,5 @@ pub +judge-spec : {M : Type 1} → statement M
     (judge-add-wants-4 t)
     (judge-loop-less-2 t)
     (judge-loop-again-2 t)
-    (judge-enum-known-next-2 t)
+    (judge-enum-told-4 t)
     (judge-returns-4 t)

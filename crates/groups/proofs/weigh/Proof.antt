@@ -30,11 +30,11 @@ enum-told-2 c = search needs
 enum-known-read : tie.Need-enum-known-read
 enum-known-read c = search needs
 
-add-t10 : tie.Need-add-t10
-add-t10 c = record { fits = omega (arith, string-room _ _ _ (c .before .before .before .before .before .before .before .skip .ensures .0) (c .before .before .before .before .before .before .before .before .before .pre) _ (c .before .before .before .before .before .before .token-at .ensures) _ _ (c .before .before .before .before .lexed .given .1) (c .before .read .given .1)) }
+add-t11 : tie.Need-add-t11
+add-t11 c = record { fits = omega (arith, string-room _ _ _ (c .before .before .before .before .before .before .before .skip .ensures .0) (c .before .before .before .before .before .before .before .before .before .pre) _ (c .before .before .before .before .before .before .token-at .ensures) _ _ (c .before .before .before .before .lexed .given .1) (c .before .read .given .1)) }
 
-add-t12 : tie.Need-add-t12
-add-t12 c = search needs
+add-t13 : tie.Need-add-t13
+add-t13 c = search needs
 
 enum-told-3 : tie.Need-enum-told-3
 enum-told-3 c = search needs
@@ -84,8 +84,8 @@ weigh-spec =
     returns
     enum-told-2
     enum-known-read
-    add-t10
-    add-t12
+    add-t11
+    add-t13
     enum-told-3
     enum-told-4
     enum-told-5

@@ -23,11 +23,14 @@ starts-number-requires c κs = tt
 number-of-requires : tie.Need-number-of-requires
 number-of-requires c κs = tt
 
-enum-known-w : tie.Need-enum-known-w
-enum-known-w c = c .match .keys1
+enum-known-number : tie.Need-enum-known-number
+enum-known-number c = c .match .keys1
 
-enum-known-e : tie.Need-enum-known-e
-enum-known-e c = c .match .keys2
+enum-told : tie.Need-enum-told
+enum-told c = c .match .keys2
+
+number-fault-requires : tie.Need-number-fault-requires
+number-fault-requires c κs = tt
 
 returns : tie.Need-returns
 returns c =
@@ -36,8 +39,8 @@ returns c =
     let starts-number = c .before .before .before .before .before .starts-number in
     let if1 = c .before .before .before .before .if1 in
     let number-of = c .before .before .before .number-of in
-    word-integer pre (run-end .ensures .0) (run-end .ensures .1) _ (starts-number .ensures) (if1 .taken)
-    (number-of .ensures) (c .before .w .given .1)
+    word-fault pre (run-end .ensures .0) (run-end .ensures .1) _ (starts-number .ensures) (if1 .taken)
+    (number-of .ensures) (c .before .enum-told .given .1) (c .number-fault .ensures)
 
 returns-2 : tie.Need-returns-2
 returns-2 c =
@@ -46,8 +49,8 @@ returns-2 c =
     let starts-number = c .before .before .before .before .before .starts-number in
     let if1 = c .before .before .before .before .if1 in
     let number-of = c .before .before .before .number-of in
-    word-fault pre (run-end .ensures .0) (run-end .ensures .1) _ (starts-number .ensures) (if1 .taken)
-    (number-of .ensures) (c .before .e .given .1)
+    word-integer pre (run-end .ensures .0) (run-end .ensures .1) _ (starts-number .ensures) (if1 .taken)
+    (number-of .ensures) (c .before .number .given .1)
 
 sub-size : tie.Need-sub-size
 sub-size c = search needs
@@ -76,8 +79,9 @@ word-at-spec =
     part-run-end
     starts-number-requires
     number-of-requires
-    enum-known-w
-    enum-known-e
+    enum-known-number
+    enum-told
+    number-fault-requires
     returns
     returns-2
     sub-size
