@@ -16,7 +16,8 @@ use Rattle.machine.specs.Room.{lent, fitted}
 use Rattle.machine.specs.declared.Machine.{Machine}
 use Rattle.machine.specs.declared.Did.{Did}
 use Rattle.machine.specs.declared.Did.the-variants.{Ok, Fail}
-use Rattle.frames.specs.Moves.{frameDropped, resetWords, Turned, ForgetsFrame, Advances}
+use Rattle.machine.specs.FrameMoves.{frameDropped, ForgetsFrame}
+use Rattle.frames.specs.Moves.{resetWords, Turned, Advances}
 use Rattle.operators.specs.Titles.{performAt, Everywhere, DoesAll, EverywhereButLog, DoesButLog, DoesButSlots}
 use Rattle.turns.specs.Turns.{resumed}
 use Rattle.acting.specs.Nexts.{Executes, Infrequent, NextIs}

@@ -26,8 +26,9 @@ use Rattle.machine.specs.Room.{lent, fitted}
 use Rattle.machine.specs.declared.Machine.{Machine}
 use Rattle.machine.specs.declared.Did.{Did}
 use Rattle.machine.specs.declared.Did.the-variants.{Ok, Fail}
-use Rattle.frames.specs.Moves.{topFrame, frameDropped, resetTop, resetWords, Turned, ForgetsFrame, Advances}
-use Rattle.frames.proofs.Tops.{slot}
+use Rattle.machine.specs.FrameMoves.{topFrame, frameDropped, ForgetsFrame}
+use Rattle.frames.specs.Moves.{resetTop, resetWords, Turned, Advances}
+use Rattle.machine.proofs.Tops.{slot}
 use Rattle.frames.proofs.Running.{runs, kind-runs, element-words}
 use Rattle.frames.proofs.Undoing.{undone}
 use Rattle.operators.specs.Titles.{performAt, Everywhere, DoesAll}

@@ -10,7 +10,8 @@ use Rattle.semantics.specs.Machine.{Machine, Frame, Slot, pending, running, wit
 use Rattle.semantics.specs.Held.{ofValue, ofFrame, gather, roots, ofBinding}
 use Rattle.semantics.specs.Steps.{Limits, roomFor}
 use Rattle.machine.specs.Room.{fitted}
-use Rattle.frames.specs.Moves.{frameDropped, resetTop}
+use Rattle.machine.specs.FrameMoves.{frameDropped}
+use Rattle.frames.specs.Moves.{resetTop}
 use Rattle.acting.proofs.Before.{room-same}
 
 then-alike : {A B : Type 0} (r : Result A) {h k : A → Result B} → ((a : A) → h a ≡ k a) → (r >>= h) ≡ (r >>= k)

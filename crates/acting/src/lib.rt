@@ -5,7 +5,8 @@ ghost use mathlib.Core.List.{List};
 ghost use Prim.Native.Nat.{ℕ, _+_, _-_, _*_, _≤_};
 ghost use lib.ListN.{getD};
 ghost use Rattle.heap.specs.Word.{word};
-ghost use Rattle.frames.specs.Moves.{Somewhere, SomewhereAll};
+ghost use Rattle.machine.specs.FrameMoves.{Somewhere};
+ghost use Rattle.frames.specs.Moves.{SomewhereAll};
 ghost use Rattle.taking.specs.Promises.{Bindings, DoesBinding};
 ghost use Rattle.operators.specs.Titles.{Everywhere, DoesAll};
 ghost use Rattle.control_operators.specs.Promises.{DoesFrames};
@@ -89,7 +90,7 @@ fn frequent_pending(m: Machine, exec: &[u32]) -> Next
     if RARE <= number {
         return Next::Other;
     }
-    Next::Frequent(number, frames::forget_frame(m))
+    Next::Frequent(number, m.forget_frame())
 }
 
 // One that is the next element of the running procedure, which moves on.
@@ -153,7 +154,7 @@ fn pending(
     let tag = exec[8 * k + 1];
     let pay = exec[8 * k + 2];
     if tag == TAG_OPERATOR {
-        let left = frames::forget_frame(m);
+        let left = m.forget_frame();
         return operators::settled(operators::rare(pay, left, stack, dict, cells, log));
     }
     if tag == TAG_EXECUTABLE {
@@ -172,7 +173,7 @@ fn name_pending(m: Machine, exec: &mut [u32], dict: &[u32], cells: &mut [u32]) -
 {
     let k = m.frames - 1;
     let slot = exec[8 * k + 2] as usize;
-    let left = frames::forget_frame(m);
+    let left = m.forget_frame();
     taking::take_name(left, exec, dict, cells, slot)
 }
 

@@ -18,8 +18,8 @@ use Rattle.store.specs.Rep.{objectAt, element, Stands}
 use Rattle.machine.specs.Places.{keys, texts}
 use Rattle.machine.specs.Rep.{Rep, IsIn, FrameIs, a-pending, a-running, a-looping, a-repeating, a-counting}
 use Rattle.machine.specs.declared.Machine.{Machine}
-use Rattle.frames.specs.Moves.{topFrame, frameDropped}
-use Rattle.frames.proofs.Tops.{slot}
+use Rattle.machine.specs.FrameMoves.{topFrame, frameDropped}
+use Rattle.machine.proofs.Tops.{slot}
 use Rattle.frames.proofs.Running.{run-at, top-runs, element-words}
 use Rattle.turns.proofs.Resuming.{top-is}
 use Rattle.turns.proofs.Procedures.{is-pending}

@@ -11,7 +11,7 @@ use Rattle.store.specs.Rep.{Stands}
 use Rattle.machine.specs.Places.{keys}
 use Rattle.machine.specs.Rep.{Rep}
 use Rattle.machine.specs.declared.Machine.{Machine}
-use Rattle.frames.specs.Moves.{topFrame, frameDropped}
+use Rattle.machine.specs.FrameMoves.{topFrame, frameDropped}
 use Rattle.ending.specs.Endings.{commandText, IsCommand}
 use Rattle.ending.specs.declared.Command.{Command}
 

@@ -1,7 +1,7 @@
 // What the topmost execution slot would execute, an operator or a name, read from the words before the step, so that a step that fails can report it.
 // It is exactly the command that the definition's step hands on.
 ghost use Prim.Native.Nat.{_≤_};
-ghost use Rattle.frames.specs.Moves.{Somewhere};
+ghost use Rattle.machine.specs.FrameMoves.{Somewhere};
 ghost use Rattle.commands.specs.Commands.{CommandIs, Commands};
 use ending::Command;
 use frames::PENDING;

@@ -24,7 +24,7 @@ use Rattle.machine.specs.declared.Machine.{Machine}
 use Rattle.machine.specs.declared.Did.{Did}
 use Rattle.machine.specs.declared.Did.the-variants.{Ok, Fail}
 use Rattle.machine.proofs.Rooms.{frames-length}
-use Rattle.frames.specs.Moves.{MovesFrames, frameDropped}
+use Rattle.machine.specs.FrameMoves.{MovesFrames, frameDropped}
 use Rattle.control_operators.specs.Promises.{DoesState, DoesCells, FindsLoop, cutBy}
 use Rattle.control_operators.proofs.Promising.{fit-ok}
 use Rattle.control_operators.proofs.Named.{exit-is, continue-is, stop-is}

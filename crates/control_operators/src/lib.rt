@@ -6,7 +6,8 @@ ghost use lib.ListN.{length};
 ghost use Rattle.semantics.specs.Text.{bytes};
 ghost use Rattle.semantics.specs.Operators.{perform};
 ghost use Rattle.control_operators.specs.Promises.{Represented, DoesState, DoesSlots, DoesCells, DoesFrames, Forgets, FindsLoop, cutBy};
-ghost use Rattle.frames.specs.Moves.{Somewhere, SomewhereAll, MovesFrames};
+ghost use Rattle.machine.specs.FrameMoves.{Somewhere, MovesFrames};
+ghost use Rattle.frames.specs.Moves.{SomewhereAll};
 use frames::FOR;
 use frames::LOOP;
 use frames::REPEAT;
@@ -208,7 +209,7 @@ fn drop_to(m: Machine, exec: &[u32], cells: &mut [u32], k: usize) -> Machine
 {
     let mut r = m;
     while k < r.frames {
-        r = frames::drop_frame(r, exec, cells);
+        r = r.drop_frame(exec, cells);
     }
     r
 }

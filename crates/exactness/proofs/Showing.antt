@@ -32,7 +32,7 @@ use Rattle.machine.specs.declared.Machine.{Machine}
 use Rattle.machine.proofs.Items.{items-length, item-at}
 use Rattle.machine.proofs.Rooms.{frames-length}
 use Rattle.machine.proofs.Rooted.{rooted, bindings}
-use Rattle.frames.proofs.Tops.{frame-value}
+use Rattle.machine.proofs.Tops.{frame-value}
 use Rattle.exactness.specs.Shown.{Snapshot, WordsName, NoOther, Corresponds, Shows}
 use Rattle.exactness.proofs.Lists.{getD-reverse, getD-in}
 use Rattle.exactness.proofs.Often.{as-often}

@@ -20,7 +20,7 @@ use Rattle.machine.proofs.Rerooting.{withDepths}
 use Rattle.machine.proofs.Exchanging.{upd-alike, exchange-rep}
 use Rattle.frames.specs.Moves.{Shaped, entered}
 use Rattle.frames.proofs.Frames.{frames-frame, shaped, shaped-value}
-use Rattle.frames.proofs.Regions.{front-at, exec-at}
+use Rattle.machine.proofs.Regions.{front-at, exec-at}
 
 -- A slot's words are put above the others.
 pub record Put (e e′ : List ℕ) (n kind t p a b c : ℕ) : Type 0 where

@@ -1,10 +1,7 @@
 pub mod Frames
-pub mod Regions
 pub mod Entering
 pub mod Slots
 pub mod Pending
-pub mod Tops
 pub mod Resetting
 pub mod Running
 pub mod Undoing
-pub mod Forgetting

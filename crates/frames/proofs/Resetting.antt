@@ -13,10 +13,11 @@ use Rattle.heap.specs.Upd.{upd}
 use Rattle.machine.specs.Places.{fromEnd, frameValue, rootIn, roots}
 use Rattle.machine.specs.Rep.{Rep, IsIn, FrameIs, Frames, frame}
 use Rattle.machine.specs.declared.Machine.{Machine}
-use Rattle.frames.specs.Moves.{topValue, resetTop}
+use Rattle.machine.specs.FrameMoves.{topValue}
+use Rattle.frames.specs.Moves.{resetTop}
 use Rattle.frames.proofs.Entering.{Put}
 use Rattle.frames.proofs.Frames.{frames-frame}
-use Rattle.frames.proofs.Tops.{slot, top-value}
+use Rattle.machine.proofs.Tops.{slot, top-value}
 
 -- Places that hold the same values, slot by slot.
 exec-alike : (μ : Floo.Machine) (exec : List Frame) → ((i : ℕ) → fromEnd frameValue exec i ≡ fromEnd frameValue (μ .exec) i) → (r : ℕ) → roots (withExec exec μ) r ≡ roots μ r

@@ -24,8 +24,9 @@ use Rattle.machine.specs.Recount.{Placed, Recounts}
 use Rattle.machine.proofs.Copying.{push-placed, push-rep}
 use Rattle.machine.proofs.Restacking.{withDepth}
 use Rattle.heap.specs.declared.Lists.{Lists}
-use Rattle.frames.specs.Moves.{topFrame, topValue, elementPushed, Resets, Starts, Advances}
-use Rattle.frames.proofs.Tops.{slot, words, top-value}
+use Rattle.machine.specs.FrameMoves.{topFrame, topValue}
+use Rattle.frames.specs.Moves.{elementPushed, Resets, Starts, Advances}
+use Rattle.machine.proofs.Tops.{slot, words, top-value}
 
 procedure-ten : {keys : List (List ℕ)} {texts : List Bool} {ρ : ℕ → ℕ} {i t p : ℕ} → Stands keys texts ρ (array true i) t p → t ≡ 10
 procedure-ten (a-procedure q x) = refl

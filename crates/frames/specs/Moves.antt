@@ -2,7 +2,7 @@
 -- Assumes nothing.
 use mathlib.Core.Path.{_≡_}
 use mathlib.Core.List.{List, _∷_}
-use Prim.Native.Nat.{ℕ, suc, _+_, _-_, _*_, _<_}
+use Prim.Native.Nat.{ℕ, suc, _+_, _-_, _*_}
 use lib.ListN.{getD, drop, set}
 use mathlib.Core.Bool.{true}
 use Rattle.semantics.specs.Values.{Value, null, array}
@@ -11,6 +11,7 @@ use Rattle.semantics.specs.Machine as Floo
 use Rattle.semantics.specs.Machine.{Frame, pending, running, looping, repeating, counting, withStack, withExec, push, enter}
 use Rattle.machine.specs.Places.{frameValue}
 use Rattle.machine.specs.Rep.{Rep, IsIn, FrameIs}
+use Rattle.machine.specs.FrameMoves.{topFrame, topValue}
 use Rattle.machine.specs.declared.Machine.{Machine}
 
 -- The kind and the three numbers of an execution slot for a value.
@@ -23,21 +24,6 @@ pub data Shaped : (Value → Frame) → ℕ → ℕ → ℕ → ℕ → Type 0 w
 -- The topmost item of the stack goes into a new execution slot.
 unfoldable pub entered : (Value → Frame) → Floo.Machine → Floo.Machine
 entered f μ = enter (f (getD (μ .stack) 0 null)) (withStack (drop 1 (μ .stack)) μ)
-
--- The topmost execution slot, and its value.
-abbrev pub topFrame : Floo.Machine → Frame
-topFrame μ = getD (μ .exec) 0 (pending null)
-
-unfoldable pub topValue : Floo.Machine → Value
-topValue μ = frameValue (topFrame μ)
-
--- The topmost execution slot goes.
-unfoldable pub frameDropped : Floo.Machine → Floo.Machine
-frameDropped μ = withExec (drop 1 (μ .exec)) μ
-
--- The topmost execution slot goes, and its value is pushed.
-unfoldable pub returned : Floo.Machine → Floo.Machine
-returned μ = push (topValue μ) (frameDropped μ)
 
 -- A copy of the topmost slot's value becomes pending.
 unfoldable pub bodyPended : Floo.Machine → Floo.Machine
@@ -59,21 +45,9 @@ pub record Enters (kind a b c : ℕ) (m r : Machine) (s e e′ : List ℕ) : Typ
       → Rep m s e d cs l μ
       → Rep r s e′ d cs l (entered f μ)
 
--- The words of execution slots and cells stand for some machine.
-abbrev pub Somewhere : Machine → List ℕ → List ℕ → Type 0
-Somewhere m e c = (s : List ℕ) × (d : List ℕ) × (l : List ℕ) × (μ : Floo.Machine) × Rep m s e d c l μ
-
--- The same with the stack's words.
+-- The words of stack, execution slots and cells stand for some machine.
 abbrev pub SomewhereAll : Machine → List ℕ → List ℕ → List ℕ → Type 0
 SomewhereAll m s e c = (d : List ℕ) × (l : List ℕ) × (μ : Floo.Machine) × Rep m s e d c l μ
-
--- A primitive that touches the words of execution slots and cells does f.
-pub record MovesFrames (f : Floo.Machine → Floo.Machine) (m r : Machine) (e e′ c c′ : List ℕ) : Type 0 where
-  pub moves : (s d l : List ℕ) (μ : Floo.Machine) → Rep m s e d c l μ → Rep r s e′ d c′ l (f μ)
-
--- A primitive that touches the stack's words alone and reads the execution slots' does f.
-pub record MovesItems (f : Floo.Machine → Floo.Machine) (m r : Machine) (s s′ e : List ℕ) : Type 0 where
-  pub moves : (d c l : List ℕ) (μ : Floo.Machine) → Rep m s e d c l μ → Rep r s′ e d c l (f μ)
 
 -- The topmost slot takes this kind and these numbers and keeps its value: it is then each frame of that value that its words are.
 pub record Resets (kind a b : ℕ) (m : Machine) (e e′ : List ℕ) : Type 0 where
@@ -109,10 +83,3 @@ pub record PushesElement (m r : Machine) (s s′ e c c′ : List ℕ) : Type 0 w
       → (i k : ℕ)
       → topFrame μ ≡ running i k
       → Rep r s′ e d c′ l (elementPushed i k μ)
-
--- The topmost slot goes, where its words name no object.
-pub record ForgetsFrame (m r : Machine) : Type 0 where
-  pub moves : (s e d c l : List ℕ) (μ : Floo.Machine)
-      → Rep m s e d c l μ
-      → getD e (8 * (m .frames - 1) + 1) 0 < 8
-      → Rep r s e d c l (frameDropped μ)

@@ -3,7 +3,8 @@
 ghost use mathlib.Core.Path.{_≡_};
 ghost use Prim.Native.Nat.{_+_, _*_, _-_, _≤_};
 ghost use lib.ListN.{length, getD};
-ghost use Rattle.frames.specs.Moves.{Enters, Somewhere, MovesFrames, MovesItems, Resets, SomewhereAll, Starts, Advances, PushesElement, frameDropped, returned, bodyPended, resetWords, Turned, ForgetsFrame};
+ghost use Rattle.machine.specs.FrameMoves.{Somewhere, MovesFrames};
+ghost use Rattle.frames.specs.Moves.{Enters, Resets, SomewhereAll, Starts, Advances, PushesElement, bodyPended, resetWords, Turned};
 use machine::Machine;
 use machine::TAG_NULL;
 
@@ -60,50 +61,6 @@ pub fn enter_loop(
     let mut r = m;
     r.depth = k;
     r.frames = n + 1;
-    r
-}
-
-// The topmost slot goes, and what it names is let go.
-// Rules out: a procedure that is freed while a slot still runs it; a finished one that is kept.
-pub fn drop_frame(m: Machine, exec: &[u32], cells: &mut [u32]) -> Machine
-    requires { ⌜ (1 ≤ m .frames) × Somewhere m (now exec) (now cells) ⌝ }
-    ensures { λ r. ⌜ MovesFrames frameDropped m r (now (exec .entry)) (now (exec .entry)) (now (cells .entry)) (now (cells .exit)) ⌝ }
-    ensures { λ r. ⌜ (r .depth ≡ m .depth) × (r .frames ≡ m .frames - 1) ⌝ }
-{
-    let k = m.frames - 1;
-    let old = exec[8 * k + 1];
-    let was = exec[8 * k + 2];
-    let lists = m.lists;
-    let left = machine::recount(lists, cells, old, was, TAG_NULL, 0);
-    let mut r = m;
-    r.frames = k;
-    r.lists = left;
-    r
-}
-
-// The topmost slot, which names no object, goes.
-pub fn forget_frame(mut m: Machine) -> Machine
-    requires { ⌜ 1 ≤ m .frames ⌝ }
-    ensures { λ r. ⌜ ForgetsFrame m r ⌝ }
-    ensures { λ r. ⌜ (r .depth ≡ m .depth) × (r .frames ≡ m .frames - 1) ⌝ }
-{
-    m.frames = m.frames - 1;
-    m
-}
-
-// The topmost slot goes, and its value is pushed.
-pub fn push_pending(m: Machine, stack: &mut [u32], exec: &[u32]) -> Machine
-    requires { ⌜ (1 ≤ m .frames) × (8 * m .frames ≤ length (now exec)) × (2 * m .depth + 2 ≤ length (now stack)) ⌝ }
-    ensures { λ r. ⌜ MovesItems returned m r (now (stack .entry)) (now (stack .exit)) (now (exec .entry)) ⌝ }
-    ensures { λ r. ⌜ (r .depth ≡ m .depth + 1) × (r .frames ≡ m .frames - 1) ⌝ }
-{
-    let n = m.depth;
-    let k = m.frames - 1;
-    stack[2 * n] = exec[8 * k + 1];
-    stack[2 * n + 1] = exec[8 * k + 2];
-    let mut r = m;
-    r.depth = n + 1;
-    r.frames = k;
     r
 }
 

@@ -21,3 +21,6 @@ pub mod Outcomes
 pub mod Rehousing
 pub mod Rooted
 pub mod Pops
+pub mod Regions
+pub mod Tops
+pub mod Forgetting

@@ -4,3 +4,4 @@ pub mod Operands
 pub mod Recount
 pub mod Moves
 pub mod Room
+pub mod FrameMoves

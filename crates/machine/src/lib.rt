@@ -5,6 +5,7 @@ ghost use Prim.Native.Nat.{_+_, _*_, _-_, _≤_, _<_};
 ghost use lib.ListN.{length};
 ghost use Rattle.machine.specs.Rep.{Somewhere, MovesStack, MovesHeap};
 ghost use Rattle.machine.specs.Moves.{dropped, copied, copiedOver, swapped, retagged, tagAs};
+ghost use Rattle.machine.specs.FrameMoves.{Somewhere as SlotsSomewhere, MovesFrames, MovesItems, ForgetsFrame, frameDropped, returned};
 ghost use Rattle.machine.specs.Recount.{Placed, Recounts};
 ghost use Rattle.machine.specs.Operands.{FetchesOne, FetchesTwo, oneLow, twoLow, FetchesOneLogical, FetchesTwoLogical, oneLogicalLow, twoLogicalLow, Replaces, Pushes};
 use heap::FIRST_OBJECT;
@@ -269,6 +270,71 @@ impl Machine {
         stack[2 * o] = t;
         stack[2 * o + 1] = p;
         self
+    }
+
+    // The topmost execution slot goes, and what it names is let go.
+    // Rules out: a procedure that is freed while a slot still runs it; a finished one that is kept.
+    pub fn drop_frame(mut self, exec: &[u32], cells: &mut [u32]) -> Machine
+        requires { ⌜ (1 ≤ self .frames) × SlotsSomewhere self (now exec) (now cells) ⌝ }
+        ensures { λ r. ⌜ MovesFrames frameDropped self r (now (exec .entry)) (now (exec .entry)) (now (cells .entry)) (now (cells .exit)) ⌝ }
+        ensures { λ r. ⌜ (r .depth ≡ self .depth) × (r .frames ≡ self .frames - 1) ⌝ }
+    {
+        let k = self.frames - 1;
+        let old = exec[8 * k + 1];
+        let was = exec[8 * k + 2];
+        let lists = self.lists;
+        let left = recount(lists, cells, old, was, TAG_NULL, 0);
+        self.frames = k;
+        self.lists = left;
+        self
+    }
+
+    // The topmost execution slot, which names no object, goes.
+    pub fn forget_frame(mut self) -> Machine
+        requires { ⌜ 1 ≤ self .frames ⌝ }
+        ensures { λ r. ⌜ ForgetsFrame self r ⌝ }
+        ensures { λ r. ⌜ (r .depth ≡ self .depth) × (r .frames ≡ self .frames - 1) ⌝ }
+    {
+        self.frames = self.frames - 1;
+        self
+    }
+
+    // The topmost execution slot goes, and its value is pushed.
+    pub fn push_pending(mut self, stack: &mut [u32], exec: &[u32]) -> Machine
+        requires { ⌜ (1 ≤ self .frames) × (8 * self .frames ≤ length (now exec)) × (2 * self .depth + 2 ≤ length (now stack)) ⌝ }
+        ensures { λ r. ⌜ MovesItems returned self r (now (stack .entry)) (now (stack .exit)) (now (exec .entry)) ⌝ }
+        ensures { λ r. ⌜ (r .depth ≡ self .depth + 1) × (r .frames ≡ self .frames - 1) ⌝ }
+    {
+        let n = self.depth;
+        let k = self.frames - 1;
+        stack[2 * n] = exec[8 * k + 1];
+        stack[2 * n + 1] = exec[8 * k + 2];
+        self.depth = n + 1;
+        self.frames = k;
+        self
+    }
+
+    // The same state, made anew field by field: the compiler then keeps the fields of a loop's state apart.
+    // Rules out: two fields exchanged; a list of the heap that starts anew.
+    pub fn fields(self) -> Machine
+        ensures { λ r. ⌜ r ≡ self ⌝ }
+    {
+        let l = self.lists;
+        let lists = Lists {
+            free: l.free,
+            listed: l.listed,
+            edge: l.edge,
+            work: l.work,
+            dead: l.dead,
+        };
+        Machine {
+            depth: self.depth,
+            frames: self.frames,
+            names: self.names,
+            written: self.written,
+            lists: lists,
+            stopped: self.stopped,
+        }
     }
 }
 

@@ -5,12 +5,12 @@ ghost use Prim.Native.Nat.{_*_, _≤_, _<_};
 ghost use lib.ListN.{length};
 ghost use Rattle.machine.specs.Rep.{Somewhere as StackSomewhere};
 ghost use Rattle.machine.specs.Room.{DoesStack, DoesHeap};
-ghost use Rattle.frames.specs.Moves.{Somewhere, SomewhereAll};
+ghost use Rattle.machine.specs.FrameMoves.{Somewhere};
+ghost use Rattle.frames.specs.Moves.{SomewhereAll};
 ghost use Rattle.control_operators.specs.Promises.{DoesFrames, DoesCells};
 ghost use Rattle.dictionary_operators.specs.Promises.{Represented, DoesDictionary};
 ghost use Rattle.output_operators.specs.Output.{SomewhereLog, DoesLog};
 ghost use Rattle.operators.specs.Titles.{performAt, EverywhereButLog, DoesButLog, EverywhereButSlots, DoesButSlots};
-use heap::Lists;
 use machine::Did;
 use machine::Machine;
 
@@ -266,29 +266,7 @@ pub fn settled(did: Did) -> Did
     ensures { λ r. ⌜ r ≡ did ⌝ }
 {
     match did {
-        Did::Ok(m) => Did::Ok(fields(m)),
+        Did::Ok(m) => Did::Ok(m.fields()),
         Did::Fail(e) => Did::Fail(e),
-    }
-}
-
-// The same state, made anew.
-pub fn fields(m: Machine) -> Machine
-    ensures { λ r. ⌜ r ≡ m ⌝ }
-{
-    let l = m.lists;
-    let lists = Lists {
-        free: l.free,
-        listed: l.listed,
-        edge: l.edge,
-        work: l.work,
-        dead: l.dead,
-    };
-    Machine {
-        depth: m.depth,
-        frames: m.frames,
-        names: m.names,
-        written: m.written,
-        lists: lists,
-        stopped: m.stopped,
     }
 }

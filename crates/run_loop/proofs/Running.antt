@@ -6,11 +6,9 @@ use mathlib.Core.List.{List, [], _∷_, _++_}
 use Prim.Native.Nat.{ℕ, suc, _+_, _-_, _≤_, _<_}
 use native.Mathlib.Omega.{arith}
 use lib.ListN.{length, drop}
-use lib.Dec.{eqb}
 use Rattle.semantics.specs.Machine as Floo
 use Rattle.semantics.specs.Steps as steps
-use Rattle.semantics.specs.Steps.{run, finish, isEmpty, isFinished}
-use Rattle.semantics.specs.Groups.{skip}
+use Rattle.semantics.specs.Steps.{run, finish, isFinished}
 use Rattle.semantics.specs.RunLaws as laws
 use Rattle.semantics.specs.RunLaws.{step-stepped, went}
 use Rattle.semantics.specs.declared.Error.{Error}
@@ -29,11 +27,11 @@ use Rattle.exactness.proofs.Lists.{along-snoc}
 use Rattle.exactness.proofs.Reaching.{Reached, reached-start, reached-goes, over-finished, over-spent, over-fails, over-stops}
 use Rattle.growth.proofs.Logs.{rest-on}
 use Rattle.growth.proofs.StepGrowth.{step-log-length}
-use Rattle.step.specs.Stepping.{stateOf, SteppedAs, LogLeft, Steps, Ready}
+use Rattle.step.specs.Stepping.{stateOf, SteppedAs, LogLeft, Steps, Ready, Finished}
 use Rattle.step.specs.declared.State.{State}
 use Rattle.step.specs.declared.Stepped.{Stepped}
 use Rattle.step.specs.declared.Stepped.the-variants.{Goes, Fails}
-use Rattle.run_loop.specs.History.{Moment, moment, limitsOf, leftBy, Leads, Chain, start, then, Exactly, Begun, EndsFrom, Ends, Finished}
+use Rattle.run_loop.specs.History.{Moment, moment, limitsOf, leftBy, Leads, Chain, start, then, Exactly, Begun, EndsFrom, Ends}
 
 -- ---- one moment
 
@@ -354,24 +352,3 @@ module _ {script : List ℕ} {fuel : ℕ} {st₀ : State} {s₀ e₀ d₀ c₀ l
     module _ {x : Error} {command : Command} {τ : State} (g : answer ≡ Fails τ x command) where
       pub end-failed : Ends script fuel st₀ s₀ s′ e₀ e′ d₀ d′ c₀ c′ l₀ l′ τ (ending.Failed x command)
       end-failed = record { ends = λ μ M. from-failed (R .from μ M) F t some W g }
-
--- ---- whether the run is finished
-
-no-frames : (fs : List Floo.Frame) → length fs ≡ 0 → isEmpty fs ≡ true
-unfolding isEmpty
-no-frames [] q = refl
-no-frames (f ∷ fs) q = absurd (omega arith)
-
-some-frames : (fs : List Floo.Frame) → (length fs ≡ 0 → ⊥) → isEmpty fs ≡ false
-unfolding isEmpty
-some-frames [] q = absurd (q refl)
-some-frames (f ∷ fs) q = refl
-
-module _ {script : List ℕ} {st : State} where
-  pub finished-by : st .machine .frames ≡ 0 → {n : ℕ} → n ≡ skip script (st .next) → Finished script st (eqb n (length script))
-  unfolding isFinished
-  finished-by z q = record { says = λ μ long. rw (isFinished, no-frames (μ .exec) (long ∙ z)) (ap (λ k. eqb k (length script)) q) }
-
-  pub unfinished : (st .machine .frames ≡ 0 → ⊥) → Finished script st false
-  unfolding isFinished
-  unfinished some = record { says = λ μ long. rw (isFinished, some-frames (μ .exec) (λ z. some (sym long ∙ z))) refl }

@@ -2,13 +2,12 @@
 -- start; each step gets what the last one left."
 -- Assumes nothing.
 use mathlib.Core.Path.{_≡_}
-use mathlib.Core.Bool.{Bool}
 use mathlib.Core.List.{List, [], _∷_, _++_}
 use Prim.Native.Nat.{ℕ, _+_, _≤_}
 use lib.ListN.{length, drop}
 use Rattle.semantics.specs.Machine as Floo
 use Rattle.semantics.specs.Steps as steps
-use Rattle.semantics.specs.Steps.{Limits, run, isFinished}
+use Rattle.semantics.specs.Steps.{Limits, run}
 use Rattle.ending.specs.Endings.{endingOf, IsEnding}
 use Rattle.ending.specs.declared.Ending.{Ending}
 use Rattle.machine.specs.Places.{keys}
@@ -98,8 +97,3 @@ pub record EndsFrom (script : List ℕ) (fuel : ℕ) (st : State) (μ : Floo.Mac
 -- It ended so from every machine that the first words stand for.
 pub record Ends (script : List ℕ) (fuel : ℕ) (st : State) (s s′ e e′ d d′ c c′ l l′ : List ℕ) (τ : State) (ending : Ending) : Type 0 where
   pub ends : (μ : Floo.Machine) → Rep (st .machine) s e d c l μ → EndsFrom script fuel st μ s s′ e e′ d d′ c c′ l l′ τ ending
-
--- ---- the end
-
-pub record Finished (script : List ℕ) (st : State) (r : Bool) : Type 0 where
-  pub says : (μ : Floo.Machine) → length (μ .exec) ≡ st .machine .frames → r ≡ isFinished script (stateOf st μ)

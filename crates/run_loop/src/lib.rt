@@ -1,9 +1,6 @@
 // The steps of a run, one after another, until it is finished, stopped, failed or out of fuel. The promise is one claim about the whole list of steps: the moments
 // of the run, each led to by a step from the one before, against the states of the definition's run.
-ghost use mathlib.Core.Path.{_≡_};
-ghost use Prim.Native.Nat.{_≤_};
-ghost use lib.ListN.{length};
-ghost use Rattle.run_loop.specs.History.{Begun, Ends, Finished};
+ghost use Rattle.run_loop.specs.History.{Begun, Ends};
 use ending::Ending;
 use step::State;
 use step::Stepped;
@@ -30,11 +27,11 @@ pub fn advance(
     ensures { λ r. ⌜ Ends (now (script .entry)) fuel start (now (stack .entry)) (now (stack .exit)) (now (exec .entry)) (now (exec .exit)) (now (dict .entry)) (now (dict .exit)) (now (cells .entry)) (now (cells .exit)) (now (log .entry)) (now (log .exit)) (r .state) (r .ending) ⌝ }
 {
     let limit = start.steps + fuel;
-    let mut st = by_fields(start);
+    let mut st = start.by_fields();
     loop {
-        if is_finished(st, script) {
+        if st.is_finished(script) {
             return Ended {
-                state: finish(st, script.len()),
+                state: st.finish(script.len()),
                 ending: Ending::Finished,
             };
         }
@@ -59,7 +56,7 @@ pub fn advance(
                         ending: Ending::Stopped,
                     };
                 }
-                st = by_fields(next);
+                st = next.by_fields();
             }
             Stepped::Fails(next, e, command) => {
                 return Ended {
@@ -68,43 +65,5 @@ pub fn advance(
                 };
             }
         }
-    }
-}
-
-// The same state, made anew field by field: the compiler then keeps the fields of the loop's state apart.
-fn by_fields(st: State) -> State
-    ensures { λ r. ⌜ r ≡ st ⌝ }
-{
-    let m = operators::fields(st.machine);
-    State {
-        machine: m,
-        next: st.next,
-        at: st.at,
-        steps: st.steps,
-    }
-}
-
-// Whether only space and comment are left, and no execution slot.
-fn is_finished(st: State, script: &[u8]) -> bool
-    requires { ⌜ st .next ≤ length (now script) ⌝ }
-    ensures { λ r. ⌜ Finished (now (script .entry)) st r ⌝ }
-{
-    let m = st.machine;
-    if m.frames == 0 {
-        return token::skip(script, st.next) == script.len();
-    }
-    false
-}
-
-// A finished run is at the script's end.
-fn finish(st: State, at: usize) -> State
-    ensures { λ r. ⌜ r ≡ record { machine = st .machine; next = st .next; at = at; steps = st .steps } ⌝ }
-{
-    let m = st.machine;
-    State {
-        machine: m,
-        next: st.next,
-        at: at,
-        steps: st.steps,
     }
 }

@@ -16,7 +16,7 @@ use Rattle.machine.specs.Room.{lent, fitted}
 use Rattle.machine.specs.declared.Machine.{Machine}
 use Rattle.machine.specs.declared.Did.{Did}
 use Rattle.machine.specs.declared.Did.the-variants.{Ok, Fail}
-use Rattle.frames.specs.Moves.{topFrame, frameDropped, Somewhere}
+use Rattle.machine.specs.FrameMoves.{topFrame, frameDropped, Somewhere}
 use Rattle.machine.proofs.Rooms.{frames-length}
 use Rattle.operators.specs.Titles.{DoesAll}
 use Rattle.turns.specs.Turns.{resumed}

@@ -1,3 +1,4 @@
 pub mod Moving
 pub mod TokenSteps
 pub mod FrameSteps
+pub mod Finishing

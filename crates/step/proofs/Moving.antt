@@ -23,7 +23,7 @@ use Rattle.machine.specs.Room.{lent}
 use Rattle.machine.specs.declared.Machine.{Machine}
 use Rattle.machine.specs.declared.Did.{Did}
 use Rattle.machine.specs.declared.Did.the-variants.{Ok, Fail}
-use Rattle.frames.specs.Moves.{topFrame, frameDropped}
+use Rattle.machine.specs.FrameMoves.{topFrame, frameDropped}
 use Rattle.token.specs.Lexing.{Lexes}
 use Rattle.step.specs.Stepping.{stateOf, SteppedAs, endedBy}
 use Rattle.step.specs.declared.State.{State}

@@ -1,6 +1,7 @@
 -- A step of the runner against the definition's.
 -- Assumes nothing.
 use mathlib.Core.Path.{_≡_}
+use mathlib.Core.Bool.{Bool}
 use mathlib.Core.List.{List}
 use Prim.Native.Nat.{ℕ, _+_, _≤_, _<_}
 use lib.ListN.{length, drop}
@@ -77,3 +78,9 @@ endedBy σ at next command (did.Fail e) = Fails (record { machine = σ .machine;
 abbrev pub groupedBy : State → ℕ → Grouped → Stepped
 groupedBy σ at (grouped.Done r next) = Goes (record { machine = r; next = next; at = at; steps = σ .steps + 1 })
 groupedBy σ at (grouped.Fail e) = Fails (record { machine = σ .machine; next = σ .next; at = at; steps = σ .steps + 1 }) e Nothing
+
+-- ---- the run's end
+
+-- Whether the run is finished in this state, as the definition asks it.
+pub record Finished (script : List ℕ) (σ : State) (r : Bool) : Type 0 where
+  pub says : (μ : Floo.Machine) → length (μ .exec) ≡ σ .machine .frames → r ≡ steps.isFinished script (stateOf σ μ)

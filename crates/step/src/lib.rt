@@ -2,7 +2,8 @@
 // step, errors and their order, the count of steps and the offsets included; where it fails, the words stand for what they stood for.
 ghost use mathlib.Core.Path.{_≡_};
 ghost use Prim.Native.Nat.{_<_, _≤_};
-ghost use Rattle.step.specs.Stepping.{ReadySlot, ReadyToken, StepsSlot, StepsToken, endedBy, groupedBy};
+ghost use lib.ListN.{length};
+ghost use Rattle.step.specs.Stepping.{ReadySlot, ReadyToken, StepsSlot, StepsToken, Finished, endedBy, groupedBy};
 use ending::Command;
 use group_taking::Grouped;
 use machine::Did;
@@ -103,6 +104,47 @@ impl State {
                 Did::Fail(Error::SyntaxError),
             ),
             Token::End => self.ended(start, next, Command::Nothing, Did::Fail(Error::SyntaxError)),
+        }
+    }
+
+    // Whether only space and comment are left, and no execution slot.
+    // Rules out: a run that is finished while a slot waits; a last comment taken for a token.
+    pub fn is_finished(self, script: &[u8]) -> bool
+        requires { ⌜ self .next ≤ length (now script) ⌝ }
+        ensures { λ r. ⌜ Finished (now (script .entry)) self r ⌝ }
+    {
+        let m = self.machine;
+        if m.frames == 0 {
+            return token::skip(script, self.next) == script.len();
+        }
+        false
+    }
+
+    // A finished run is at the script's end.
+    // Rules out: an `at` that stays at the last token; a step counted for the end.
+    pub fn finish(self, at: usize) -> State
+        ensures { λ r. ⌜ r ≡ record { machine = self .machine; next = self .next; at = at; steps = self .steps } ⌝ }
+    {
+        let m = self.machine;
+        State {
+            machine: m,
+            next: self.next,
+            at: at,
+            steps: self.steps,
+        }
+    }
+
+    // The same state, made anew field by field: the compiler then keeps the fields of the loop's state apart.
+    // Rules out: two fields exchanged; a step counted.
+    pub fn by_fields(self) -> State
+        ensures { λ r. ⌜ r ≡ self ⌝ }
+    {
+        let m = self.machine.fields();
+        State {
+            machine: m,
+            next: self.next,
+            at: self.at,
+            steps: self.steps,
         }
     }
 

@@ -20,8 +20,9 @@ use Rattle.machine.specs.Rep.{Rep, IsIn, a-repeating, a-counting}
 use Rattle.machine.specs.declared.Machine.{Machine}
 use Rattle.machine.specs.declared.Did.the-variants.{Ok, Fail}
 use Rattle.machine.proofs.Rooms.{frames-length}
-use Rattle.frames.specs.Moves.{topValue, frameDropped, bodyPended, resetTop, MovesFrames, Resets, Somewhere, SomewhereAll}
-use Rattle.frames.proofs.Tops.{slot, words, top-value}
+use Rattle.machine.specs.FrameMoves.{topValue, frameDropped, MovesFrames, Somewhere}
+use Rattle.frames.specs.Moves.{bodyPended, resetTop, Resets, SomewhereAll}
+use Rattle.machine.proofs.Tops.{slot, words, top-value}
 use Rattle.control_operators.specs.Promises.{DoesFrames}
 use Rattle.turns.specs.Turns.{resumed, DoesTurn}
 use Rattle.turns.proofs.Resuming.{loop-resumed, repeat-ended, repeat-resumed, for-ended, for-resumed}

@@ -22,8 +22,9 @@ use Rattle.machine.specs.Rep.{Rep, IsIn, FrameIs, a-pending, a-running, a-loopi
 use Rattle.machine.specs.declared.Machine.{Machine}
 use Rattle.machine.specs.declared.Did.the-variants.{Ok, Fail}
 use Rattle.machine.proofs.Rooms.{exec-fits}
-use Rattle.frames.specs.Moves.{topFrame, topValue, frameDropped, returned, resetTop, elementPushed, MovesFrames, MovesItems, Starts, Advances, PushesElement, Somewhere, SomewhereAll}
-use Rattle.frames.proofs.Tops.{slot}
+use Rattle.machine.specs.FrameMoves.{topFrame, topValue, frameDropped, returned, MovesFrames, MovesItems, Somewhere}
+use Rattle.frames.specs.Moves.{resetTop, elementPushed, Starts, Advances, PushesElement, SomewhereAll}
+use Rattle.machine.proofs.Tops.{slot}
 use Rattle.frames.proofs.Running.{Runs, runs, kind-runs, run-at, element-words}
 use Rattle.control_operators.specs.Promises.{DoesFrames}
 use Rattle.turns.specs.Turns.{resumed, IsNot, Quiet, DoesTurn, DoesItems}

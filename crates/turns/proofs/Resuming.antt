@@ -15,8 +15,9 @@ use Rattle.heap.specs.Shape.{Ghost}
 use Rattle.machine.specs.Places.{frameValue}
 use Rattle.machine.specs.Rep.{Rep, FrameIs, a-pending, a-running, a-looping, a-repeating, a-counting}
 use Rattle.machine.specs.declared.Machine.{Machine}
-use Rattle.frames.specs.Moves.{topFrame, topValue, frameDropped, bodyPended, resetTop}
-use Rattle.frames.proofs.Tops.{slot}
+use Rattle.machine.specs.FrameMoves.{topFrame, topValue, frameDropped}
+use Rattle.frames.specs.Moves.{bodyPended, resetTop}
+use Rattle.machine.proofs.Tops.{slot}
 use Rattle.turns.specs.Turns.{resumed}
 
 -- ---- the frame of each kind

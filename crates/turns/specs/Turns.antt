@@ -10,7 +10,7 @@ use Rattle.machine.specs.Rep.{Rep, Answer}
 use Rattle.machine.specs.Room.{lent, fitted}
 use Rattle.machine.specs.declared.Machine.{Machine}
 use Rattle.machine.specs.declared.Did.{Did}
-use Rattle.frames.specs.Moves.{topFrame, frameDropped}
+use Rattle.machine.specs.FrameMoves.{topFrame, frameDropped}
 
 -- What the topmost slot does when it acts, as the definition has it.
 unfoldable pub resumed : Floo.Machine → Result Floo.Machine

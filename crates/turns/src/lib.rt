@@ -5,7 +5,8 @@ ghost use Prim.Native.Nat.{_+_, _-_, _*_, _≤_};
 ghost use lib.ListN.{getD};
 ghost use Rattle.semantics.specs.Words.{signed};
 ghost use Rattle.semantics.specs.Steps.{beyond};
-ghost use Rattle.frames.specs.Moves.{Somewhere, SomewhereAll};
+ghost use Rattle.machine.specs.FrameMoves.{Somewhere};
+ghost use Rattle.frames.specs.Moves.{SomewhereAll};
 ghost use Rattle.heap.specs.Word.{word};
 ghost use Rattle.control_operators.specs.Promises.{Represented, DoesFrames};
 ghost use Rattle.turns.specs.Turns.{resumed, IsNot, Quiet, DoesTurn, DoesItems};
@@ -40,7 +41,7 @@ pub fn repeat_turn(m: Machine, exec: &mut [u32], cells: &mut [u32]) -> Did
     let k = m.frames - 1;
     let n = exec[8 * k + 3];
     if n == 0 {
-        return Did::Ok(frames::drop_frame(m, exec, cells));
+        return Did::Ok(m.drop_frame(exec, cells));
     }
     if exec.len() < 8 * m.frames + 8 {
         return Did::Fail(Error::ExecStackOverflow);
@@ -60,7 +61,7 @@ pub fn for_turn(m: Machine, stack: &mut [u32], exec: &mut [u32], cells: &mut [u3
     let n = exec[8 * k + 3];
     let increment = exec[8 * k + 4];
     if is_beyond(n, increment, exec[8 * k + 5]) {
-        return Did::Ok(frames::drop_frame(m, exec, cells));
+        return Did::Ok(m.drop_frame(exec, cells));
     }
     if exec.len() < 8 * m.frames + 8 {
         return Did::Fail(Error::ExecStackOverflow);
@@ -82,7 +83,7 @@ pub fn push_top(m: Machine, stack: &mut [u32], exec: &[u32]) -> Did
     if stack.len() < 2 * m.depth + 2 {
         return Did::Fail(Error::StackOverflow);
     }
-    Did::Ok(frames::push_pending(m, stack, exec))
+    Did::Ok(m.push_pending(stack, exec))
 }
 
 // A pending procedure starts to run.
@@ -99,7 +100,7 @@ pub fn finish(m: Machine, exec: &[u32], cells: &mut [u32]) -> Did
     requires { ⌜ (1 ≤ m .frames) × (getD (now exec) (8 * (m .frames - 1)) 0 ≡ 1) × (getD (now exec) (8 * (m .frames - 1) + 4) 0 ≡ 0) × Somewhere m (now exec) (now cells) ⌝ }
     ensures { λ r. ⌜ DoesTurn resumed m (now (exec .entry)) (now (exec .entry)) (now (cells .entry)) (now (cells .exit)) r ⌝ }
 {
-    Did::Ok(frames::drop_frame(m, exec, cells))
+    Did::Ok(m.drop_frame(exec, cells))
 }
 
 // The next element of a running procedure is pushed, and the procedure goes on.

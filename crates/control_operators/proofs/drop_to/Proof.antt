@@ -2,7 +2,7 @@
 -- Assumes nothing.
 use Rattle.control_operators.proofs.Leaving.{cut-none, cut-one, cut-same}
 use Rattle.control_operators.specs.Promises.{cutBy}
-use Rattle.frames.specs.Moves.{Somewhere, MovesFrames}
+use Rattle.machine.specs.FrameMoves.{Somewhere, MovesFrames}
 use lib.ListN.{length}
 use mathlib.Core.Path.{_≡_, refl, _∙_}
 use Prim.Native.Nat.{_-_, _≤_}

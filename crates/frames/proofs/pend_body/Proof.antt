@@ -1,7 +1,7 @@
 -- `frames::pend_body` meets its contract: the place above the topmost slot takes a copy of its value.
 -- Assumes nothing.
 use Rattle.frames.proofs.Slots.{put-three}
-use Rattle.frames.proofs.Tops.{body-placed, body-rep}
+use Rattle.frames.proofs.Pending.{body-placed, body-rep}
 use lib.ListN.{length-set}
 use native.Mathlib.Omega.{arith}
 use mathlib.Core.Path.{refl}

@@ -1,12 +1,12 @@
--- `frames::push_pending` meets its contract: the slot's place and the place above the topmost item exchange what they hold.
+-- `machine::Machine::push_pending` meets its contract: the slot's place and the place above the topmost item exchange what they hold.
 -- Assumes nothing.
-use Rattle.frames.proofs.Tops.{return-rep}
+use Rattle.machine.proofs.Tops.{return-rep}
 use lib.ListN.{length-set}
 use native.Mathlib.Omega.{arith}
 use mathlib.Core.Path.{refl}
 use borrow.Author.Needs.{needs}
-use Rattle.frames.proofs.push_pending.Statement.{statement}
-use Rattle.frames.proofs.push_pending.Tie as tie
+use Rattle.machine.proofs.Machine.push_pending.Statement.{statement}
+use Rattle.machine.proofs.Machine.push_pending.Tie as tie
 
 sub-k : tie.Need-sub-k
 sub-k c = search needs
@@ -56,8 +56,8 @@ mul-stack-8 c = search needs
 slice-write-stack-2 : tie.Need-slice-write-stack-2
 slice-write-stack-2 c = simp length-set (omega (arith, c .before .before .before .pre .2))
 
-add-r : tie.Need-add-r
-add-r c = search needs
+add-self : tie.Need-add-self
+add-self c = search needs
 
 same-length : tie.Need-same-length
 same-length c = search needs
@@ -85,6 +85,6 @@ push-pending-spec =
     add-stack-3
     mul-stack-8
     slice-write-stack-2
-    add-r
+    add-self
     same-length
     returns)

@@ -1,4 +1,4 @@
--- The topmost execution slot: it goes, its value goes to the stack, or a copy of its value becomes pending.
+-- The topmost execution slot: it goes, or its value goes to the stack.
 -- Assumes nothing.
 use mathlib.Core.Path.{_≡_, refl, sym, ap, _∙_, subst}
 use mathlib.Core.List.{List, _∷_}
@@ -8,25 +8,23 @@ use native.Mathlib.Numerals.{add-one}
 use lib.ListN.{length, getD, set, drop}
 use Rattle.semantics.specs.Values.{Value, null, Object}
 use Rattle.semantics.specs.Machine as Floo
-use Rattle.semantics.specs.Machine.{Frame, pending, withStack, withExec, push, enter}
+use Rattle.semantics.specs.Machine.{Frame, pending, withStack, withExec, push}
 use Rattle.heap.specs.Shape.{Ghost}
 use Rattle.heap.specs.Upd.{upd}
 use Rattle.heap.specs.declared.Lists.{Lists}
 use Rattle.machine.specs.Places.{fromEnd, frameValue, roots}
 use Rattle.machine.specs.Rep.{Rep, IsIn, Items, item, FrameIs, a-pending, a-running, a-looping, a-repeating, a-counting, Frames, frame}
 use Rattle.machine.specs.Recount.{Placed, Recounts}
 use Rattle.machine.specs.declared.Machine.{Machine}
 use Rattle.machine.proofs.Dropping.{nothing}
 use Rattle.machine.proofs.Exchanging.{upd-alike, exchange-rep}
 use Rattle.machine.proofs.Items.{items-length, items-frame}
 use Rattle.machine.proofs.Operands.{two-first, two-second, two-below, two-length}
 use Rattle.machine.proofs.Rerooting.{withDepths, placed, rerooted}
 use Rattle.machine.proofs.Rooms.{frames-length}
 use Rattle.machine.proofs.Roots.{stack-root, exec-root, roots-at, at-front, at-other, at-end}
-use Rattle.frames.specs.Moves.{topValue, frameDropped, returned, bodyPended}
-use Rattle.frames.proofs.Entering.{Put}
-use Rattle.frames.proofs.Pending.{pend-placed, pend-rep}
-use Rattle.frames.proofs.Regions.{rest-at, exec-at}
+use Rattle.machine.specs.FrameMoves.{topValue, frameDropped, returned}
+use Rattle.machine.proofs.Regions.{rest-at, exec-at}
 
 -- The topmost of k + 1 slots, its words and what lies below it.
 pub record TopFrame (A : Value → ℕ → ℕ → Type 0) (g : Ghost) (store : List Object) (e : List ℕ) (k : ℕ) (fs : List Frame) : Type 0 where
@@ -132,17 +130,3 @@ module _ {m : Machine} {st e d c l : List ℕ} {μ : Floo.Machine} (R : Rep m st
         (two-length st n t p room) refl (omega arith) (omega (arith, R .exec-room)) items (slot .below) in
         subst (λ v. Rep (withDepths (n + 1) k (m .lists) m) st′ e d c l (push v (withExec (drop 1 (μ .exec)) μ))) (sym top-value)
         (subst (λ fs. Rep (withDepths (n + 1) k (m .lists) m) st′ e d c l (push value (withExec (drop 1 fs) μ))) (sym (slot .split)) base)
-
-  -- ---- a copy becomes pending
-
-  module _ (room : 8 * m .frames + 8 ≤ length e) where
-    pub body-placed : Placed (m .lists) c 0 0 (getD e (8 * k + 1) 0) (getD e (8 * k + 2) 0)
-    body-placed = pend-placed R words room
-
-    pub body-rep : {s′ : Lists} {c′ e′ : List ℕ} {x y z : ℕ}
-        → Recounts (m .lists) c 0 0 (getD e (8 * k + 1) 0) (getD e (8 * k + 2) 0) s′ c′
-        → Put e e′ (m .frames) 0 (getD e (8 * k + 1) 0) (getD e (8 * k + 2) 0) x y z
-        → Rep (withDepths (m .depth) (m .frames + 1) s′ m) st e′ d c′ l (bodyPended μ)
-    unfolding bodyPended
-    body-rep {s′} {c′} {e′} K put =
-        subst (λ v. Rep (withDepths (m .depth) (m .frames + 1) s′ m) st e′ d c′ l (enter (pending v) μ)) (sym top-value) (pend-rep R words room K put)

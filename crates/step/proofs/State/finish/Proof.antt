@@ -1,8 +1,8 @@
 -- `finish` meets its contract.
 -- Assumes nothing.
 use mathlib.Core.Path.{refl}
-use Rattle.run_loop.proofs.finish.Statement.{statement}
-use Rattle.run_loop.proofs.finish.Tie as tie
+use Rattle.step.proofs.State.finish.Statement.{statement}
+use Rattle.step.proofs.State.finish.Tie as tie
 
 returns : tie.Need-returns
 returns c = refl

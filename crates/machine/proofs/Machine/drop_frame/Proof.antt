@@ -1,11 +1,11 @@
--- `frames::drop_frame` meets its contract: the slot's place takes null, and no slot's word is stored.
+-- `machine::Machine::drop_frame` meets its contract: the slot's place takes null, and no slot's word is stored.
 -- Assumes nothing.
-use Rattle.frames.proofs.Tops.{drop-placed, drop-rep}
+use Rattle.machine.proofs.Tops.{drop-placed, drop-rep}
 use native.Mathlib.Omega.{arith}
 use mathlib.Core.Path.{refl}
 use borrow.Author.Needs.{needs}
-use Rattle.frames.proofs.drop_frame.Statement.{statement}
-use Rattle.frames.proofs.drop_frame.Tie as tie
+use Rattle.machine.proofs.Machine.drop_frame.Statement.{statement}
+use Rattle.machine.proofs.Machine.drop_frame.Tie as tie
 
 sub-k : tie.Need-sub-k
 sub-k c = search needs

@@ -1,8 +1,8 @@
 -- `is_finished` meets its contract: as the definition asks it.
 -- Assumes nothing.
-use Rattle.run_loop.proofs.Running.{finished-by, unfinished}
-use Rattle.run_loop.proofs.is_finished.Statement.{statement}
-use Rattle.run_loop.proofs.is_finished.Tie as tie
+use Rattle.step.proofs.Finishing.{finished-by, unfinished}
+use Rattle.step.proofs.State.is_finished.Statement.{statement}
+use Rattle.step.proofs.State.is_finished.Tie as tie
 
 skip-requires : tie.Need-skip-requires
 skip-requires c κs = c .before .before .before .before .pre

@@ -9,13 +9,13 @@ use Rattle.semantics.specs.Machine as Floo
 use Rattle.heap.specs.Shape.{Full}
 use Rattle.heap.specs.declared.Lists.{Lists}
 use Rattle.heap.proofs.Parts as parts
 use Rattle.machine.specs.Rep.{Rep}
 use Rattle.machine.specs.Recount.{Recounts}
 use Rattle.machine.specs.declared.Machine.{Machine}
 use Rattle.machine.proofs.Recounting.{nothing-to-let-go}
 use Rattle.machine.proofs.Rerooting.{withDepths}
-use Rattle.frames.specs.Moves.{ForgetsFrame}
-use Rattle.frames.proofs.Tops.{drop-rep}
+use Rattle.machine.specs.FrameMoves.{ForgetsFrame}
+use Rattle.machine.proofs.Tops.{drop-rep}
 
 -- Nothing gives way to nothing.
 plain-recounts : {s : Lists} {c : List ℕ} {old was : ℕ} → s .dead ≡ 0 → old < 8 → Recounts s c old was 0 0 s c
