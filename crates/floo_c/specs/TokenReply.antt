@@ -6,6 +6,8 @@ use Rattle.semantics.specs.declared.Error.{Error}
 use Rattle.semantics.specs.declared.Error.the-variants.{SyntaxError, LimitCheck, Undefined, StackUnderflow, TypeCheck, RangeCheck, UndefinedResult, UnmatchedMark, ExecStackOverflow, StackOverflow, VmError, IoError}
 use Rattle.semantics.specs.declared.Kind.{Kind}
 use Rattle.semantics.specs.declared.Kind.the-variants.{Integer, String, LiteralName, ExecutableName, OpenBrace, CloseBrace, End}
+use Rattle.token.specs.declared.Located.{Located}
+use Rattle.token.specs.declared.Located.the-variants.{TooLong, PastEnd, Faulty, At}
 use Rattle.floo_c.specs.declared.TokenReply.{TokenReply}
 
 -- The number of each error, with its name in the paper (`errorText`). No error has the number 0.
@@ -38,3 +40,16 @@ abbrev pub tokenReplyOf : ℕ → setup.Reading → TokenReply
 tokenReplyOf offset (setup.refused n) = record { refused = n; fault = 0; kind = 0; next = offset; start = 0; size = 0 }
 tokenReplyOf offset (setup.faulty e) = record { refused = 0; fault = errorNumber e; kind = 0; next = offset; start = 0; size = 0 }
 tokenReplyOf offset (setup.read k n start size) = record { refused = 0; fault = 0; kind = kindNumber k; next = n; start = start; size = size }
+
+-- The number of the refusal and that of the fault, of a reading that found no token.
+abbrev pub refusalNumber : Located → ℕ
+refusalNumber TooLong = 1
+refusalNumber PastEnd = 10
+refusalNumber (Faulty e) = 0
+refusalNumber (At k n start size) = 0
+
+abbrev pub faultNumber : Located → ℕ
+faultNumber TooLong = 0
+faultNumber PastEnd = 0
+faultNumber (Faulty e) = errorNumber e
+faultNumber (At k n start size) = 0

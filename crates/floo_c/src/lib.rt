@@ -4,7 +4,7 @@ ghost use Prim.Native.Nat.{_+_, _≤_};
 ghost use lib.ListN.{length};
 ghost use Rattle.semantics.specs.Setup as setup;
 ghost use Rattle.floo_c.specs.Reply.{Replies};
-ghost use Rattle.floo_c.specs.TokenReply.{tokenReplyOf, errorNumber, kindNumber};
+ghost use Rattle.floo_c.specs.TokenReply.{tokenReplyOf, refusalNumber, faultNumber, errorNumber, kindNumber};
 use runner::Answer;
 use semantics::Error;
 use semantics::Kind;
@@ -78,18 +78,17 @@ pub extern "C" fn floo_token(script: &[u8], offset: usize) -> TokenReply
     ensures { λ r. ⌜ r ≡ tokenReplyOf offset (setup.reading (now (script .entry)) offset) ⌝ }
     ensures { λ r. ⌜ r .start + r .size ≤ length (now (script .entry)) ⌝ }
 {
-    match token::locate(script, offset) {
-        Located::TooLong => no_token(1, 0, offset),
-        Located::PastEnd => no_token(10, 0, offset),
-        Located::Faulty(e) => no_token(0, error_number(e), offset),
-        Located::At(kind, next, start, size) => TokenReply {
-            refused: 0,
-            fault: 0,
-            kind: kind_number(kind),
-            next,
-            start,
-            size,
-        },
+    let located = token::locate(script, offset);
+    let Located::At(kind, next, start, size) = located else {
+        return no_token(refusal_number(located), fault_number(located), offset);
+    };
+    TokenReply {
+        refused: 0,
+        fault: 0,
+        kind: kind_number(kind),
+        next,
+        start,
+        size,
     }
 }
 
@@ -104,6 +103,30 @@ fn no_token(refused: u32, fault: u32, offset: usize) -> TokenReply
         next: offset,
         start: 0,
         size: 0,
+    }
+}
+
+// The number of the refusal; 0 where there is none.
+fn refusal_number(located: Located) -> u32
+    ensures { λ r. ⌜ r ≡ refusalNumber located ⌝ }
+{
+    match located {
+        Located::TooLong => 1,
+        Located::PastEnd => 10,
+        Located::Faulty(_) => 0,
+        Located::At(_, _, _, _) => 0,
+    }
+}
+
+// The number of the fault; 0 where there is none.
+fn fault_number(located: Located) -> u32
+    ensures { λ r. ⌜ r ≡ faultNumber located ⌝ }
+{
+    match located {
+        Located::TooLong => 0,
+        Located::PastEnd => 0,
+        Located::Faulty(e) => error_number(e),
+        Located::At(_, _, _, _) => 0,
     }
 }
 
