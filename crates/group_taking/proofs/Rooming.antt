@@ -28,7 +28,7 @@ use Rattle.groups.specs.Parsing.{Parsed, JudgedAs, faultOf}
 use Rattle.groups.specs.declared.Judged.{Judged}
 use Rattle.groups.specs.declared.Judged.the-variants.{Bad, Good}
 use Rattle.groups.proofs.Trees.{nested, nested-store, values-length, news-cells, group-parsed}
-use Rattle.taking.specs.Flat.{NamedAs, AddsNames, withNames}
+use Rattle.taking.specs.Flat.{NamedAs, AddsNames, withNames, faultOf as faultIn}
 use Rattle.taking.specs.declared.Named.{Named}
 use Rattle.taking.specs.declared.Named.the-variants as named
 use Rattle.taking.proofs.Flattening.{parsed-flat}
@@ -105,12 +105,13 @@ module _ {script : List ℕ} {from : ℕ} (first : 1 ≤ from) (inside : from �
     stays : {s e c l : List ℕ} {μ : Floo.Machine} → Rep m s e d c l μ → Rep m s e d′ c l μ
     stays R = kept-rep R long (N .kept)
 
-    pub group-full : {s c : List ℕ} → r ≡ named.Full → TakesGroup script from m s s d d′ c c (Fail LimitCheck)
+    pub group-full : {s c : List ℕ} {x y : Error} → r ≡ named.Bad x → y ≡ faultIn r → TakesGroup script from m s s d d′ c c (Fail y)
     unfolding lent push withStack filled grown change opened make withStore withDictionary
-    group-full {s} {c} u = record {
+    group-full {s} {c} {x} {y} u q = record {
       takes = λ e l μ R.
           let full = subst (NamedAs (names ns) m s e d d′ c l μ) u (named-as R) in
-          (taken-is (lent s e d c l) μ ∙ room-slots (lent s e d c l) μ (procedure ns μ) full, quiet μ, refl, refl, stays R);
+          let same : LimitCheck ≡ y = sym (q ∙ ap faultIn u ∙ full .0) in
+          (taken-is (lent s e d c l) μ ∙ room-slots (lent s e d c l) μ (procedure ns μ) (full .1) ∙ ap fault same, quiet μ, refl, refl, stays R);
     }
 
     module _ {q : Machine} (u : r ≡ named.Done q) where

@@ -33,7 +33,7 @@ pub fn take_group(
     };
     let named = taking::add_names(m, dict, script, from, after);
     let Named::Done(with) = named else {
-        return Grouped::Fail(Error::LimitCheck);
+        return Grouped::Fail(taking::fault_of(named));
     };
     if stack.len() < 2 * m.depth + 2 {
         return Grouped::Fail(Error::StackOverflow);

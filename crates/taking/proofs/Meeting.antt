@@ -18,7 +18,8 @@ use Rattle.token.specs.declared.Token.the-variants as read
 use Rattle.token.specs.declared.Token as scanned
 use Rattle.groups.specs.Nodes.{leafNames}
 use Rattle.taking.specs.Flat.{Flat, Ahead, MetAt}
-use Rattle.taking.specs.declared.Met.the-variants.{Name, Other}
+use Rattle.taking.specs.declared.Met.the-variants as met
+use Rattle.taking.specs.declared.Found.the-variants.{Name, Other}
 use Rattle.taking.proofs.Flattening.{skip-far, First, first-token, first-inside}
 
 -- ---- lexing is a function
@@ -48,7 +49,7 @@ module _ {script : List ℕ} {at : ℕ} where
       (F .rest, subst (λ t. ns ≡ leafNames t ++ F .rest) (same .0) (F .names), subst (λ n. Flat script n (F .rest) end) place (F .after))
 
   -- A token that is no name.
-  met-other : (u : Token) {next : ℕ} → leafNames u ≡ [] → Lexes script (skip script at) u next → MetAt script at (Other next)
+  met-other : (u : Token) {next : ℕ} → leafNames u ≡ [] → Lexes script (skip script at) u next → MetAt script at (met.Good Other next)
   met-other u {next} nameless l = (
     omega (arith, skip-far script at, l .past),
     λ ns end f h.
@@ -56,7 +57,7 @@ module _ {script : List ℕ} {at : ℕ} where
         subst (λ y. Flat script next y end) (sym (x .1 ∙ ap (λ y. y ++ x .0) nameless)) (x .2),
   )
 
-  met-name : {x : Bool} {before begins size next : ℕ} → NameToken script (skip script at) x before begins size next → MetAt script at (Name begins size next)
+  met-name : {x : Bool} {before begins size next : ℕ} → NameToken script (skip script at) x before begins size next → MetAt script at (met.Good (Name begins size) next)
   met-name N = (
     N .few,
     omega (arith, N .ends, N .token .inside),
@@ -83,22 +84,22 @@ module _ (script : List ℕ) (at start : ℕ) (begins : start ≡ skip script at
     at-token : (u : scanned.Token) → t ≡ u → TokenAt script (skip script at) next u
     at-token u q = subst (TokenAt script (skip script at) next) q (subst (λ n. TokenAt script n next t) begins (subst (LexedAt script start) g k))
 
-    pub meet-integer : {w : ℕ} → t ≡ read.Integer w → MetAt script at (Other next)
+    pub meet-integer : {w : ℕ} → t ≡ read.Integer w → MetAt script at (met.Good Other next)
     meet-integer {w} q = met-other (Token.integer w) refl (at-token (read.Integer w) q)
 
-    pub meet-string : {from size : ℕ} → t ≡ read.String from size → MetAt script at (Other next)
+    pub meet-string : {from size : ℕ} → t ≡ read.String from size → MetAt script at (met.Good Other next)
     meet-string {from} {size} q = let S = at-token (read.String from size) q in met-other (Token.string (S .bytes)) refl (S .token)
 
-    pub meet-executable : {from size : ℕ} → t ≡ read.ExecutableName from size → MetAt script at (Name from size next)
+    pub meet-executable : {from size : ℕ} → t ≡ read.ExecutableName from size → MetAt script at (met.Good (Name from size) next)
     meet-executable {from} {size} q = met-name (at-token (read.ExecutableName from size) q)
 
-    pub meet-literal : {from size : ℕ} → t ≡ read.LiteralName from size → MetAt script at (Name from size next)
+    pub meet-literal : {from size : ℕ} → t ≡ read.LiteralName from size → MetAt script at (met.Good (Name from size) next)
     meet-literal {from} {size} q = met-name (at-token (read.LiteralName from size) q)
 
-    pub meet-open : t ≡ read.OpenBrace → MetAt script at (Other next)
+    pub meet-open : t ≡ read.OpenBrace → MetAt script at (met.Good Other next)
     meet-open q = met-other Token.openBrace refl (at-token read.OpenBrace q .token)
 
-    pub meet-close : t ≡ read.CloseBrace → MetAt script at (Other next)
+    pub meet-close : t ≡ read.CloseBrace → MetAt script at (met.Good Other next)
     meet-close q = met-other Token.closeBrace refl (at-token read.CloseBrace q .token)
 
     pub meet-end : t ≡ read.End → ⊥

@@ -8,17 +8,21 @@ use lib.ListN.{length, take, drop, length-take}
 use Rattle.semantics.specs.Machine as Floo
 use Rattle.semantics.specs.Machine.{Slot, withDictionary, intern, slotted}
 use Rattle.semantics.specs.ListLaws.{nil, cons, all-append}
+use Rattle.semantics.specs.declared.Error.{Error}
+use Rattle.semantics.specs.declared.Error.the-variants.{LimitCheck}
 use Rattle.groups.specs.Nodes.{internAll}
 use Rattle.groups.proofs.Trees.{intern-append}
 use Rattle.machine.specs.Rep.{Rep}
 use Rattle.machine.specs.declared.Machine.{Machine}
 use Rattle.dictionary.specs.Names.{Finds, Kept, Adds}
 use Rattle.dictionary.proofs.Lookups.{slotted-found, slotted-missing, slotted-has, slotted-grows, still-has, find-has, find-none}
-use Rattle.taking.specs.Flat.{Flat, Group, Dictionary, HaveSlots, SameBut, withNames, NamedAs, AddsNames, AddsName, Ahead, MetAt}
+use Rattle.taking.specs.Flat.{Flat, Group, Dictionary, HaveSlots, SameBut, withNames, NamedAs, AddsNames, AddsName, Ahead, MetAt, faultOf}
 use Rattle.taking.specs.declared.Named.{Named}
-use Rattle.taking.specs.declared.Named.the-variants.{Full, Done}
+use Rattle.taking.specs.declared.Named.the-variants.{Bad, Done}
 use Rattle.taking.specs.declared.Met.{Met}
-use Rattle.taking.specs.declared.Met.the-variants.{Name, Other}
+use Rattle.taking.specs.declared.Met.the-variants as met
+use Rattle.taking.specs.declared.Found.{Found}
+use Rattle.taking.specs.declared.Found.the-variants.{Name, Other}
 use Rattle.taking.proofs.Flattening.{flat-done}
 
 -- ---- one name
@@ -42,10 +46,10 @@ module _ {n : List ℕ} {k : ℕ} {m : Machine} {d : List ℕ} (F : Finds m d n 
   }
 
   module _ (high : m .names ≤ k) (most : k ≤ m .names) where
-    pub one-full : length d < 12 * m .names + 12 → AddsName n m d d Full
+    pub one-full : length d < 12 * m .names + 12 → AddsName n m d d (Bad LimitCheck)
     unfolding internAll
     one-full full = record {
-      adds = λ s e c l μ R. omega (arith, full, slotted-missing n (μ .dictionary) (find-none R F high most), R .names);
+      adds = λ s e c l μ R. (refl, omega (arith, full, slotted-missing n (μ .dictionary) (find-none R F high most), R .names));
       kept = kept-all;
     }
 
@@ -112,6 +116,10 @@ begin G D = record {
   splits = λ ns f. record { done = []; rest = ns; split = refl; left = f; stands = λ s e c l μ R. (R, nil) };
 }
 
+-- What a token is, told apart.
+pub finds : {x : Met} {f g : Found} {next : ℕ} → x ≡ met.Good f next → f ≡ g → x ≡ met.Good g next
+finds {next = next} e q = e ∙ ap (λ y. met.Good y next) q
+
 module _ {script : List ℕ} {from end : ℕ} {m : Machine} {d : List ℕ} {at : ℕ} {r : Machine} {d′ : List ℕ} (A : Adding script from end m d at r d′) where
   pub ahead : at < end → Ahead script at
   ahead h = let L = A .splits (A .some .0) (A .some .1) in (L .rest, end, L .left, h)
@@ -122,8 +130,11 @@ module _ {script : List ℕ} {from end : ℕ} {m : Machine} {d : List ℕ} {at :
       let B = A .began in
       (B .0, B .1, B .2, B .3, withNames (L .done) (B .4), L .stands (B .0) (B .1) (B .2) (B .3) (B .4) (B .5) .0)
 
+  pub no-fault : {x : Met} {e : Error} → MetAt script at x → x ≡ met.Bad e → ⊥
+  no-fault M q = subst (MetAt script at) q M
+
   module _ (inside : at < end) where
-    pub other-next : {x : Met} {next : ℕ} → MetAt script at x → x ≡ Other next → (at < next) × Adding script from end m d next r d′
+    pub other-next : {x : Met} {next : ℕ} → MetAt script at x → x ≡ met.Good Other next → (at < next) × Adding script from end m d next r d′
     other-next {next = next} M q =
         let N = subst (MetAt script at) q M in (
           N .0,
@@ -138,8 +149,8 @@ module _ {script : List ℕ} {from end : ℕ} {m : Machine} {d : List ℕ} {at :
           },
         )
 
-    module _ {x : Met} {start size next : ℕ} (M : MetAt script at x) (q : x ≡ Name start size next) where
-      here : MetAt script at (Name start size next)
+    module _ {x : Met} {start size next : ℕ} (M : MetAt script at x) (q : x ≡ met.Good (Name start size) next) where
+      here : MetAt script at (met.Good (Name start size) next)
       here = subst (MetAt script at) q M
 
       pub name-few : (size ≤ 31) × (start + size ≤ length script) × (at < next)
@@ -163,13 +174,13 @@ module _ {script : List ℕ} {from end : ℕ} {m : Machine} {d : List ℕ} {at :
         kept-too : Kept (12 * m .names) d d″
         kept-too = record { below = λ i l. O .kept .below i (omega (arith, l, A .more)) ∙ A .kept .below i l }
 
-        pub names-full : a ≡ Full → AddsNames script from end m d d″ Full
+        pub names-full : {x y : Error} → a ≡ Bad x → y ≡ faultOf a → AddsNames script from end m d d″ (Bad y)
         unfolding internAll withDictionary
-        names-full e = record {
+        names-full e q = record {
           adds = λ ns f s e₀ c l μ R.
               let L = A .splits ns f in
               let full = subst (NamedAs (word ∷ []) r s e₀ d′ d″ c l (withNames (L .done) μ)) e (O .adds s e₀ c l (withNames (L .done) μ) (L .stands s e₀ c l μ R .0)) in
-              omega (arith, full, A .long, ap length (all-names L (μ .dictionary)), intern-grows (cut L .0) (slotted word (internAll (L .done) (μ .dictionary))));
+              (q ∙ ap faultOf e ∙ full .0, omega (arith, full .1, A .long, ap length (all-names L (μ .dictionary)), intern-grows (cut L .0) (slotted word (internAll (L .done) (μ .dictionary)))));
           kept = kept-too;
         }
 

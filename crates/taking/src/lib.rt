@@ -7,7 +7,7 @@ ghost use Rattle.machine.specs.Rep.{Somewhere};
 ghost use Rattle.machine.specs.Room.{DoesStack};
 ghost use Rattle.taking.specs.Effects.{integerTaken, literalTaken, executableTaken};
 ghost use Rattle.taking.specs.Promises.{Bindings, NamedBindings, Names, StringOf, DoesBinding, DoesNamed, DoesNames, DoesString, PushesWords, PushesName};
-ghost use Rattle.taking.specs.Flat.{Dictionary, Group, Ahead, AddsNames, AddsName, MetAt};
+ghost use Rattle.taking.specs.Flat.{Dictionary, Group, Ahead, AddsNames, AddsName, MetAt, faultOf, metFault};
 use dictionary::BINDING;
 use dictionary::SLOT;
 use machine::Did;
@@ -20,16 +20,22 @@ use semantics::Error;
 use token::Lexed;
 use token::Token;
 
-// What giving slots to names came to: the dictionary has no room for them all, or all have one.
+// What giving slots to names came to: the error where the dictionary has no room for them all, or all have one.
 pub enum Named {
-    Full,
+    Bad(Error),
     Done(Machine),
 }
 
-// A token: a name, with where its bytes are, how many, and the offset after it; or another, with the offset after it.
+// A token of a group: its fault; or what it is, and the offset after it.
 enum Met {
-    Name(usize, usize, usize),
-    Other(usize),
+    Bad(Error),
+    Good(Found, usize),
+}
+
+// A name, with where its bytes are and how many; or another token.
+enum Found {
+    Name(usize, usize),
+    Other,
 }
 
 // An integer is pushed.
@@ -136,21 +142,36 @@ pub fn add_names(m: Machine, dict: &mut [u32], script: &[u8], from: usize, end: 
     let mut r = m;
     let mut at = from;
     while at < end {
-        match meet(script, at) {
-            Met::Name(start, size, next) => {
+        let met = meet(script, at);
+        let Met::Good(found, next) = met else {
+            return Named::Bad(met_fault(met));
+        };
+        match found {
+            Found::Name(start, size) => {
                 let named = add_name(r, dict, &script[start..start + size]);
                 let Named::Done(more) = named else {
-                    return Named::Full;
+                    return Named::Bad(fault_of(named));
                 };
                 r = more;
                 at = next;
             }
-            Met::Other(next) => {
+            Found::Other => {
                 at = next;
             }
         }
     }
     Named::Done(r)
+}
+
+// The error of an answer that has one, for the branch of a `let .. else` that returns with its name.
+// Rules out: an error that giving slots did not meet.
+pub fn fault_of(named: Named) -> Error
+    ensures { λ r. ⌜ r ≡ faultOf named ⌝ }
+{
+    match named {
+        Named::Bad(e) => e,
+        Named::Done(_) => Error::LimitCheck,
+    }
 }
 
 // The literal name with this slot is pushed.
@@ -186,12 +207,12 @@ fn add_name(m: Machine, dict: &mut [u32], name: &[u8]) -> Named
         return Named::Done(m);
     }
     if dict.len() < SLOT * m.names + SLOT {
-        return Named::Full;
+        return Named::Bad(Error::LimitCheck);
     }
     Named::Done(dictionary::add(m, dict, name))
 }
 
-// The token from `at` on, of a group that goes on there: it is well formed.
+// The token from `at` on, of a group that goes on there: the group has been judged, so no fault is met.
 fn meet(script: &[u8], at: usize) -> Met
     requires { ⌜ Ahead (now script) at ⌝ }
     ensures { λ r. ⌜ MetAt (now (script .entry)) at r ⌝ }
@@ -199,15 +220,25 @@ fn meet(script: &[u8], at: usize) -> Met
     let start = token::skip(script, at);
     let lexed = token::token_at(script, start);
     let Lexed::Token(read, next) = lexed else {
-        return Met::Other(start);
+        return Met::Bad(token::fault_of(lexed));
     };
     match read {
-        Token::Integer(_) => Met::Other(next),
-        Token::String(_, _) => Met::Other(next),
-        Token::ExecutableName(begins, size) => Met::Name(begins, size, next),
-        Token::LiteralName(begins, size) => Met::Name(begins, size, next),
-        Token::OpenBrace => Met::Other(next),
-        Token::CloseBrace => Met::Other(next),
-        Token::End => Met::Other(next),
+        Token::Integer(_) => Met::Good(Found::Other, next),
+        Token::String(_, _) => Met::Good(Found::Other, next),
+        Token::ExecutableName(begins, size) => Met::Good(Found::Name(begins, size), next),
+        Token::LiteralName(begins, size) => Met::Good(Found::Name(begins, size), next),
+        Token::OpenBrace => Met::Good(Found::Other, next),
+        Token::CloseBrace => Met::Good(Found::Other, next),
+        Token::End => Met::Bad(Error::SyntaxError),
+    }
+}
+
+// The fault of a token that has one.
+fn met_fault(met: Met) -> Error
+    ensures { λ r. ⌜ r ≡ metFault met ⌝ }
+{
+    match met {
+        Met::Bad(e) => e,
+        Met::Good(_, _) => Error::SyntaxError,
     }
 }

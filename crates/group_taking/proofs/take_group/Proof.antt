@@ -31,11 +31,14 @@ enum-known-named c = c .match2 .keys1
 enum-told-2 : tie.Need-enum-told-2
 enum-told-2 c = c .match2 .keys2
 
+fault-of-requires-2 : tie.Need-fault-of-requires-2
+fault-of-requires-2 c κs = search needs
+
 same-length : tie.Need-same-length
-same-length c = c .before .before .before .before .add-names .kept .1 .0
+same-length c = c .before .before .before .before .before .add-names .kept .1 .0
 
 returns-2 : tie.Need-returns-2
-returns-2 c = group-full (c .before .before .before .before .before .before .before .before .before .before .before .before .before .before .pre .0) (c .before .before .before .before .before .before .before .before .before .before .before .before .before .before .pre .1) (judged-good (c .before .before .before .before .before .before .before .before .before .judge .ensures) (c .before .before .before .before .before .before .before .judged .given .1) .1) (c .before .before .before .before .add-names .ensures) (c .before .before .before .before .add-names .kept .1 .0) (c .enum-told2 .given .1)
+returns-2 c = group-full (c .before .before .before .before .before .before .before .before .before .before .before .before .before .before .before .pre .0) (c .before .before .before .before .before .before .before .before .before .before .before .before .before .before .before .pre .1) (judged-good (c .before .before .before .before .before .before .before .before .before .before .judge .ensures) (c .before .before .before .before .before .before .before .before .judged .given .1) .1) (c .before .before .before .before .before .add-names .ensures) (c .before .before .before .before .before .add-names .kept .1 .0) (c .before .enum-told2 .given .1) (c .fault-of2 .ensures)
 
 mul-if1 : tie.Need-mul-if1
 mul-if1 c = omega (arith, c .before .before .before .before .before .before .before .before .before .before .before .before .before .before .before .before .pre .3 .3 .stack-room, c .before .before .before .before .before .before .before .before .before .before .before .before .before .before .before .before .pre .3 .3 .stack-few)
@@ -97,6 +100,7 @@ take-group-spec =
     add-names-requires
     enum-known-named
     enum-told-2
+    fault-of-requires-2
     same-length
     returns-2
     mul-if1

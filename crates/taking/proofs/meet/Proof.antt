@@ -17,12 +17,15 @@ enum-known-lexed c = c .match .keys1
 enum-told : tie.Need-enum-told
 enum-told c = c .match .keys2
 
+fault-of-requires : tie.Need-fault-of-requires
+fault-of-requires c κs = tt
+
 returns : tie.Need-returns
 returns c =
-    let at-token-at = c .before .before in
+    let at-token-at = c .before .before .before in
     let at-skip = at-token-at .before in
     let start = at-skip .before .before in
-    absurd (meet-fault _ _ _ (at-skip .skip .ensures .0) (start .pre) _ (at-token-at .token-at .ensures) (c .enum-told .given .1))
+    absurd (meet-fault _ _ _ (at-skip .skip .ensures .0) (start .pre) _ (at-token-at .token-at .ensures) (c .before .enum-told .given .1))
 
 enum-told-2 : tie.Need-enum-told-2
 enum-told-2 c = search needs
@@ -111,6 +114,7 @@ meet-spec =
     token-at-requires
     enum-known-lexed
     enum-told
+    fault-of-requires
     returns
     enum-told-2
     enum-told-3
