@@ -1,7 +1,18 @@
-// Makes, shares and lets go of objects, and says after each step how many cells are free. What it must say is worked out here.
+// Makes, shares and lets go of objects, as the steps on standard input say, and says how many cells are free where a step has a name after a colon.
+// What it must say is worked out here.
 // The heap has 32768 cells. An array of n elements takes 1 + n of them, a string of at most n bytes 1 + n / 8, rounded up.
 // An object stays while a slot, or an element of an object that stays, names it. So a circle of objects stays for ever. Each group of lines starts
 // with a fresh heap and empty slots.
+//
+//   step             what it does; of its word the first letter counts
+//   fresh            a heap with no object, and empty slots
+//   array S N        the empty slot S names a new array of N elements, if there are cells enough
+//   string S N       the same, a string of at most N bytes
+//   name S T         the empty slot T names what slot S names
+//   let go S         slot S names nothing
+//   element S I T    element I of slot S's array names what slot T names, or is null
+//   copy S I J       element I of slot S's array becomes its element J
+//   grow N           N arrays of 1, each of the one before, the first of what slot 0 names, and slot 0 the last
 //
 //   line             what has been done                                                         free before, cells          free
 //   fresh            nothing                                                                                               32768
@@ -65,13 +76,20 @@ ghost use lib.ListN.{length};
 ghost use Rattle.heap.specs.Shape.{cells};
 ghost use Rattle.heap_counts.specs.Slots.{Slots, Found};
 use heap::Lists;
+use libc::STDIN_FILENO;
 use libc::STDOUT_FILENO;
+use steps::Step;
+
+mod steps;
 
 // Root places, each 0 or 1 more than the header of the object that it names.
 const SLOTS: usize = 4;
 
 // Four a cell.
 const WORDS: usize = 131072;
+
+// More bytes than there are of steps.
+const SCRIPT: usize = 4096;
 
 // An element of an array: the cell that it is in, if there is one.
 enum Element {
@@ -97,10 +115,15 @@ fn free_cells(s: Lists, slots: &[u32], m: &[u32]) -> u32
     s.listed + ((m.len() / 4) as u32 - s.edge)
 }
 
-fn show(step: &[u8], s: Lists, slots: &[u32], m: &[u32])
+// `name` has a colon and a blank in front, where there is one.
+fn show(name: &[u8], s: Lists, slots: &[u32], m: &[u32])
     requires { ⌜ Slots s (now slots) (now m) ⌝ }
 {
-    say(step);
+    if name.len() < 2 {
+        return;
+    }
+    say(&name[2..]);
+    say(b" ");
     say_number(free_cells(s, slots, m));
     say(b"\n");
 }
@@ -145,41 +168,27 @@ fn make(s: Lists, slots: &mut [u32], m: &mut [u32], slot: usize, kind: u32, n: u
     t.lists
 }
 
-fn make_array(s: Lists, slots: &mut [u32], m: &mut [u32], slot: usize, n: u32) -> Lists
-    requires { ⌜ Slots s (now slots) (now m) ⌝ }
-    ensures { λ r. ⌜ Slots r (now (slots .exit)) (now (m .exit)) ⌝ }
-{
-    make(s, slots, m, slot, 0, n)
-}
-
-// A cell has eight bytes of a string.
-fn make_string(s: Lists, slots: &mut [u32], m: &mut [u32], slot: usize, n: u16) -> Lists
-    requires { ⌜ Slots s (now slots) (now m) ⌝ }
-    ensures { λ r. ⌜ Slots r (now (slots .exit)) (now (m .exit)) ⌝ }
-{
-    make(s, slots, m, slot, 1 + n as u32, (n as u32 + 7) / 8)
-}
-
 // The empty slot b names what slot a names.
-fn share(s: Lists, slots: &mut [u32], m: &mut [u32], a: usize, b: usize)
+fn share(s: Lists, slots: &mut [u32], m: &mut [u32], a: usize, b: usize) -> Lists
     requires { ⌜ Slots s (now slots) (now m) ⌝ }
-    ensures { λ _. ⌜ Slots s (now (slots .exit)) (now (m .exit)) ⌝ }
+    ensures { λ r. ⌜ Slots r (now (slots .exit)) (now (m .exit)) ⌝ }
 {
     if slots.len() <= a {
-        return;
+        return s;
     }
     if slots.len() <= b {
-        return;
+        return s;
     }
     let named = slots[a];
     if named == 0 {
-        return;
+        return s;
     }
     if slots[b] != 0 {
-        return;
+        return s;
     }
     heap::increment(m, heap::FIRST_OBJECT, named - 1);
     slots[b] = named;
+    s
 }
 
 // The slot names nothing.
@@ -259,10 +268,10 @@ fn lengthen(s: Lists, slots: &mut [u32; SLOTS], m: &mut [u32; WORDS]) -> Lists
     requires { ⌜ Slots s (now slots) (now m) ⌝ }
     ensures { λ r. ⌜ Slots r (now (slots .exit)) (now (m .exit)) ⌝ }
 {
-    let mut r = make_array(s, slots, m, 1, 1);
+    let mut r = make(s, slots, m, 1, 0, 1);
     r = set(r, slots, m, 1, 0, 0);
     r = let_go(r, slots, m, 0);
-    share(r, slots, m, 1, 0);
+    r = share(r, slots, m, 1, 0);
     let_go(r, slots, m, 1)
 }
 
@@ -279,231 +288,55 @@ fn chain(s: Lists, slots: &mut [u32; SLOTS], m: &mut [u32; WORDS], n: u32) -> Li
     r
 }
 
-fn single(s: Lists, slots: &mut [u32; SLOTS], m: &mut [u32; WORDS]) -> Lists
+// What a step says is done. A word that is none of these does nothing.
+fn act(s: Lists, slots: &mut [u32; SLOTS], m: &mut [u32; WORDS], step: Step) -> Lists
     requires { ⌜ Slots s (now slots) (now m) ⌝ }
     ensures { λ r. ⌜ Slots r (now (slots .exit)) (now (m .exit)) ⌝ }
 {
-    let mut r = restart(s, slots, m);
-    show(b"fresh ", r, slots, m);
-    r = make_array(r, slots, m, 0, 3);
-    show(b"array ", r, slots, m);
-    r = make_array(r, slots, m, 1, 0);
-    show(b"empty array ", r, slots, m);
-    r = make_string(r, slots, m, 2, 8);
-    show(b"string of 8 ", r, slots, m);
-    r = make_string(r, slots, m, 3, 9);
-    show(b"string of 9 ", r, slots, m);
-    r = let_go(r, slots, m, 0);
-    show(b"array gone ", r, slots, m);
-    r = let_go(r, slots, m, 1);
-    r = let_go(r, slots, m, 2);
-    r = let_go(r, slots, m, 3);
-    show(b"all gone ", r, slots, m);
+    let what = step.what;
+    let a = step.a as usize;
+    let b = step.b as usize;
+    let c = step.c as usize;
+    let i = step.b as u32;
+    let n = step.c as u32;
+    match what {
+        b'f' => restart(s, slots, m),
+        b'a' => make(s, slots, m, b, 0, n),
+        // A cell has eight bytes of a string.
+        b's' => make(s, slots, m, b, 1 + n, (n + 7) / 8),
+        b'n' => share(s, slots, m, b, c),
+        b'l' => let_go(s, slots, m, c),
+        b'e' => set(s, slots, m, a, i, c),
+        b'c' => copy(s, slots, m, a, i, n),
+        b'g' => chain(s, slots, m, n),
+        _ => s,
+    }
+}
+
+fn run_line(s: Lists, slots: &mut [u32; SLOTS], m: &mut [u32; WORDS], line: &[u8]) -> Lists
+    requires { ⌜ Slots s (now slots) (now m) ⌝ }
+    ensures { λ r. ⌜ Slots r (now (slots .exit)) (now (m .exit)) ⌝ }
+{
+    let colon = steps::find(line, 0, b':');
+    let r = act(s, slots, m, steps::read(&line[..colon]));
+    show(&line[colon..], r, slots, m);
     r
 }
 
-fn shared_slots(s: Lists, slots: &mut [u32; SLOTS], m: &mut [u32; WORDS]) -> Lists
-    requires { ⌜ Slots s (now slots) (now m) ⌝ }
-    ensures { λ r. ⌜ Slots r (now (slots .exit)) (now (m .exit)) ⌝ }
-{
-    let mut r = restart(s, slots, m);
-    r = make_array(r, slots, m, 0, 4);
-    share(r, slots, m, 0, 1);
-    share(r, slots, m, 1, 2);
-    show(b"three slots ", r, slots, m);
-    r = let_go(r, slots, m, 0);
-    r = let_go(r, slots, m, 1);
-    show(b"one slot ", r, slots, m);
-    r = let_go(r, slots, m, 2);
-    show(b"no slot ", r, slots, m);
-    r
-}
-
-fn shared_elements(s: Lists, slots: &mut [u32; SLOTS], m: &mut [u32; WORDS]) -> Lists
-    requires { ⌜ Slots s (now slots) (now m) ⌝ }
-    ensures { λ r. ⌜ Slots r (now (slots .exit)) (now (m .exit)) ⌝ }
-{
-    let mut r = restart(s, slots, m);
-    r = make_array(r, slots, m, 0, 2);
-    r = make_string(r, slots, m, 1, 9);
-    r = set(r, slots, m, 0, 0, 1);
-    r = set(r, slots, m, 0, 1, 1);
-    show(b"pair ", r, slots, m);
-    r = let_go(r, slots, m, 1);
-    show(b"two elements ", r, slots, m);
-    r = set(r, slots, m, 0, 0, 1);
-    show(b"one element ", r, slots, m);
-    r = set(r, slots, m, 0, 1, 1);
-    show(b"no element ", r, slots, m);
-    r = let_go(r, slots, m, 0);
-    show(b"pair gone ", r, slots, m);
-    r
-}
-
-fn diamond(s: Lists, slots: &mut [u32; SLOTS], m: &mut [u32; WORDS]) -> Lists
-    requires { ⌜ Slots s (now slots) (now m) ⌝ }
-    ensures { λ r. ⌜ Slots r (now (slots .exit)) (now (m .exit)) ⌝ }
-{
-    let mut r = restart(s, slots, m);
-    r = make_array(r, slots, m, 0, 2);
-    r = make_array(r, slots, m, 1, 0);
-    r = hang(r, slots, m, 0);
-    r = hang(r, slots, m, 1);
-    r = let_go(r, slots, m, 1);
-    show(b"diamond ", r, slots, m);
-    r = set(r, slots, m, 0, 0, 1);
-    show(b"half ", r, slots, m);
-    r = let_go(r, slots, m, 0);
-    show(b"diamond gone ", r, slots, m);
-    r
-}
-
-// Element i of slot 0's array is an array of 1, of what slot 1 names.
-fn hang(s: Lists, slots: &mut [u32; SLOTS], m: &mut [u32; WORDS], i: u32) -> Lists
-    requires { ⌜ Slots s (now slots) (now m) ⌝ }
-    ensures { λ r. ⌜ Slots r (now (slots .exit)) (now (m .exit)) ⌝ }
-{
-    let mut r = make_array(s, slots, m, 2, 1);
-    r = set(r, slots, m, 2, 0, 1);
-    r = set(r, slots, m, 0, i, 2);
-    let_go(r, slots, m, 2)
-}
-
-fn circles(s: Lists, slots: &mut [u32; SLOTS], m: &mut [u32; WORDS]) -> Lists
-    requires { ⌜ Slots s (now slots) (now m) ⌝ }
-    ensures { λ r. ⌜ Slots r (now (slots .exit)) (now (m .exit)) ⌝ }
-{
-    let mut r = restart(s, slots, m);
-    r = make_array(r, slots, m, 0, 1);
-    r = set(r, slots, m, 0, 0, 0);
-    show(b"itself ", r, slots, m);
-    r = let_go(r, slots, m, 0);
-    show(b"for ever ", r, slots, m);
-    r = circle(r, slots, m);
-    show(b"circle ", r, slots, m);
-    r = let_go(r, slots, m, 0);
-    r = let_go(r, slots, m, 1);
-    show(b"for ever ", r, slots, m);
-    r = circle(r, slots, m);
-    show(b"circle ", r, slots, m);
-    r = let_go(r, slots, m, 1);
-    r = set(r, slots, m, 0, 0, 1);
-    show(b"broken ", r, slots, m);
-    r = let_go(r, slots, m, 0);
-    show(b"circle gone ", r, slots, m);
-    r
-}
-
-// Slots 0 and 1: two arrays of 1, each of the other.
-fn circle(s: Lists, slots: &mut [u32; SLOTS], m: &mut [u32; WORDS]) -> Lists
-    requires { ⌜ Slots s (now slots) (now m) ⌝ }
-    ensures { λ r. ⌜ Slots r (now (slots .exit)) (now (m .exit)) ⌝ }
-{
-    let mut r = make_array(s, slots, m, 0, 1);
-    r = make_array(r, slots, m, 1, 1);
-    r = set(r, slots, m, 0, 0, 1);
-    set(r, slots, m, 1, 0, 0)
-}
-
-fn copies(s: Lists, slots: &mut [u32; SLOTS], m: &mut [u32; WORDS]) -> Lists
-    requires { ⌜ Slots s (now slots) (now m) ⌝ }
-    ensures { λ r. ⌜ Slots r (now (slots .exit)) (now (m .exit)) ⌝ }
-{
-    let mut r = restart(s, slots, m);
-    r = make_array(r, slots, m, 0, 2);
-    r = make_array(r, slots, m, 1, 4);
-    r = set(r, slots, m, 0, 0, 1);
-    r = let_go(r, slots, m, 1);
-    show(b"one place ", r, slots, m);
-    r = copy(r, slots, m, 0, 0, 0);
-    show(b"onto itself ", r, slots, m);
-    r = copy(r, slots, m, 0, 1, 0);
-    show(b"two places ", r, slots, m);
-    r = set(r, slots, m, 0, 0, 1);
-    show(b"one place ", r, slots, m);
-    r = copy(r, slots, m, 0, 1, 0);
-    show(b"overwritten ", r, slots, m);
-    r = let_go(r, slots, m, 0);
-    show(b"gone ", r, slots, m);
-    r
-}
-
-fn chains(s: Lists, slots: &mut [u32; SLOTS], m: &mut [u32; WORDS]) -> Lists
-    requires { ⌜ Slots s (now slots) (now m) ⌝ }
-    ensures { λ r. ⌜ Slots r (now (slots .exit)) (now (m .exit)) ⌝ }
-{
-    let mut r = restart(s, slots, m);
-    r = chain(r, slots, m, 16384);
-    show(b"chain ", r, slots, m);
-    r = let_go(r, slots, m, 0);
-    show(b"chain gone ", r, slots, m);
-    r = chain(r, slots, m, 1);
-    share(r, slots, m, 0, 2);
-    r = chain(r, slots, m, 16383);
-    show(b"chain ", r, slots, m);
-    r = let_go(r, slots, m, 0);
-    show(b"chain gone ", r, slots, m);
-    r = let_go(r, slots, m, 2);
-    show(b"end gone ", r, slots, m);
-    r
-}
-
-fn long_arrays(s: Lists, slots: &mut [u32; SLOTS], m: &mut [u32; WORDS]) -> Lists
-    requires { ⌜ Slots s (now slots) (now m) ⌝ }
-    ensures { λ r. ⌜ Slots r (now (slots .exit)) (now (m .exit)) ⌝ }
-{
-    let mut r = restart(s, slots, m);
-    r = make_array(r, slots, m, 0, 32767);
-    show(b"long array ", r, slots, m);
-    r = make_array(r, slots, m, 1, 0);
-    show(b"refused ", r, slots, m);
-    r = set(r, slots, m, 0, 32766, 0);
-    r = set(r, slots, m, 0, 32766, 1);
-    r = let_go(r, slots, m, 0);
-    show(b"long gone ", r, slots, m);
-    r = make_array(r, slots, m, 0, 32767);
-    show(b"long array ", r, slots, m);
-    r = set(r, slots, m, 0, 32766, 0);
-    r = set(r, slots, m, 0, 32765, 1);
-    r = let_go(r, slots, m, 0);
-    show(b"for ever ", r, slots, m);
-    r
-}
-
-fn refusals(s: Lists, slots: &mut [u32; SLOTS], m: &mut [u32; WORDS]) -> Lists
-    requires { ⌜ Slots s (now slots) (now m) ⌝ }
-    ensures { λ r. ⌜ Slots r (now (slots .exit)) (now (m .exit)) ⌝ }
-{
-    let mut r = restart(s, slots, m);
-    r = make_array(r, slots, m, 0, 32760);
-    show(b"seven left ", r, slots, m);
-    r = make_array(r, slots, m, 1, 7);
-    show(b"refused ", r, slots, m);
-    r = make_string(r, slots, m, 1, 49);
-    show(b"refused ", r, slots, m);
-    r = make_string(r, slots, m, 1, 48);
-    show(b"taken ", r, slots, m);
-    r = let_go(r, slots, m, 1);
-    show(b"seven back ", r, slots, m);
-    r = make_array(r, slots, m, 1, 6);
-    show(b"taken ", r, slots, m);
-    r = let_go(r, slots, m, 0);
-    r = let_go(r, slots, m, 1);
-    show(b"all gone ", r, slots, m);
-    r
+fn run_lines(script: &[u8], slots: &mut [u32; SLOTS], m: &mut [u32; WORDS]) {
+    let mut s = clear(slots, m);
+    let mut at = 0;
+    while at < script.len() {
+        let end = steps::find(script, at, b'\n');
+        s = run_line(s, slots, m, &script[at..end]);
+        at = end + 1;
+    }
 }
 
 fn main() {
+    let mut script = [0u8; SCRIPT];
     let mut slots = [0u32; SLOTS];
     let mut m = [0u32; WORDS];
-    let mut s = clear(&mut slots, &m);
-    s = single(s, &mut slots, &mut m);
-    s = shared_slots(s, &mut slots, &mut m);
-    s = shared_elements(s, &mut slots, &mut m);
-    s = diamond(s, &mut slots, &mut m);
-    s = circles(s, &mut slots, &mut m);
-    s = copies(s, &mut slots, &mut m);
-    s = chains(s, &mut slots, &mut m);
-    s = long_arrays(s, &mut slots, &mut m);
-    s = refusals(s, &mut slots, &mut m);
+    let n = io::read_full(STDIN_FILENO, &mut script);
+    run_lines(&script[..n], &mut slots, &mut m);
 }
