@@ -19,6 +19,7 @@ use Rattle.runner.specs.declared.Answer.{Answer}
 use Rattle.runner.specs.declared.Answer.the-variants.{Refused, Ran}
 use Rattle.runner.specs.declared.Report.{Report}
 use Rattle.floo.specs.Sizes.{fuel, sizes}
+use Rattle.floo.specs.Telling.{Within, told}
 
 -- ---- a text at the start of a buffer
 
@@ -55,23 +56,31 @@ lent : (s e d c l o : List ℕ) → Sized s e d c l o → lentOf s e d c l o ≡
 lent s e d c l o (p, q, u, v, w, x) = rw (p, q, u, v, w, x)
 
 module _ {script s s′ e e′ d d′ c c′ l l′ o o′ : List ℕ} {a : Answer} (runs : Runs script fuel s s′ e e′ d d′ c c′ l l′ o o′ a) where
-  is : {b : Answer} → a ≡ b → AnswerIs script fuel s s′ e e′ d d′ c c′ l l′ o o′ b
-  is p = subst (AnswerIs script fuel s s′ e e′ d d′ c c′ l l′ o o′) p (runs .answers)
+  counted : (b : Answer) → AnswerIs script fuel s s′ e e′ d d′ c c′ l l′ o o′ b → length l′ + length o′ ≤ 43264 → Within b l′ o′
+  counted (Refused n) is h = tt
+  counted (Ran x) is h = let p = within (is .1 .log) in let q = within (is .1 .outcome) in (p, q, omega (arith, p, q, h))
 
-  pub counts : {x : Report} → a ≡ Ran x → (x .log ≤ length l′) × (x .outcome ≤ length o′)
-  counts p = (within (is p .1 .log), within (is p .1 .outcome))
+  pub counts : length l′ + length o′ ≤ 43264 → Within a l′ o′
+  counts h = counted a (runs .answers) h
 
-  pub parts : {x : Report} → a ≡ Ran x → (length (take (x .log) l′) ≡ x .log) × (length (take (x .outcome) o′) ≡ x .outcome)
-  parts p = (length-take-le _ _ (counts p .0), length-take-le _ _ (counts p .1))
+  defined : (b : Answer) → AnswerIs script fuel s s′ e e′ d d′ c c′ l l′ o o′ b → printed script fuel (lentOf s e d c l o) ≡ told b l′ o′
+  defined (Refused n) is = printed-refusal script (lentOf s e d c l o) n (is .0) (is .1)
+  defined (Ran x) is = rw (read-back (is .1 .log), read-back (is .1 .outcome)) (printed-run script (lentOf s e d c l o) (is .0))
 
-  pub prints-refusal : {n : ℕ} {page new : List ℕ} {r : ℕ} → Sized s e d c l o → a ≡ Refused n → Written 0 (line (bytes "refused") (decimal n)) page new r → Written 0 (printed script fuel sizes) page new r
-  prints-refusal {n} sized p w =
-      let same = lent s e d c l o sized in
-      respelt (printed-refusal script sizes n (ap (refusal script fuel) (sym same) ∙ is p .0) (is p .1)) w
+  pub prints : {page new : List ℕ} {r : ℕ} → Sized s e d c l o → Written 0 (told a l′ o′) page new r → Written 0 (printed script fuel sizes) page new r
+  prints sized w = respelt (ap (printed script fuel) (sym (lent s e d c l o sized)) ∙ defined a (runs .answers)) w
 
-  pub prints-run : {x : Report} {page mid new : List ℕ} {next r : ℕ} → Sized s e d c l o → a ≡ Ran x → Written 0 (take (x .log) l′) page mid next → Written next (take (x .outcome) o′) mid new r → Written 0 (printed script fuel sizes) page new r
-  prints-run sized p u w =
-      let same = lent s e d c l o sized in
-      let ran = is p in
-      let text = printed-run script (lentOf s e d c l o) (ran .0) in
-      respelt (ap (printed script fuel) (sym same) ∙ text) (then (omega arith) (respelt (sym (read-back (ran .1 .log))) u) (respelt (sym (read-back (ran .1 .outcome))) w))
+-- ---- an answer told
+
+pub within-run : (l o : List ℕ) {a : Answer} {x : Report} → a ≡ Ran x → Within a l o → (x .log ≤ length l) × (x .outcome ≤ length o) × (x .log + x .outcome ≤ 43264)
+within-run l o p h = subst (λ (b : Answer). Within b l o) p h
+
+pub parts : (l o : List ℕ) {a : Answer} {x : Report} → a ≡ Ran x → Within a l o → (length (take (x .log) l) ≡ x .log) × (length (take (x .outcome) o) ≡ x .outcome)
+parts l o p h = let few = within-run l o p h in (length-take-le _ _ (few .0), length-take-le _ _ (few .1))
+
+pub told-refusal : (l o : List ℕ) {a : Answer} {n : ℕ} {page new : List ℕ} {r : ℕ} → a ≡ Refused n → Written 0 (line (bytes "refused") (decimal n)) page new r → Written 0 (told a l o) page new r
+told-refusal l o p w = respelt (ap (λ (b : Answer). told b l o) p) w
+
+pub told-run : (l o : List ℕ) {a : Answer} {x : Report} {page mid new : List ℕ} {next r : ℕ}
+    → a ≡ Ran x → Written 0 (take (x .log) l) page mid next → Written next (take (x .outcome) o) mid new r → Written 0 (told a l o) page new r
+told-run l o p u w = respelt (ap (λ (b : Answer). told b l o) p) (then (omega arith) u w)

@@ -3,6 +3,7 @@
 ghost use Rattle.semantics.specs.Setup.{printed};
 ghost use Rattle.text.specs.Writing.{Written};
 ghost use Rattle.floo.specs.Sizes.{fuel, sizes};
+ghost use Rattle.floo.specs.Telling.{Within, told};
 use libc::STDIN_FILENO;
 use libc::STDOUT_FILENO;
 use runner::Answer;
@@ -58,6 +59,14 @@ fn write_page(script: &[u8], page: &mut [u8; PAGE]) -> usize
         &mut log,
         &mut outcome,
     );
+    write_answer(answer, &log, &outcome, page)
+}
+
+// A refusal's line, or the start of the log and the start of the outcome.
+fn write_answer(answer: Answer, log: &[u8], outcome: &[u8], page: &mut [u8; PAGE]) -> usize
+    requires { ⌜ Within answer (now log) (now outcome) ⌝ }
+    ensures { λ r. ⌜ Written 0 (told answer (now (log .entry)) (now (outcome .entry))) (now (page .entry)) (now (page .exit)) r ⌝ }
+{
     match answer {
         Answer::Refused(number) => outcome::write_number(page, 0, b"refused", number),
         Answer::Ran(report) => {
