@@ -3,6 +3,7 @@
 ghost use mathlib.Core.Path.{_≡_};
 ghost use Prim.Native.Nat.{_+_, _≤_, _<_};
 ghost use lib.ListN.{length};
+ghost use Rattle.run_list.specs.Heads.{Fits, Within};
 use libc::STDIN_FILENO;
 use libc::STDOUT_FILENO;
 use runner::Answer;
@@ -26,12 +27,6 @@ fn say(bytes: &[u8]) {
     io::write_all(STDOUT_FILENO, bytes);
 }
 
-fn say_refusal(refusal: u32) {
-    say(b"refused=");
-    io::print_decimal(STDOUT_FILENO, refusal as u64);
-    say(b"\n");
-}
-
 fn wide(b: u8) -> u32
     ensures { λ r. ⌜ r ≤ 255 ⌝ }
 {
@@ -49,131 +44,116 @@ fn number(head: &[u8], i: usize) -> u32
         + 16_777_216 * wide(head[at + 3])
 }
 
-fn run_case(
-    script: &[u8],
+// Number i as a length, no longer than there is room for.
+fn size(head: &[u8], i: usize, most: usize) -> usize
+    requires { ⌜ (i < 8) × (length (now head) ≡ 32) ⌝ }
+    ensures { λ r. ⌜ r ≤ most ⌝ }
+{
+    let n = number(head, i) as usize;
+    if most < n {
+        return most;
+    }
+    n
+}
+
+// A case's head, where there is one more.
+struct Head {
+    more: bool,
     fuel: u32,
-    stack: &mut [u32],
-    exec: &mut [u32],
-    dict: &mut [u32],
-    cells: &mut [u32],
-    log: &mut [u8],
-    outcome: &mut [u8],
-) {
-    match runner::run(script, fuel, stack, exec, dict, cells, log, outcome) {
+    stack: usize,
+    exec: usize,
+    dict: usize,
+    cells: usize,
+    log: usize,
+    outcome: usize,
+    script: usize,
+}
+
+fn read_head() -> Head
+    ensures { λ r. ⌜ Fits r ⌝ }
+{
+    let mut head = [0u8; 32];
+    let got = io::read_full(STDIN_FILENO, &mut head);
+    Head {
+        more: 32 <= got,
+        fuel: number(&head, 0),
+        stack: size(&head, 1, STACK),
+        exec: size(&head, 2, EXECUTION),
+        dict: size(&head, 3, DICTIONARY),
+        cells: size(&head, 4, CELLS),
+        log: size(&head, 5, LOG),
+        outcome: size(&head, 6, OUTCOME),
+        script: size(&head, 7, SCRIPT),
+    }
+}
+
+fn say_refusal(refusal: u32) {
+    say(b"refused=");
+    io::print_decimal(STDOUT_FILENO, refusal as u64);
+    say(b"\n");
+}
+
+fn say_start(text: &[u8], n: usize) {
+    if n <= text.len() {
+        say(&text[..n]);
+    }
+}
+
+fn say_answer(answer: Answer, log: &[u8], outcome: &[u8]) {
+    match answer {
         Answer::Refused(refusal) => say_refusal(refusal),
         Answer::Ran(report) => {
-            if report.log <= log.len() {
-                let end = report.log;
-                say(&log[..end]);
-            }
-            if report.outcome <= outcome.len() {
-                let end = report.outcome;
-                say(&outcome[..end]);
-            }
+            say_start(log, report.log);
+            say_start(outcome, report.outcome);
         }
     }
-}
-
-// A script of so many bytes, if there are so many.
-fn run_read(
-    script: &mut [u8],
-    fuel: u32,
-    stack: &mut [u32],
-    exec: &mut [u32],
-    dict: &mut [u32],
-    cells: &mut [u32],
-    log: &mut [u8],
-    outcome: &mut [u8],
-) -> bool {
-    if io::read_full(STDIN_FILENO, script) < script.len() {
-        return false;
-    }
-    run_case(script, fuel, stack, exec, dict, cells, log, outcome);
     say(b"----\n");
-    true
 }
 
-// The next case, if there is one and it fits.
-fn run_next(
-    script: &mut [u8],
+fn run_case(
+    script: &[u8],
+    head: Head,
     stack: &mut [u32],
     exec: &mut [u32],
     dict: &mut [u32],
     cells: &mut [u32],
     log: &mut [u8],
     outcome: &mut [u8],
-) -> bool {
-    let mut head = [0u8; 32];
-    if io::read_full(STDIN_FILENO, &mut head) < 32 {
-        return false;
-    }
-    let fuel = number(&head, 0);
-    let a = number(&head, 1) as usize;
-    let b = number(&head, 2) as usize;
-    let c = number(&head, 3) as usize;
-    let d = number(&head, 4) as usize;
-    let e = number(&head, 5) as usize;
-    let f = number(&head, 6) as usize;
-    let n = number(&head, 7) as usize;
-    if stack.len() < a {
-        return false;
-    }
-    if exec.len() < b {
-        return false;
-    }
-    if dict.len() < c {
-        return false;
-    }
-    if cells.len() < d {
-        return false;
-    }
-    if log.len() < e {
-        return false;
-    }
-    if outcome.len() < f {
-        return false;
-    }
-    if script.len() < n {
-        return false;
-    }
-    run_read(
-        &mut script[..n],
-        fuel,
+)
+    requires { ⌜ Within head (now stack) (now exec) (now dict) (now cells) (now log) (now outcome) ⌝ }
+{
+    let a = head.stack;
+    let b = head.exec;
+    let c = head.dict;
+    let d = head.cells;
+    let e = head.log;
+    let f = head.outcome;
+    let answer = runner::run(
+        script,
+        head.fuel,
         &mut stack[..a],
         &mut exec[..b],
         &mut dict[..c],
         &mut cells[..d],
         &mut log[..e],
         &mut outcome[..f],
-    )
+    );
+    say_answer(answer, log, outcome);
 }
 
-// Nothing says that the input ends, so the turns are counted.
-fn run_all(
-    script: &mut [u8],
-    stack: &mut [u32],
-    exec: &mut [u32],
-    dict: &mut [u32],
-    cells: &mut [u32],
-    log: &mut [u8],
-    outcome: &mut [u8],
-) {
-    let mut left: u32 = 100_000;
-    while 0 < left && run_next(script, stack, exec, dict, cells, log, outcome) {
-        left -= 1;
-    }
-}
-
-fn main() {
-    let mut script = [0u8; SCRIPT];
-    let mut stack = [0u32; STACK];
-    let mut exec = [0u32; EXECUTION];
-    let mut dict = [0u32; DICTIONARY];
-    let mut cells = [0u32; CELLS];
-    let mut log = [0u8; LOG];
-    let mut outcome = [0u8; OUTCOME];
-    run_all(
-        &mut script,
+// What lies in the buffers before a run is of no account, so they are full.
+fn run_full(script: &[u8], head: Head)
+    requires { ⌜ Fits head ⌝ }
+{
+    let mut stack = [0xFFFF_FFFFu32; STACK];
+    let mut exec = [0xFFFF_FFFFu32; EXECUTION];
+    let mut dict = [0xFFFF_FFFFu32; DICTIONARY];
+    let mut cells = [0xFFFF_FFFFu32; CELLS];
+    let mut log = [0xFFu8; LOG];
+    let mut outcome = [0xFFu8; OUTCOME];
+    run_case(
+        script,
+        head,
         &mut stack,
         &mut exec,
         &mut dict,
@@ -181,4 +161,41 @@ fn main() {
         &mut log,
         &mut outcome,
     );
+}
+
+// A script of so many bytes, if there are so many.
+fn run_read(script: &mut [u8], head: Head) -> bool
+    requires { ⌜ Fits head ⌝ }
+{
+    if io::read_full(STDIN_FILENO, script) < script.len() {
+        return false;
+    }
+    run_full(script, head);
+    true
+}
+
+// The next case, if there is one.
+fn run_next(script: &mut [u8]) -> bool {
+    let head = read_head();
+    let n = head.script;
+    if !head.more {
+        return false;
+    }
+    if script.len() < n {
+        return false;
+    }
+    run_read(&mut script[..n], head)
+}
+
+// Nothing says that the input ends, so the turns are counted.
+fn run_all(script: &mut [u8]) {
+    let mut left: u32 = 100_000;
+    while 0 < left && run_next(script) {
+        left -= 1;
+    }
+}
+
+fn main() {
+    let mut script = [0u8; SCRIPT];
+    run_all(&mut script);
 }
