@@ -1,8 +1,6 @@
 // Runs scripts with the sizes that each names, to be compared with what the reference interpreter prints. On standard input a case is eight numbers of four
 // bytes, the lowest first (fuel; the words of stack, execution stack, dictionary and cells; the bytes of log, outcome and script), and then the script.
-ghost use mathlib.Core.Path.{_≡_};
-ghost use Prim.Native.Nat.{_+_, _≤_, _<_};
-ghost use lib.ListN.{length};
+ghost use Prim.Native.Nat.{_≤_, _<_};
 ghost use Rattle.run_list.specs.Heads.{Fits, Within};
 use libc::STDIN_FILENO;
 use libc::STDOUT_FILENO;
@@ -34,8 +32,8 @@ fn wide(b: u8) -> u32
 }
 
 // Number i of a case's head.
-fn number(head: &[u8], i: usize) -> u32
-    requires { ⌜ (i < 8) × (length (now head) ≡ 32) ⌝ }
+fn number(head: &[u8; 32], i: usize) -> u32
+    requires { ⌜ i < 8 ⌝ }
 {
     let at = 4 * i;
     wide(head[at])
@@ -45,8 +43,8 @@ fn number(head: &[u8], i: usize) -> u32
 }
 
 // Number i as a length, no longer than there is room for.
-fn size(head: &[u8], i: usize, most: usize) -> usize
-    requires { ⌜ (i < 8) × (length (now head) ≡ 32) ⌝ }
+fn size(head: &[u8; 32], i: usize, most: usize) -> usize
+    requires { ⌜ i < 8 ⌝ }
     ensures { λ r. ⌜ r ≤ most ⌝ }
 {
     let n = number(head, i) as usize;
