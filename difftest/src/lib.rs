@@ -13,6 +13,7 @@ mod lent;
 mod readings;
 mod shown;
 
+use floo_reference::setup::PREDEFINED_NAMES;
 use floo_reference::{run, Answer, Sizes};
 use lent::Lent;
 use random::Random;
@@ -131,7 +132,7 @@ pub(crate) fn sizes(random: &mut Random) -> Sizes {
     Sizes {
         stack,
         exec: slots(random, 4, 128),
-        dictionary: slots(random, 58, 512),
+        dictionary: slots(random, PREDEFINED_NAMES, 512),
         cells: slots(random, 1, 32_768),
         log: match random.below(40) {
             0 => 65_537,

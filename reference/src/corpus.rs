@@ -104,7 +104,7 @@ fn sizes_of(words: &str) -> Option<Question> {
         match key {
             "fuel" => fuel = number.parse().ok()?,
             "outcome" => outcome = Some(number.parse().ok()?),
-            name => *sizes.named(name)? = number.parse().ok()?,
+            name => sizes.set(name, number)?,
         }
     }
     sizes.outcome = outcome.unwrap_or(Sizes::least_outcome(sizes.stack));

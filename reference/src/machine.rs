@@ -124,7 +124,7 @@ impl Machine {
     }
 }
 
-/// The 54 operators under their names, and `[`, true, false and null: 58 names.
+/// The operators under their names, and `[`, true, false and null.
 fn predefined() -> Vec<Entry> {
     let entry = |name: &str, value| Entry {
         name: name.as_bytes().to_vec(),

@@ -53,7 +53,7 @@ fn parse(mut arguments: impl Iterator<Item = String>) -> Option<Options> {
             "fuel" => options.fuel = number.parse().ok()?,
             "outcome" => outcome = Some(number.parse().ok()?),
             "token" => options.token = Some(number.parse().ok()?),
-            name => *options.sizes.named(name)? = number.parse().ok()?,
+            name => options.sizes.set(name, &number)?,
         }
     }
     let least = Sizes::least_outcome(options.sizes.stack);

@@ -1,6 +1,8 @@
 //! The lent sizes and the refusals 1 to 9 (01, Setup).
 
 pub const LONGEST_SCRIPT: usize = 32_768;
+/// The operators, and `[`, true, false and null.
+pub const PREDEFINED_NAMES: usize = 58;
 const MOST_FUEL: u64 = 1_000_000;
 const LONGEST_LOG: usize = 65_536;
 
@@ -30,9 +32,9 @@ impl Default for Sizes {
 }
 
 impl Sizes {
-    /// A size by its name in options and corpus. The outcome is not among them: unless it is given,
+    /// A size by its name. The outcome is not among them: unless it is given,
     /// it goes by the stack.
-    pub fn named(&mut self, name: &str) -> Option<&mut usize> {
+    fn named(&mut self, name: &str) -> Option<&mut usize> {
         match name {
             "stack" => Some(&mut self.stack),
             "exec" => Some(&mut self.exec),
@@ -41,6 +43,19 @@ impl Sizes {
             "log" => Some(&mut self.log),
             _ => None,
         }
+    }
+
+    /// Sets a size by its name, as corpus and options write it: a number, or for the dictionary `+N` or `-N` over the
+    /// predefined names.
+    pub fn set(&mut self, name: &str, number: &str) -> Option<()> {
+        let size = self.named(name)?;
+        *size = match number.as_bytes().first()? {
+            b'+' | b'-' if name == "dictionary" => {
+                PREDEFINED_NAMES.checked_add_signed(number.parse().ok()?)?
+            }
+            _ => number.parse().ok()?,
+        };
+        Some(())
     }
 
     /// The sizes of lent buffers: "2 words for a stack slot, 8 for an execution slot, 12 for a
@@ -77,7 +92,7 @@ pub fn refusal(script: &[u8], fuel: u64, sizes: &Sizes) -> Option<u8> {
         fuel > MOST_FUEL,
         !(8..=256).contains(&sizes.stack),
         !(4..=128).contains(&sizes.exec),
-        !(58..=512).contains(&sizes.dictionary),
+        !(PREDEFINED_NAMES..=512).contains(&sizes.dictionary),
         !(1..=32_768).contains(&sizes.cells),
         sizes.log > LONGEST_LOG,
         sizes.outcome < Sizes::least_outcome(sizes.stack),

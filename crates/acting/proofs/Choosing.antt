@@ -11,6 +11,7 @@ use Rattle.semantics.specs.Values.{Result}
 use Rattle.semantics.specs.Machine as Floo
 use Rattle.semantics.specs.declared.Error.{Error}
 use Rattle.heap.specs.Word.{word}
+use Rattle.machine.specs.Words.{frameKind, frameTag, framePayload, frameCell, frameLeft}
 use Rattle.machine.specs.Rep.{Rep}
 use Rattle.machine.specs.Room.{lent, fitted}
 use Rattle.machine.specs.declared.Machine.{Machine}
@@ -18,7 +19,7 @@ use Rattle.machine.specs.declared.Did.{Did}
 use Rattle.machine.specs.declared.Did.the-variants.{Ok, Fail}
 use Rattle.machine.specs.FrameMoves.{frameDropped, ForgetsFrame}
 use Rattle.frames.specs.Moves.{resetWords, Turned, Advances}
-use Rattle.operators.specs.Titles.{performAt, Everywhere, DoesAll, EverywhereButLog, DoesButLog, DoesButSlots}
+use Rattle.operators.specs.Titles.{performAt, Everywhere, DoesAll, EverywhereButLog, DoesButLog}
 use Rattle.turns.specs.Turns.{resumed}
 use Rattle.acting.specs.Nexts.{Executes, Infrequent, NextIs}
 use Rattle.acting.specs.declared.Next.{Next}
@@ -36,12 +37,12 @@ same-words e i =
 
 pub pending-executes : {m left : Machine} {e : List ℕ}
     → 1 ≤ m .frames
-    → getD e (8 * (m .frames - 1)) 0 ≡ 0
-    → getD e (8 * (m .frames - 1) + 1) 0 ≡ 4
-    → getD e (8 * (m .frames - 1) + 2) 0 < 42
+    → frameKind e (m .frames - 1) ≡ 0
+    → frameTag e (m .frames - 1) ≡ 4
+    → framePayload e (m .frames - 1) < 42
     → ForgetsFrame m left
     → (c : List ℕ)
-    → Executes (getD e (8 * (m .frames - 1) + 2) 0) m left e e c
+    → Executes (framePayload e (m .frames - 1)) m left e e c
 pending-executes {m} {e = e} slots kind four few F c =
     record {
       few = few;
@@ -55,14 +56,14 @@ pending-executes {m} {e = e} slots kind four few F c =
 
 pub element-executes : {m : Machine} {e e₁ c : List ℕ}
     → 1 ≤ m .frames
-    → (kind : getD e (8 * (m .frames - 1)) 0 ≡ 1)
-    → 1 ≤ getD e (8 * (m .frames - 1) + 4) 0
+    → (kind : frameKind e (m .frames - 1) ≡ 1)
+    → 1 ≤ frameLeft e (m .frames - 1)
     → Turned m e e₁
     → length e₁ ≡ length e
     → Advances m e e₁ c
-    → word c (getD e (8 * (m .frames - 1) + 3) 0) 0 ≡ 4
+    → word c (frameCell e (m .frames - 1)) 0 ≡ 4
     → {p : ℕ}
-    → p ≡ word c (getD e (8 * (m .frames - 1) + 3) 0) 1
+    → p ≡ word c (frameCell e (m .frames - 1)) 1
     → p < 42
     → Executes p m m e e₁ c
 element-executes {m} {e} {e₁} {c} slots kind left T long A four {p} number few =
@@ -81,8 +82,8 @@ element-executes {m} {e} {e₁} {c} slots kind left T long A four {p} number few
 
 -- A pending object that is no frequent operator.
 pub pending-other : {m : Machine} {e : List ℕ}
-    → getD e (8 * (m .frames - 1)) 0 ≡ 0
-    → (getD e (8 * (m .frames - 1) + 1) 0 ≡ 4 → 42 ≤ getD e (8 * (m .frames - 1) + 2) 0)
+    → frameKind e (m .frames - 1) ≡ 0
+    → (frameTag e (m .frames - 1) ≡ 4 → 42 ≤ framePayload e (m .frames - 1))
     → (c : List ℕ)
     → (e ≡ e) × Infrequent m e c
 pending-other kind rare c = (refl, record { pending = λ k. rare; element = λ k some four. absurd (omega (arith, kind, k)) })
@@ -110,7 +111,7 @@ module _ {m : Machine} {e e₁ c : List ℕ} {next : Next} (N : NextIs m e e₁ 
 
       pub frequent-failed : {x : Error} {e₃ : List ℕ}
           → did ≡ Fail x
-          → e₃ ≡ resetWords (getD e (8 * (m .frames - 1)) 0) (getD e (8 * (m .frames - 1) + 3) 0) (getD e (8 * (m .frames - 1) + 4) 0) m e₂
+          → e₃ ≡ resetWords (frameKind e (m .frames - 1)) (frameCell e (m .frames - 1)) (frameLeft e (m .frames - 1)) m e₂
           → DoesAll resumed m s s′ e e₃ d d′ c c′ l l (Fail x)
       frequent-failed {x} g z =
           let D = subst (DoesAll (performAt number) left s s′ e₁ e₂ d d′ c c′ l l) g (E .all l) in
@@ -137,9 +138,8 @@ module _ {m : Machine} {e e₁ c : List ℕ} {next : Next} (N : NextIs m e e₁ 
 
 -- ---- a rare operator, whose answer was made anew
 
-pub settled-does : {f : Floo.Machine → Result Floo.Machine} {m : Machine} {s s′ d d′ c c′ l l′ : List ℕ} {did r : Did}
+pub settled-does : {f : Floo.Machine → Result Floo.Machine} {m : Machine} {s s′ e e′ d d′ c c′ l l′ : List ℕ} {did r : Did}
     → r ≡ did
-    → DoesButSlots f m s s′ d d′ c c′ l l′ did
-    → (e : List ℕ)
-    → DoesAll f m s s′ e e d d′ c c′ l l′ r
-settled-does {f} {m} {s} {s′} {d} {d′} {c} {c′} {l} {l′} q D e = subst (DoesAll f m s s′ e e d d′ c c′ l l′) (sym q) (D .all e)
+    → DoesAll f m s s′ e e′ d d′ c c′ l l′ did
+    → DoesAll f m s s′ e e′ d d′ c c′ l l′ r
+settled-does {f} {m} {s} {s′} {e} {e′} {d} {d′} {c} {c′} {l} {l′} q D = subst (DoesAll f m s s′ e e′ d d′ c c′ l l′) (sym q) D

@@ -5,9 +5,10 @@ use mathlib.Core.Path.{_≡_, refl, sym, ap, _∙_, subst}
 use mathlib.Core.Bool.{true}
 use mathlib.Core.List.{List, [], _∷_}
 use mathlib.Core.Option.{some}
-use Prim.Native.Nat.{ℕ, suc, _+_, _-_, _*_, _/_, _≤_, _<_}
+use Prim.Native.Nat.{ℕ, suc, _-_, _/_, _≤_, _<_}
 use native.Mathlib.Omega.{arith}
-use lib.ListN.{length, getD, getElem?}
+use lib.ListN.{length, getElem?}
+use Rattle.semantics.specs.Sizes.{operatorCount}
 use Rattle.semantics.specs.Values.{Value, operator, name, Object, Result, null}
 use Rattle.semantics.specs.Machine as Floo
 use Rattle.semantics.specs.Machine.{Frame, pending, running, withExec, elementsOf, object}
@@ -20,6 +21,7 @@ use Rattle.heap.specs.Word.{word}
 use Rattle.heap.specs.Shape.{Ghost, cells}
 use Rattle.store.specs.Rep.{titles, element, objectAt}
 use Rattle.store.proofs.Standing.{is-operator, is-executable}
+use Rattle.machine.specs.Words.{frameKind, frameTag, framePayload, frameCell, frameLeft}
 use Rattle.machine.specs.Places.{keys}
 use Rattle.machine.specs.Rep.{Rep, IsIn, Answer, FrameIs, a-pending, a-running, a-looping, a-repeating, a-counting}
 use Rattle.machine.specs.Room.{lent, fitted}
@@ -73,32 +75,32 @@ module _ {m : Machine} {s e d c l : List ℕ} {μ : Floo.Machine} (R : Rep m s e
   abbrev rest : List Frame
   rest = slot R k h .rest
 
-  module _ (kind : getD e (8 * k) 0 ≡ 0) where
-    waits : (v : Value) × (slot R k h .top ≡ pending v) × IsIn (R .world) μ v (getD e (8 * k + 1) 0) (getD e (8 * k + 2) 0)
+  module _ (kind : frameKind e k ≡ 0) where
+    waits : (v : Value) × (slot R k h .top ≡ pending v) × IsIn (R .world) μ v (frameTag e k) (framePayload e k)
     waits = is-pending (slot R k h .words) kind
 
-    pub operator-waits : getD e (8 * k + 1) 0 ≡ 4
-        → (o : List ℕ) × (getElem? titles (getD e (8 * k + 2) 0) ≡ some o) × (μ .exec ≡ pending (operator o) ∷ rest)
+    pub operator-waits : frameTag e k ≡ 4
+        → (o : List ℕ) × (getElem? titles (framePayload e k) ≡ some o) × (μ .exec ≡ pending (operator o) ∷ rest)
     operator-waits four =
         let w = is-operator (waits .2 .stands) four in
         (w .0, w .2, slot R k h .split ∙ ap (λ f. f ∷ rest) (waits .1 ∙ ap pending (w .1)))
 
-    pub name-waits : getD e (8 * k + 1) 0 ≡ 6
-        → (n : List ℕ) × (getElem? (keys μ) (getD e (8 * k + 2) 0) ≡ some n) × (μ .exec ≡ pending (name true n) ∷ rest)
+    pub name-waits : frameTag e k ≡ 6
+        → (n : List ℕ) × (getElem? (keys μ) (framePayload e k) ≡ some n) × (μ .exec ≡ pending (name true n) ∷ rest)
     name-waits six =
         let w = is-executable (waits .2 .stands) six in
         (w .0, w .2, slot R k h .split ∙ ap (λ f. f ∷ rest) (waits .1 ∙ ap pending (w .1)))
 
-    pub operator-fits : getD e (8 * k + 1) 0 ≡ 4 → fitted (lent s e d c l) resumed μ ≡ fitted (lent s e d c l) (performAt (getD e (8 * k + 2) 0)) (frameDropped μ)
+    pub operator-fits : frameTag e k ≡ 4 → fitted (lent s e d c l) resumed μ ≡ fitted (lent s e d c l) (performAt (framePayload e k)) (frameDropped μ)
     unfolding resume execute
     operator-fits four =
         let w = operator-waits four in
-        let f = performAt (getD e (8 * k + 2) 0) in
+        let f = performAt (framePayload e k) in
         via (lent s e d c l) μ (frameDropped μ) resumed f
         (resumed-is μ (w .2) ∙ ap (λ g. g (withExec rest μ)) (sym (performs _ (w .0) (w .1))) ∙ ap f (sym (dropped-is μ (w .2))))
         (dropped-store μ) (roots-dropped μ (operator-none (w .0)) (w .2))
 
-    name-fits : (six : getD e (8 * k + 1) 0 ≡ 6)
+    name-fits : (six : frameTag e k ≡ 6)
         → fitted (lent s e d c l) resumed μ ≡ fitted (lent s e d c l) (executableTaken (name-waits six .0)) (frameDropped μ)
     unfolding resume execute executableTaken
     name-fits six =
@@ -108,30 +110,30 @@ module _ {m : Machine} {s e d c l : List ℕ} {μ : Floo.Machine} (R : Rep m s e
         (dropped-store μ) (roots-dropped μ (name-none (w .0)) (w .2))
 
 -- What is asked before it acts.
-module _ {m left : Machine} {s e d c l : List ℕ} {μ : Floo.Machine} (R : Rep m s e d c l μ) (slots : 1 ≤ m .frames) (kind : getD e (8 * (m .frames - 1)) 0 ≡ 0) (F : ForgetsFrame m left) where
-  pub operator-ready : getD e (8 * (m .frames - 1) + 1) 0 ≡ 4 → (getD e (8 * (m .frames - 1) + 2) 0 < 54) × Everywhere left s e d c l
+module _ {m left : Machine} {s e d c l : List ℕ} {μ : Floo.Machine} (R : Rep m s e d c l μ) (slots : 1 ≤ m .frames) (kind : frameKind e (m .frames - 1) ≡ 0) (F : ForgetsFrame m left) where
+  pub operator-ready : frameTag e (m .frames - 1) ≡ 4 → (framePayload e (m .frames - 1) < operatorCount) × Everywhere left s e d c l
   operator-ready four =
       let w = operator-waits R (m .frames - 1) (omega (arith, slots)) kind four in
       (operator-number _ (w .1), (frameDropped μ, F .moves s e d c l μ R (omega (arith, four))))
 
-  pub name-ready : getD e (8 * (m .frames - 1) + 1) 0 ≡ 6 → NamedBindings (getD e (8 * (m .frames - 1) + 2) 0) left e d c
+  pub name-ready : frameTag e (m .frames - 1) ≡ 6 → NamedBindings (framePayload e (m .frames - 1)) left e d c
   name-ready six =
       let w = name-waits R (m .frames - 1) (omega (arith, slots)) kind six in (
         s,
         l,
         frameDropped μ,
         w .0,
-        subst (λ ks. getElem? ks (getD e (8 * (m .frames - 1) + 2) 0) ≡ some (w .0)) (sym (dropped-keys μ)) (w .1),
+        subst (λ ks. getElem? ks (framePayload e (m .frames - 1)) ≡ some (w .0)) (sym (dropped-keys μ)) (w .1),
         F .moves s e d c l μ R (omega (arith, six)),
       )
 
 -- What the operator promises of the machine without the slot, the step promises.
 pub operator-does : {m left : Machine} {s s′ e e′ d d′ c c′ l l′ : List ℕ} (r : Did)
     → 1 ≤ m .frames
-    → getD e (8 * (m .frames - 1)) 0 ≡ 0
-    → getD e (8 * (m .frames - 1) + 1) 0 ≡ 4
+    → frameKind e (m .frames - 1) ≡ 0
+    → frameTag e (m .frames - 1) ≡ 4
     → ForgetsFrame m left
-    → DoesAll (performAt (getD e (8 * (m .frames - 1) + 2) 0)) left s s′ e e′ d d′ c c′ l l′ r
+    → DoesAll (performAt (framePayload e (m .frames - 1))) left s s′ e e′ d d′ c c′ l l′ r
     → DoesAll resumed m s s′ e e′ d d′ c c′ l l′ r
 operator-does {m} {s = s} {s′ = s′} {e = e} {e′ = e′} {d = d} {d′ = d′} {c = c} {c′ = c′} {l = l} {l′ = l′} r slots kind four F D =
     record {
@@ -143,10 +145,10 @@ operator-does {m} {s = s} {s′ = s′} {e = e} {e′ = e′} {d = d} {d′ = d�
 
 pub name-does : {m left : Machine} {e e′ d c c′ : List ℕ} (r : Did)
     → 1 ≤ m .frames
-    → getD e (8 * (m .frames - 1)) 0 ≡ 0
-    → getD e (8 * (m .frames - 1) + 1) 0 ≡ 6
+    → frameKind e (m .frames - 1) ≡ 0
+    → frameTag e (m .frames - 1) ≡ 6
     → ForgetsFrame m left
-    → DoesNamed (getD e (8 * (m .frames - 1) + 2) 0) left e e′ d c c′ r
+    → DoesNamed (framePayload e (m .frames - 1)) left e e′ d c c′ r
     → DoesBinding resumed m e e′ d c c′ r
 name-does {m} {e = e} {e′ = e′} {d = d} {c = c} {c′ = c′} r slots kind six F D =
     record {
@@ -154,7 +156,7 @@ name-does {m} {e = e} {e′ = e′} {d = d} {c = c} {c′ = c′} r slots kind s
           let w = name-waits R (m .frames - 1) (omega (arith, slots)) kind six in
           alike (λ m′. Rep m′ s e′ d c′ l) ((e′ ≡ e) × (c′ ≡ c)) r (name-fits R (m .frames - 1) (omega (arith, slots)) kind six)
           (D .does s l (frameDropped μ) (F .moves s e d c l μ R (omega (arith, six))) (w .0)
-          (subst (λ ks. getElem? ks (getD e (8 * (m .frames - 1) + 2) 0) ≡ some (w .0)) (sym (dropped-keys μ)) (w .1)));
+          (subst (λ ks. getElem? ks (framePayload e (m .frames - 1)) ≡ some (w .0)) (sym (dropped-keys μ)) (w .1)));
     }
 
 -- ---- the next element of a procedure
@@ -176,7 +178,7 @@ unfolding treat isProcedure execute executableTaken
 treats-name n μ = refl
 
 module _ {m : Machine} {s e d c l : List ℕ} {μ : Floo.Machine} (R : Rep m s e d c l μ) (k : ℕ) (h : m .frames ≡ suc k)
-    (kind : getD e (8 * k) 0 ≡ 1) (left : 1 ≤ getD e (8 * k + 4) 0) where
+    (kind : frameKind e k ≡ 1) (left : 1 ≤ frameLeft e k) where
   pub place : (i : ℕ) × (j : ℕ) × (slot R k h .top ≡ running i j)
   place = kind-runs kind (slot R k h .words)
 
@@ -189,7 +191,7 @@ module _ {m : Machine} {s e d c l : List ℕ} {μ : Floo.Machine} (R : Rep m s e
   abbrev value : Value
   value = element (μ .store) (place .0) (place .1)
 
-  pub value-words : IsIn (R .world) μ value (word c (getD e (8 * k + 3) 0) 0) (word c (getD e (8 * k + 3) 0) 1)
+  pub value-words : IsIn (R .world) μ value (word c (frameCell e k) 0) (word c (frameCell e k) 1)
   value-words = element-words R k h (place .0) (place .1) at-top left
 
   abbrev moved : Floo.Machine
@@ -207,20 +209,20 @@ module _ {m : Machine} {s e d c l : List ℕ} {μ : Floo.Machine} (R : Rep m s e
   moved-fits : (f : Floo.Machine → Result Floo.Machine) → treat value moved ≡ f moved → fitted (lent s e d c l) resumed μ ≡ fitted (lent s e d c l) f moved
   moved-fits f q = via (lent s e d c l) μ moved resumed f (element-resumed ∙ q) (moved-store _ μ) (roots-moved μ split)
 
-  pub operator-next : word c (getD e (8 * k + 3) 0) 0 ≡ 4
-      → fitted (lent s e d c l) resumed μ ≡ fitted (lent s e d c l) (performAt (word c (getD e (8 * k + 3) 0) 1)) moved
+  pub operator-next : word c (frameCell e k) 0 ≡ 4
+      → fitted (lent s e d c l) resumed μ ≡ fitted (lent s e d c l) (performAt (word c (frameCell e k) 1)) moved
   operator-next four =
       let w = is-operator (value-words .stands) four in
-      moved-fits (performAt (word c (getD e (8 * k + 3) 0) 1))
+      moved-fits (performAt (word c (frameCell e k) 1))
       (ap (λ v. treat v moved) (w .1) ∙ treats-operator (w .0) moved ∙ ap (λ g. g moved) (sym (performs _ (w .0) (w .2))))
 
-  pub name-next : word c (getD e (8 * k + 3) 0) 0 ≡ 6
-      → (n : List ℕ) × (getElem? (keys moved) (word c (getD e (8 * k + 3) 0) 1) ≡ some n)
+  pub name-next : word c (frameCell e k) 0 ≡ 6
+      → (n : List ℕ) × (getElem? (keys moved) (word c (frameCell e k) 1) ≡ some n)
       × (fitted (lent s e d c l) resumed μ ≡ fitted (lent s e d c l) (executableTaken n) moved)
   name-next six =
       let w = is-executable (value-words .stands) six in (
         w .0,
-        subst (λ ks. getElem? ks (word c (getD e (8 * k + 3) 0) 1) ≡ some (w .0)) (sym (moved-keys _ μ)) (w .2),
+        subst (λ ks. getElem? ks (word c (frameCell e k) 1) ≡ some (w .0)) (sym (moved-keys _ μ)) (w .2),
         moved-fits (executableTaken (w .0)) (ap (λ v. treat v moved) (w .1) ∙ treats-name (w .0) moved),
       )
 
@@ -231,19 +233,19 @@ lent-same s d c l e e₁ q = ap (λ n. record { stackSlots = length s / 2; execS
 
 -- A procedure that had moved on is put back.
 pub back : (m : Machine) (e e₁ e′ e″ : List ℕ)
-    → getD e (8 * (m .frames - 1)) 0 ≡ 1
+    → frameKind e (m .frames - 1) ≡ 1
     → Turned m e e₁
     → e′ ≡ e₁
-    → e″ ≡ resetWords 1 (getD e (8 * (m .frames - 1) + 3) 0) (getD e (8 * (m .frames - 1) + 4) 0) m e′
+    → e″ ≡ resetWords 1 (frameCell e (m .frames - 1)) (frameLeft e (m .frames - 1)) m e′
     → e″ ≡ e
 back m e e₁ e′ e″ kind T q z =
-    z ∙ ap (resetWords 1 (getD e (8 * (m .frames - 1) + 3) 0) (getD e (8 * (m .frames - 1) + 4) 0) m) (q ∙ T .2) ∙ undone m e (T .0) (T .1) kind
+    z ∙ ap (resetWords 1 (frameCell e (m .frames - 1)) (frameLeft e (m .frames - 1)) m) (q ∙ T .2) ∙ undone m e (T .0) (T .1) kind
 
 -- The procedure has moved on, the element acts, and the procedure is put back where it fails.
-module _ (m : Machine) (e e₁ e′ d c c′ : List ℕ) (slots : 1 ≤ m .frames) (kind : getD e (8 * (m .frames - 1)) 0 ≡ 1)
-    (left : 1 ≤ getD e (8 * (m .frames - 1) + 4) 0) (T : Turned m e e₁) (long : length e₁ ≡ length e) (A : Advances m e e₁ c) where
+module _ (m : Machine) (e e₁ e′ d c c′ : List ℕ) (slots : 1 ≤ m .frames) (kind : frameKind e (m .frames - 1) ≡ 1)
+    (left : 1 ≤ frameLeft e (m .frames - 1)) (T : Turned m e e₁) (long : length e₁ ≡ length e) (A : Advances m e e₁ c) where
   abbrev cell : ℕ
-  cell = getD e (8 * (m .frames - 1) + 3) 0
+  cell = frameCell e (m .frames - 1)
 
   module _ (s l : List ℕ) (μ : Floo.Machine) (R : Rep m s e d c l μ) where
     abbrev pub after : Floo.Machine
@@ -261,10 +263,10 @@ module _ (m : Machine) (e e₁ e′ d c c′ : List ℕ) (slots : 1 ≤ m .frame
     pub fits : (μ : Floo.Machine) (R : Rep m s e d c l μ) → fitted (lent s e d c l) resumed μ ≡ fitted (lent s e₁ d c l) (performAt (word c cell 1)) (after s l μ R)
     fits μ R = same-room s l μ R (performAt (word c cell 1)) (operator-next R (m .frames - 1) (omega (arith, slots)) kind left four)
 
-    pub element-ready : {μ : Floo.Machine} → Rep m s e d c l μ → (p < 54) × Everywhere m s e₁ d c l
+    pub element-ready : {μ : Floo.Machine} → Rep m s e d c l μ → (p < operatorCount) × Everywhere m s e₁ d c l
     element-ready {μ} R =
         let w = is-operator (value-words R (m .frames - 1) (omega (arith, slots)) kind left .stands) four in
-        (subst (λ q. q < 54) (sym number) (operator-number _ (w .2)), (after s l μ R, stands s l μ R))
+        (subst (λ q. q < operatorCount) (sym number) (operator-number _ (w .2)), (after s l μ R, stands s l μ R))
 
     pub element-performs : {did : Did} {r : Machine}
         → did ≡ Ok r
@@ -281,7 +283,7 @@ module _ (m : Machine) (e e₁ e′ d c c′ : List ℕ) (slots : 1 ≤ m .frame
     pub element-fails : {did : Did} {x : Error} {e″ : List ℕ}
         → did ≡ Fail x
         → DoesAll (performAt p) m s s′ e₁ e′ d d′ c c′ l l′ did
-        → e″ ≡ resetWords 1 cell (getD e (8 * (m .frames - 1) + 4) 0) m e′
+        → e″ ≡ resetWords 1 cell (frameLeft e (m .frames - 1)) m e′
         → DoesAll resumed m s s′ e e″ d d′ c c′ l l′ (Fail x)
     element-fails {x = x} g E z =
         let D = subst (λ q. DoesAll (performAt q) m s s′ e₁ e′ d d′ c c′ l l′ (Fail x)) number (subst (DoesAll (performAt p) m s s′ e₁ e′ d d′ c c′ l l′) g E) in
@@ -317,7 +319,7 @@ module _ (m : Machine) (e e₁ e′ d c c′ : List ℕ) (slots : 1 ≤ m .frame
     pub element-unnamed : {did : Did} {x : Error} {e″ : List ℕ}
         → did ≡ Fail x
         → DoesNamed p m e₁ e′ d c c′ did
-        → e″ ≡ resetWords 1 cell (getD e (8 * (m .frames - 1) + 4) 0) m e′
+        → e″ ≡ resetWords 1 cell (frameLeft e (m .frames - 1)) m e′
         → DoesBinding resumed m e e″ d c c′ (Fail x)
     element-unnamed {x = x} g E z =
         let D = subst (λ q. DoesNamed q m e₁ e′ d c c′ (Fail x)) slot-is (subst (DoesNamed p m e₁ e′ d c c′) g E) in
@@ -342,10 +344,10 @@ binding-all (Ok m′) D s l = record { does = λ μ R. D .does s l μ R; rest = 
 -- A kind from 2 on that is neither 2 nor 3 is 4.
 pub for-kind : {m : Machine} {s e d c l : List ℕ} {μ : Floo.Machine} → Rep m s e d c l μ
     → 1 ≤ m .frames
-    → 2 ≤ getD e (8 * (m .frames - 1)) 0
-    → (getD e (8 * (m .frames - 1)) 0 ≡ 2 → ⊥)
-    → (getD e (8 * (m .frames - 1)) 0 ≡ 3 → ⊥)
-    → getD e (8 * (m .frames - 1)) 0 ≡ 4
+    → 2 ≤ frameKind e (m .frames - 1)
+    → (frameKind e (m .frames - 1) ≡ 2 → ⊥)
+    → (frameKind e (m .frames - 1) ≡ 3 → ⊥)
+    → frameKind e (m .frames - 1) ≡ 4
 for-kind {m} R slots low two three = by (slot R (m .frames - 1) (omega (arith, slots)) .words) low two three
   where
     by : {A : Value → ℕ → ℕ → Type 0} {g : Ghost} {store : List Object} {f : Frame} {kind t p a b c : ℕ}

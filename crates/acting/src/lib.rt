@@ -3,7 +3,7 @@
 ghost use mathlib.Core.Path.{_≡_};
 ghost use mathlib.Core.List.{List};
 ghost use Prim.Native.Nat.{ℕ, _+_, _-_, _*_, _≤_};
-ghost use lib.ListN.{getD};
+ghost use Rattle.machine.specs.Words.{frameKind, frameTag, frameCell, frameLeft};
 ghost use Rattle.heap.specs.Word.{word};
 ghost use Rattle.machine.specs.FrameMoves.{Somewhere};
 ghost use Rattle.frames.specs.Moves.{SomewhereAll};
@@ -17,11 +17,16 @@ use frames::PENDING;
 use frames::REPEAT;
 use frames::RUNNING;
 use machine::Did;
+use machine::FRAME_CELL;
+use machine::FRAME_LEFT;
+use machine::FRAME_PAYLOAD;
+use machine::FRAME_TAG;
 use machine::Machine;
 use machine::TAG_EXECUTABLE;
 use machine::TAG_OPERATOR;
 use machine::TAG_PROCEDURE;
 use operators::RARE;
+use semantics::EXEC_WIDTH;
 
 // The operator that a step executes, if it is one of the frequent, with the state in which it does: its slot has gone, or the procedure has moved on.
 enum Next {
@@ -43,9 +48,9 @@ pub fn act(
     ensures { λ r. ⌜ DoesAll resumed m (now (stack .entry)) (now (stack .exit)) (now (exec .entry)) (now (exec .exit)) (now (dict .entry)) (now (dict .exit)) (now (cells .entry)) (now (cells .exit)) (now (log .entry)) (now (log .exit)) r ⌝ }
 {
     let k = m.frames - 1;
-    let kind = exec[8 * k];
-    let c = exec[8 * k + 3];
-    let left = exec[8 * k + 4];
+    let kind = exec[EXEC_WIDTH * k];
+    let c = exec[EXEC_WIDTH * k + FRAME_CELL];
+    let left = exec[EXEC_WIDTH * k + FRAME_LEFT];
     match next_frequent(m, exec, cells) {
         Next::Frequent(number, after) => {
             match operators::frequent(number, after, stack, exec, dict, cells) {
@@ -67,7 +72,7 @@ fn next_frequent(m: Machine, exec: &mut [u32], cells: &[u32]) -> Next
     ensures { λ r. ⌜ NextIs m (now (exec .entry)) (now (exec .exit)) (now (cells .entry)) r ⌝ }
 {
     let k = m.frames - 1;
-    let kind = exec[8 * k];
+    let kind = exec[EXEC_WIDTH * k];
     if kind == PENDING {
         return frequent_pending(m, exec);
     }
@@ -79,12 +84,12 @@ fn next_frequent(m: Machine, exec: &mut [u32], cells: &[u32]) -> Next
 
 // One that is pending.
 fn frequent_pending(m: Machine, exec: &[u32]) -> Next
-    requires { ⌜ (1 ≤ m .frames) × (getD (now exec) (8 * (m .frames - 1)) 0 ≡ 0) × ((c : List ℕ) × Somewhere m (now exec) c) ⌝ }
+    requires { ⌜ (1 ≤ m .frames) × (frameKind (now exec) (m .frames - 1) ≡ 0) × ((c : List ℕ) × Somewhere m (now exec) c) ⌝ }
     ensures { λ r. ⌜ ((c : List ℕ) → NextIs m (now (exec .entry)) (now (exec .entry)) c r) ⌝ }
 {
     let k = m.frames - 1;
-    let number = exec[8 * k + 2];
-    if exec[8 * k + 1] != TAG_OPERATOR {
+    let number = exec[EXEC_WIDTH * k + FRAME_PAYLOAD];
+    if exec[EXEC_WIDTH * k + FRAME_TAG] != TAG_OPERATOR {
         return Next::Other;
     }
     if RARE <= number {
@@ -95,12 +100,12 @@ fn frequent_pending(m: Machine, exec: &[u32]) -> Next
 
 // One that is the next element of the running procedure, which moves on.
 fn frequent_element(m: Machine, exec: &mut [u32], cells: &[u32]) -> Next
-    requires { ⌜ (1 ≤ m .frames) × (getD (now exec) (8 * (m .frames - 1)) 0 ≡ 1) × Somewhere m (now exec) (now cells) ⌝ }
+    requires { ⌜ (1 ≤ m .frames) × (frameKind (now exec) (m .frames - 1) ≡ 1) × Somewhere m (now exec) (now cells) ⌝ }
     ensures { λ r. ⌜ NextIs m (now (exec .entry)) (now (exec .exit)) (now (cells .entry)) r ⌝ }
 {
     let k = m.frames - 1;
-    let c = exec[8 * k + 3];
-    let left = exec[8 * k + 4];
+    let c = exec[EXEC_WIDTH * k + FRAME_CELL];
+    let left = exec[EXEC_WIDTH * k + FRAME_LEFT];
     if left == 0 {
         return Next::Other;
     }
@@ -128,7 +133,7 @@ fn other(
     ensures { λ r. ⌜ DoesAll resumed m (now (stack .entry)) (now (stack .exit)) (now (exec .entry)) (now (exec .exit)) (now (dict .entry)) (now (dict .exit)) (now (cells .entry)) (now (cells .exit)) (now (log .entry)) (now (log .exit)) r ⌝ }
 {
     let k = m.frames - 1;
-    let kind = exec[8 * k];
+    let kind = exec[EXEC_WIDTH * k];
     if kind == PENDING {
         return pending(m, stack, exec, dict, cells, log);
     }
@@ -147,15 +152,15 @@ fn pending(
     cells: &mut [u32],
     log: &mut [u8],
 ) -> Did
-    requires { ⌜ (1 ≤ m .frames) × (getD (now exec) (8 * (m .frames - 1)) 0 ≡ 0) × Infrequent m (now exec) (now cells) × Everywhere m (now stack) (now exec) (now dict) (now cells) (now log) ⌝ }
+    requires { ⌜ (1 ≤ m .frames) × (frameKind (now exec) (m .frames - 1) ≡ 0) × Infrequent m (now exec) (now cells) × Everywhere m (now stack) (now exec) (now dict) (now cells) (now log) ⌝ }
     ensures { λ r. ⌜ DoesAll resumed m (now (stack .entry)) (now (stack .exit)) (now (exec .entry)) (now (exec .exit)) (now (dict .entry)) (now (dict .exit)) (now (cells .entry)) (now (cells .exit)) (now (log .entry)) (now (log .exit)) r ⌝ }
 {
     let k = m.frames - 1;
-    let tag = exec[8 * k + 1];
-    let pay = exec[8 * k + 2];
+    let tag = exec[EXEC_WIDTH * k + FRAME_TAG];
+    let pay = exec[EXEC_WIDTH * k + FRAME_PAYLOAD];
     if tag == TAG_OPERATOR {
         let left = m.forget_frame();
-        return operators::settled(operators::rare(pay, left, stack, dict, cells, log));
+        return operators::settled(operators::rare(pay, left, stack, exec, dict, cells, log));
     }
     if tag == TAG_EXECUTABLE {
         return name_pending(m, exec, dict, cells);
@@ -168,11 +173,11 @@ fn pending(
 
 // The pending name's binding takes its place.
 fn name_pending(m: Machine, exec: &mut [u32], dict: &[u32], cells: &mut [u32]) -> Did
-    requires { ⌜ (1 ≤ m .frames) × (getD (now exec) (8 * (m .frames - 1)) 0 ≡ 0) × (getD (now exec) (8 * (m .frames - 1) + 1) 0 ≡ 6) × Bindings m (now exec) (now dict) (now cells) ⌝ }
+    requires { ⌜ (1 ≤ m .frames) × (frameKind (now exec) (m .frames - 1) ≡ 0) × (frameTag (now exec) (m .frames - 1) ≡ 6) × Bindings m (now exec) (now dict) (now cells) ⌝ }
     ensures { λ r. ⌜ DoesBinding resumed m (now (exec .entry)) (now (exec .exit)) (now (dict .entry)) (now (cells .entry)) (now (cells .exit)) r ⌝ }
 {
     let k = m.frames - 1;
-    let slot = exec[8 * k + 2] as usize;
+    let slot = exec[EXEC_WIDTH * k + FRAME_PAYLOAD] as usize;
     let left = m.forget_frame();
     taking::take_name(left, exec, dict, cells, slot)
 }
@@ -186,12 +191,12 @@ fn running(
     cells: &mut [u32],
     log: &mut [u8],
 ) -> Did
-    requires { ⌜ (1 ≤ m .frames) × (getD (now exec) (8 * (m .frames - 1)) 0 ≡ 1) × Infrequent m (now exec) (now cells) × Everywhere m (now stack) (now exec) (now dict) (now cells) (now log) ⌝ }
+    requires { ⌜ (1 ≤ m .frames) × (frameKind (now exec) (m .frames - 1) ≡ 1) × Infrequent m (now exec) (now cells) × Everywhere m (now stack) (now exec) (now dict) (now cells) (now log) ⌝ }
     ensures { λ r. ⌜ DoesAll resumed m (now (stack .entry)) (now (stack .exit)) (now (exec .entry)) (now (exec .exit)) (now (dict .entry)) (now (dict .exit)) (now (cells .entry)) (now (cells .exit)) (now (log .entry)) (now (log .exit)) r ⌝ }
 {
     let k = m.frames - 1;
-    let c = exec[8 * k + 3];
-    let left = exec[8 * k + 4];
+    let c = exec[EXEC_WIDTH * k + FRAME_CELL];
+    let left = exec[EXEC_WIDTH * k + FRAME_LEFT];
     if left == 0 {
         return turns::finish(m, exec, cells);
     }
@@ -214,17 +219,17 @@ fn perform_element(
     cells: &mut [u32],
     log: &mut [u8],
 ) -> Did
-    requires { ⌜ (1 ≤ m .frames) × (getD (now exec) (8 * (m .frames - 1)) 0 ≡ 1) × (1 ≤ getD (now exec) (8 * (m .frames - 1) + 4) 0) × (word (now cells) (getD (now exec) (8 * (m .frames - 1) + 3) 0) 0 ≡ 4) × (42 ≤ word (now cells) (getD (now exec) (8 * (m .frames - 1) + 3) 0) 1) × Everywhere m (now stack) (now exec) (now dict) (now cells) (now log) ⌝ }
+    requires { ⌜ (1 ≤ m .frames) × (frameKind (now exec) (m .frames - 1) ≡ 1) × (1 ≤ frameLeft (now exec) (m .frames - 1)) × (word (now cells) (frameCell (now exec) (m .frames - 1)) 0 ≡ 4) × (42 ≤ word (now cells) (frameCell (now exec) (m .frames - 1)) 1) × Everywhere m (now stack) (now exec) (now dict) (now cells) (now log) ⌝ }
     ensures { λ r. ⌜ DoesAll resumed m (now (stack .entry)) (now (stack .exit)) (now (exec .entry)) (now (exec .exit)) (now (dict .entry)) (now (dict .exit)) (now (cells .entry)) (now (cells .exit)) (now (log .entry)) (now (log .exit)) r ⌝ }
 {
     let k = m.frames - 1;
-    let c = exec[8 * k + 3];
-    let left = exec[8 * k + 4];
+    let c = exec[EXEC_WIDTH * k + FRAME_CELL];
+    let left = exec[EXEC_WIDTH * k + FRAME_LEFT];
     let number = heap::get(cells, c, 1);
     frames::advance(m, exec, cells);
     // lent on is a copy, so that the compiler can keep m itself in registers
     let whole = m;
-    match operators::rare(number, whole, stack, dict, cells, log) {
+    match operators::rare(number, whole, stack, exec, dict, cells, log) {
         Did::Ok(r) => Did::Ok(r),
         Did::Fail(e) => {
             frames::reset_top(m, exec, RUNNING, c, left);
@@ -235,12 +240,12 @@ fn perform_element(
 
 // The same of an executable name.
 fn name_element(m: Machine, exec: &mut [u32], dict: &[u32], cells: &mut [u32]) -> Did
-    requires { ⌜ (1 ≤ m .frames) × (getD (now exec) (8 * (m .frames - 1)) 0 ≡ 1) × (1 ≤ getD (now exec) (8 * (m .frames - 1) + 4) 0) × (word (now cells) (getD (now exec) (8 * (m .frames - 1) + 3) 0) 0 ≡ 6) × Bindings m (now exec) (now dict) (now cells) ⌝ }
+    requires { ⌜ (1 ≤ m .frames) × (frameKind (now exec) (m .frames - 1) ≡ 1) × (1 ≤ frameLeft (now exec) (m .frames - 1)) × (word (now cells) (frameCell (now exec) (m .frames - 1)) 0 ≡ 6) × Bindings m (now exec) (now dict) (now cells) ⌝ }
     ensures { λ r. ⌜ DoesBinding resumed m (now (exec .entry)) (now (exec .exit)) (now (dict .entry)) (now (cells .entry)) (now (cells .exit)) r ⌝ }
 {
     let k = m.frames - 1;
-    let c = exec[8 * k + 3];
-    let left = exec[8 * k + 4];
+    let c = exec[EXEC_WIDTH * k + FRAME_CELL];
+    let left = exec[EXEC_WIDTH * k + FRAME_LEFT];
     let slot = heap::get(cells, c, 1);
     frames::advance(m, exec, cells);
     match taking::take_name(m, exec, dict, cells, slot as usize) {
@@ -254,11 +259,11 @@ fn name_element(m: Machine, exec: &mut [u32], dict: &[u32], cells: &mut [u32]) -
 
 // A loop turns.
 fn looping(m: Machine, stack: &mut [u32], exec: &mut [u32], cells: &mut [u32]) -> Did
-    requires { ⌜ (1 ≤ m .frames) × (2 ≤ getD (now exec) (8 * (m .frames - 1)) 0) × SomewhereAll m (now stack) (now exec) (now cells) ⌝ }
+    requires { ⌜ (1 ≤ m .frames) × (2 ≤ frameKind (now exec) (m .frames - 1)) × SomewhereAll m (now stack) (now exec) (now cells) ⌝ }
     ensures { λ r. ⌜ DoesFrames resumed m (now (stack .entry)) (now (stack .exit)) (now (exec .entry)) (now (exec .exit)) (now (cells .entry)) (now (cells .exit)) r ⌝ }
 {
     let k = m.frames - 1;
-    let kind = exec[8 * k];
+    let kind = exec[EXEC_WIDTH * k];
     if kind == LOOP {
         return turns::loop_turn(m, exec, cells);
     }

@@ -118,7 +118,7 @@ module _ (f : Floo.Machine → Result Floo.Machine) (v : ℕ → Value) (o : ℕ
     maker-full many =
         full-heap (λ e d l μ R.
         let t = operand e d l μ R in
-        let deep : length (t .0) + 1 ≤ length s / 2 = omega (arith, stack-depth R, ap length (t .1), R .stack-room) in
+        let deep : length (t .0) + 1 ≤ length s / 2 = omega (arith, stack-depth R, ap length (t .1), R .rooms .stack-fits) in
         (pushNew v (o n) (withStack (t .0) μ), o n ∷ [], gives e d l μ R, push-makes v (o n) (t .0) μ, short (t .0) μ deep, omega (arith, many)))
       where
         short : (rest : List Value) (μ : Floo.Machine) → length rest + 1 ≤ length s / 2 → length (pushNew v (o n) (withStack rest μ) .stack) ≤ length s / 2

@@ -109,7 +109,7 @@ module _ {m : Machine} {s c : List ℕ} {n : ℕ} (M : MarkAbove m s n) where
     close-full many =
         full-heap (λ e d l μ R.
         let rest = drop (suc n) (μ .stack) in
-        let short : length rest + 1 ≤ length s / 2 = omega (arith, length-drop (suc n) (μ .stack), stack-depth R, R .stack-room, h) in (
+        let short : length rest + 1 ≤ length s / 2 = omega (arith, length-drop (suc n) (μ .stack), stack-depth R, R .rooms .stack-fits, h) in (
           pushNew (array false) (elements (above n μ)) (withStack rest μ),
           elements (above n μ) ∷ [],
           gives e d l μ R,

@@ -3,7 +3,7 @@
 use mathlib.Core.Path.{_≡_, refl, sym, ap, _∙_, subst}
 use mathlib.Core.Bool.{true, false}
 use mathlib.Core.List.{List}
-use Prim.Native.Nat.{ℕ, suc, _+_, _-_, _*_, _≤_, _<_}
+use Prim.Native.Nat.{ℕ, suc, _+_, _-_, _≤_, _<_}
 use native.Mathlib.Omega.{arith}
 use lib.ListN.{length, getD}
 use Rattle.semantics.specs.Values.{Value, integer, boolean, null, mark, operator, name, string, array, elements, text, ok, objectId}
@@ -13,6 +13,7 @@ use Rattle.semantics.specs.ObjectOperators.{isMark, lengthOf}
 use Rattle.semantics.specs.declared.Error.the-variants.{TypeCheck}
 use Rattle.store.specs.Rep.{objectAt}
 use Rattle.store.proofs.Standing.{is-integer}
+use Rattle.machine.specs.Words.{itemTag, itemPayload}
 use Rattle.machine.specs.Rep.{Rep, Somewhere}
 use Rattle.machine.specs.declared.Machine.{Machine}
 use Rattle.machine.specs.declared.OneInt.{OneInt}
@@ -67,10 +68,10 @@ tag-no-mark (array x i) q = refl
 -- ---- an integer
 
 module _ {m : Machine} {s : List ℕ} {i : ℕ} (k : ℕ) (h : m .depth ≡ k + suc i) where
-  pub no-integer : (getD s (2 * k) 0 ≡ 1 → ⊥) → ItemInt i m s (One.Bad TypeCheck)
+  pub no-integer : (itemTag s k ≡ 1 → ⊥) → ItemInt i m s (One.Bad TypeCheck)
   no-integer n = record { says = λ e d c l μ R. stands-no-integer (word-of R i k h .stands) n }
 
-  pub an-integer-is : getD s (2 * k) 0 ≡ 1 → ItemInt i m s (One.Got (getD s (2 * k + 1) 0))
+  pub an-integer-is : itemTag s k ≡ 1 → ItemInt i m s (One.Got (itemPayload s k))
   an-integer-is q = record { says = λ e d c l μ R. is-integer (word-of R i k h .stands) q }
 
 pub got-item : {i w : ℕ} {m : Machine} {s : List ℕ} {r : OneInt} → ItemInt i m s r → r ≡ One.Got w → IntegerItem i w m s

@@ -90,7 +90,7 @@ module _ {m : Machine} {s c : List ℕ} where
           length-append (reverse vs) (drop 1 (μ .stack)) ∙ omega (arith, length-reverse vs, length-drop 1 (μ .stack)) in (
             getD (μ .stack) 0 null ∷ (reverse vs ++ drop 1 (μ .stack)),
             loads e d l μ R,
-            omega (arith, h, long, stack-depth R, many e d l μ R, R .stack-room, deep),
+            omega (arith, h, long, stack-depth R, many e d l μ R, R .rooms .stack-fits, deep),
           ))
 
       pub aload-done : {m₁ : Machine} {s′ c₁ : List ℕ}

@@ -14,6 +14,7 @@ ghost use Rattle.elements.specs.Elements.{HasString, SomewhereThat, ItemTag, By
 ghost use Rattle.array_operators.specs.Items.{FetchesLength, longest, ItemInt, IntegerItem, ArrayItem, StringItem, ItemLength};
 ghost use Rattle.array_operators.specs.Items.{HasFirst, MarkAbove, popped, spreadOut, itemsPut};
 use machine::Did;
+use machine::ITEM_PAYLOAD;
 use machine::Machine;
 use machine::OneInt;
 use machine::TAG_ARRAY;
@@ -22,9 +23,8 @@ use machine::TAG_MARK;
 use machine::TAG_NULL;
 use machine::TAG_STRING;
 use semantics::Error;
-
-// The sign bit: from here on a word is a negative integer.
-const SIGN: u32 = 0x8000_0000;
+use semantics::STACK_WIDTH;
+use word::SIGN;
 
 // The most elements of an array, and bytes of a string.
 const LONGEST: u32 = 32767;
@@ -210,10 +210,10 @@ fn integer_at(m: Machine, stack: &[u32], i: usize) -> OneInt
     ensures { λ r. ⌜ ItemInt i m (now (stack .entry)) r ⌝ }
 {
     let k = m.depth - 1 - i;
-    if stack[2 * k] != TAG_INTEGER {
+    if stack[STACK_WIDTH * k] != TAG_INTEGER {
         return OneInt::Bad(Error::TypeCheck);
     }
-    OneInt::Got(stack[2 * k + 1])
+    OneInt::Got(stack[STACK_WIDTH * k + ITEM_PAYLOAD])
 }
 
 // The length of the array or string that is item i, of this tag.

@@ -3,9 +3,8 @@
 use mathlib.Core.Path.{_≡_, refl, sym, ap, _∙_}
 use mathlib.Core.Bool.{Bool, true, false}
 use mathlib.Core.List.{List, []}
-use Prim.Native.Nat.{ℕ, zero, suc, _+_, _-_, _*_, _≤_}
+use Prim.Native.Nat.{ℕ, zero, suc, _-_, _≤_}
 use native.Mathlib.Omega.{arith}
-use lib.ListN.{getD}
 use Rattle.semantics.specs.Words.{signed}
 use Rattle.semantics.specs.Values.{Value, Object, null}
 use Rattle.semantics.specs.Machine as Floo
@@ -15,6 +14,7 @@ use Rattle.semantics.specs.ListLaws.{no-element, an-element}
 use Rattle.heap.specs.Word.{word}
 use Rattle.heap.specs.Shape.{Ghost}
 use Rattle.store.specs.Rep.{objectAt, element, Stands}
+use Rattle.machine.specs.Words.{frameKind, frameTag, framePayload, frameCell, frameLeft}
 use Rattle.machine.specs.Places.{keys, texts}
 use Rattle.machine.specs.Rep.{Rep, IsIn, FrameIs, a-pending, a-running, a-looping, a-repeating, a-counting}
 use Rattle.machine.specs.declared.Machine.{Machine}
@@ -58,11 +58,11 @@ abbrev handed : Floo.Machine → List ℕ
 handed μ = resume (topFrame μ) (frameDropped μ) .command
 
 module _ {m : Machine} {s e d c l : List ℕ} {μ : Floo.Machine} (R : Rep m s e d c l μ) (k : ℕ) (h : m .frames ≡ suc k) where
-  loop-handed : (getD e (8 * k) 0 ≡ 0 → ⊥) → (getD e (8 * k) 0 ≡ 1 → ⊥) → handed μ ≡ []
+  loop-handed : (frameKind e k ≡ 0 → ⊥) → (frameKind e k ≡ 1 → ⊥) → handed μ ≡ []
   loop-handed x y = ap (λ f. resume f (frameDropped μ) .command) (top-is μ (slot R k h .split)) ∙ loop-silent (frameDropped μ) (slot R k h .words) x y
 
-  module _ (kind : getD e (8 * k) 0 ≡ 0) where
-    waits : (v : Value) × (slot R k h .top ≡ pending v) × IsIn (R .world) μ v (getD e (8 * k + 1) 0) (getD e (8 * k + 2) 0)
+  module _ (kind : frameKind e k ≡ 0) where
+    waits : (v : Value) × (slot R k h .top ≡ pending v) × IsIn (R .world) μ v (frameTag e k) (framePayload e k)
     waits = is-pending (slot R k h .words) kind
 
     waiting-handed : handed μ ≡ commandOf (waits .0)
@@ -70,13 +70,13 @@ module _ {m : Machine} {s e d c l : List ℕ} {μ : Floo.Machine} (R : Rep m s e
     waiting-handed = ap (λ f. resume f (frameDropped μ) .command) (top-is μ (slot R k h .split) ∙ waits .1)
 
   module _ (i j : ℕ) (is : topFrame μ ≡ running i j) where
-    ended-handed : getD e (8 * k + 4) 0 ≡ 0 → handed μ ≡ []
+    ended-handed : frameLeft e k ≡ 0 → handed μ ≡ []
     unfolding resume silent object frameDropped withExec
     ended-handed z =
         ap (λ f. resume f (frameDropped μ) .command) is
         ∙ rw (no-element (elementsOf (objectAt (μ .store) i)) j (omega (arith, top-runs R k h i j is .left, z))) refl
 
-    element-handed : 1 ≤ getD e (8 * k + 4) 0 → handed μ ≡ commandOf (element (μ .store) i j)
+    element-handed : 1 ≤ frameLeft e k → handed μ ≡ commandOf (element (μ .store) i j)
     unfolding resume object frameDropped withExec
     element-handed left =
         ap (λ f. resume f (frameDropped μ) .command) is
@@ -93,8 +93,8 @@ of-value : {t p : ℕ} {r : Command} {names : List (List ℕ)} {texts : List Boo
 of-value {names = names} {texts = texts} {ρ = ρ} {v = v} script C q s = let w = C .says script names texts ρ v s in (w .0 ∙ sym q, w .1)
 
 module _ {m : Machine} {e c : List ℕ} {r : Command} (some : 1 ≤ m .frames) where
-  pub pending-says : getD e (8 * (m .frames - 1)) 0 ≡ 0
-      → CommandIs (getD e (8 * (m .frames - 1) + 1) 0) (getD e (8 * (m .frames - 1) + 2) 0) r
+  pub pending-says : frameKind e (m .frames - 1) ≡ 0
+      → CommandIs (frameTag e (m .frames - 1)) (framePayload e (m .frames - 1)) r
       → Commands m e c r
   pending-says kind C =
       record {
@@ -104,10 +104,10 @@ module _ {m : Machine} {e c : List ℕ} {r : Command} (some : 1 ≤ m .frames) w
       }
 
   pub element-says : {t p : ℕ}
-      → getD e (8 * (m .frames - 1)) 0 ≡ 1
-      → (getD e (8 * (m .frames - 1) + 4) 0 ≡ 0 → ⊥)
-      → t ≡ word c (getD e (8 * (m .frames - 1) + 3) 0) 0
-      → p ≡ word c (getD e (8 * (m .frames - 1) + 3) 0) 1
+      → frameKind e (m .frames - 1) ≡ 1
+      → (frameLeft e (m .frames - 1) ≡ 0 → ⊥)
+      → t ≡ word c (frameCell e (m .frames - 1)) 0
+      → p ≡ word c (frameCell e (m .frames - 1)) 1
       → CommandIs t p r
       → Commands m e c r
   element-says {t} {p} kind more t-is p-is C =
@@ -115,14 +115,14 @@ module _ {m : Machine} {e c : List ℕ} {r : Command} (some : 1 ≤ m .frames) w
         says = λ script s d l μ R.
             let h : m .frames ≡ suc (m .frames - 1) = omega (arith, some) in
             let x = run-at R (m .frames - 1) h kind in
-            let left : 1 ≤ getD e (8 * (m .frames - 1) + 4) 0 = omega (arith, more) in
+            let left : 1 ≤ frameLeft e (m .frames - 1) = omega (arith, more) in
             let stands : Stands (keys μ) (texts μ) (R .world .ρ) (element (μ .store) (x .0) (x .1)) t p =
             rw (t-is, p-is) (element-words R (m .frames - 1) h (x .0) (x .1) (x .2) left .stands) in
             of-value script C (element-handed R (m .frames - 1) h (x .0) (x .1) (x .2) left) stands;
       }
 
 module _ {m : Machine} {e c : List ℕ} (some : 1 ≤ m .frames) where
-  pub ended-says : getD e (8 * (m .frames - 1)) 0 ≡ 1 → getD e (8 * (m .frames - 1) + 4) 0 ≡ 0 → Commands m e c Nothing
+  pub ended-says : frameKind e (m .frames - 1) ≡ 1 → frameLeft e (m .frames - 1) ≡ 0 → Commands m e c Nothing
   unfolding commandText
   ended-says kind none-left =
       record {
@@ -132,7 +132,7 @@ module _ {m : Machine} {e c : List ℕ} (some : 1 ≤ m .frames) where
             (sym (ended-handed R (m .frames - 1) h (x .0) (x .1) (x .2) none-left), tt);
       }
 
-  pub loop-says : (getD e (8 * (m .frames - 1)) 0 ≡ 0 → ⊥) → (getD e (8 * (m .frames - 1)) 0 ≡ 1 → ⊥) → Commands m e c Nothing
+  pub loop-says : (frameKind e (m .frames - 1) ≡ 0 → ⊥) → (frameKind e (m .frames - 1) ≡ 1 → ⊥) → Commands m e c Nothing
   unfolding commandText
   loop-says x y =
       record {

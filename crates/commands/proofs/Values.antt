@@ -6,6 +6,7 @@ use mathlib.Core.List.{List, []}
 use mathlib.Core.Option.{some}
 use Prim.Native.Nat.{ℕ, _<_}
 use lib.ListN.{getElem?}
+use Rattle.semantics.specs.Sizes.{operatorCount}
 use Rattle.semantics.specs.Values.{Value}
 use Rattle.semantics.specs.Printing.{nameText}
 use Rattle.semantics.specs.Steps.{commandOf}
@@ -18,8 +19,8 @@ use Rattle.commands.specs.Commands.{CommandIs}
 
 -- ---- the operators by their numbers
 
--- An operator's number is one of 54.
-pub operator-number : {o : List ℕ} (p : ℕ) → getElem? titles p ≡ some o → p < 54
+-- An operator's number is below their count.
+pub operator-number : {o : List ℕ} (p : ℕ) → getElem? titles p ≡ some o → p < operatorCount
 operator-number p q = subst (λ n. p < n) titles-count (inside-list titles p q)
 
 -- ---- the command by the tag

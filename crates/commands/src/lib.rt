@@ -6,9 +6,14 @@ ghost use Rattle.commands.specs.Commands.{CommandIs, Commands};
 use ending::Command;
 use frames::PENDING;
 use frames::RUNNING;
+use machine::FRAME_CELL;
+use machine::FRAME_LEFT;
+use machine::FRAME_PAYLOAD;
+use machine::FRAME_TAG;
 use machine::Machine;
 use machine::TAG_EXECUTABLE;
 use machine::TAG_OPERATOR;
+use semantics::EXEC_WIDTH;
 
 // The command of the topmost slot: what is pending, or a procedure's next element.
 // Rules out: the element before or after the next one; a command of a loop or of a literal name.
@@ -17,15 +22,15 @@ pub fn command(m: Machine, exec: &[u32], cells: &[u32]) -> Command
     ensures { λ r. ⌜ Commands m (now (exec .entry)) (now (cells .entry)) r ⌝ }
 {
     let k = m.frames - 1;
-    let kind = exec[8 * k];
+    let kind = exec[EXEC_WIDTH * k];
     if kind == PENDING {
-        let tag = exec[8 * k + 1];
-        let pay = exec[8 * k + 2];
+        let tag = exec[EXEC_WIDTH * k + FRAME_TAG];
+        let pay = exec[EXEC_WIDTH * k + FRAME_PAYLOAD];
         return command_of(tag, pay);
     }
     if kind == RUNNING {
-        let c = exec[8 * k + 3];
-        let left = exec[8 * k + 4];
+        let c = exec[EXEC_WIDTH * k + FRAME_CELL];
+        let left = exec[EXEC_WIDTH * k + FRAME_LEFT];
         if left == 0 {
             return Command::Nothing;
         }

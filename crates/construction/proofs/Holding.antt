@@ -19,6 +19,7 @@ use Rattle.store.specs.Rep.{isText, objectAt, element}
 use Rattle.store.proofs.Standing.{array-is, text-elements}
 use Rattle.store.proofs.Sorts.{array-word}
 use Rattle.store.proofs.Changes.{at-set}
+use Rattle.machine.specs.Words.{itemPayload}
 use Rattle.machine.specs.Rep.{Rep, World}
 use Rattle.machine.specs.declared.Machine.{Machine}
 use Rattle.elements.specs.Elements.{HasCell, IsString}
@@ -110,7 +111,7 @@ pub item-array : {m : Machine} {st e d c l : List ℕ} {μ : Floo.Machine} (R : 
     → m .depth ≡ k + suc i
     → {x : Bool} {id : ℕ}
     → getD (μ .stack) i null ≡ array x id
-    → IsArray (R .world) (μ .store) (getD st (2 * k + 1) 0) id
+    → IsArray (R .world) (μ .store) (itemPayload st k) id
 item-array {μ = μ} R i k h q =
     let A = array-item R i k h q in
     record { lives = A .lives; stands = A .stands; kind = ap (λ j. isText (objectAt (μ .store) j)) (sym (A .stands)) ∙ ap isText (A .whole) }

@@ -17,6 +17,7 @@ use Rattle.semantics.specs.declared.Error.{Error}
 use Rattle.semantics.specs.declared.Error.the-variants.{StackUnderflow, TypeCheck, ExecStackOverflow}
 use Rattle.store.specs.Rep.{bit}
 use Rattle.store.proofs.Standing.{is-boolean}
+use Rattle.machine.specs.Words.{itemTag, itemPayload}
 use Rattle.machine.specs.Moves.{dropped}
 use Rattle.machine.specs.Rep.{Rep, IsIn, MovesHeap}
 use Rattle.machine.specs.Room.{lent}
@@ -69,22 +70,22 @@ module _ {m : Machine} {s e d c l : List ℕ} {μ : Floo.Machine} (R : Rep m s e
   if-under h = if-is μ ∙ rw (pop2-under μ (omega (arith, items-length (R .items)))) refl
 
   module _ (k : ℕ) (h : m .depth ≡ suc (suc k)) where
-    pub if-type : (getD s (2 * k) 0 ≡ 2 → ⊥) → perform (bytes "if") μ ≡ fault TypeCheck
+    pub if-type : (itemTag s k ≡ 2 → ⊥) → perform (bytes "if") μ ≡ fault TypeCheck
     unfolding if′ _>>=_
     if-type n = if-is μ ∙ rw (pop2-some μ (both R k (suc k) h refl), stands-no-boolean (lower R k (suc k) h refl .words .stands) n) refl
 
-    module _ (i : getD s (2 * k) 0 ≡ 2) where
+    module _ (i : itemTag s k ≡ 2) where
       tested : (b : Bool) → is-boolean (lower R k (suc k) h refl .words .stands) i .0 ≡ b → μ .stack ≡ upper R k (suc k) h refl .value ∷ boolean b ∷ lower R k (suc k) h refl .rest
       tested b q = both R k (suc k) h refl ∙ ap (λ v. upper R k (suc k) h refl .value ∷ v ∷ lower R k (suc k) h refl .rest) (is-boolean (lower R k (suc k) h refl .words .stands) i .1 ∙ ap boolean q)
 
-      pub if-into : (getD s (2 * k + 1) 0 ≡ 0 → ⊥) → Into (perform (bytes "if")) pending (boolean true ∷ []) μ
+      pub if-into : (itemPayload s k ≡ 0 → ⊥) → Into (perform (bytes "if")) pending (boolean true ∷ []) μ
       unfolding if′ _>>=_ bool
       if-into n =
           let x = is-boolean (lower R k (suc k) h refl .words .stands) i in
           let split = tested true (bit-true (x .0) (λ q. n (x .2 ∙ q))) in
           record { value = upper R k (suc k) h refl .value; rest = lower R k (suc k) h refl .rest; split = split; gives = if-is μ ∙ rw (pop2-some μ split) refl }
 
-      pub if-not : getD s (2 * k + 1) 0 ≡ 0 → (y : Value) × (rest : List Value) × (μ .stack ≡ y ∷ boolean false ∷ rest) × (perform (bytes "if") μ ≡ ok (withStack rest μ))
+      pub if-not : itemPayload s k ≡ 0 → (y : Value) × (rest : List Value) × (μ .stack ≡ y ∷ boolean false ∷ rest) × (perform (bytes "if") μ ≡ ok (withStack rest μ))
       unfolding if′ _>>=_ bool
       if-not n =
           let x = is-boolean (lower R k (suc k) h refl .words .stands) i in
@@ -94,8 +95,8 @@ module _ {m : Machine} {s e d c l : List ℕ} {μ : Floo.Machine} (R : Rep m s e
 -- The body is let go.
 pub if-skips : {m r r′ : Machine} {s e c c′ : List ℕ} (k : ℕ)
     → m .depth ≡ suc (suc k)
-    → getD s (2 * k) 0 ≡ 2
-    → getD s (2 * k + 1) 0 ≡ 0
+    → itemTag s k ≡ 2
+    → itemPayload s k ≡ 0
     → MovesHeap dropped m r s s c c′
     → Forgets 1 r r′
     → DoesFrames (perform (bytes "if")) m s s e e c c′ (Ok r′)
@@ -135,13 +136,13 @@ module _ {m : Machine} {s e d c l : List ℕ} {μ : Floo.Machine} (R : Rep m s e
     three : μ .stack ≡ if-false .value ∷ if-true .value ∷ which .value ∷ which .rest
     three = if-false .split ∙ ap (λ r. if-false .value ∷ r) (if-true .split ∙ ap (λ r. if-true .value ∷ r) (which .split))
 
-    pub ifelse-type : (getD s (2 * k) 0 ≡ 2 → ⊥) → perform (bytes "ifelse") μ ≡ fault TypeCheck
+    pub ifelse-type : (itemTag s k ≡ 2 → ⊥) → perform (bytes "ifelse") μ ≡ fault TypeCheck
     unfolding ifelse _>>=_
     ifelse-type n = ifelse-is μ ∙ rw (pop3-some μ three, stands-no-boolean (which .words .stands) n) refl
 
     -- The operands, and what is done with them.
-    pub chosen : getD s (2 * k) 0 ≡ 2
-        → (b : Bool) × (y : Value) × (z : Value) × (rest : List Value) × (μ .stack ≡ z ∷ y ∷ boolean b ∷ rest) × (getD s (2 * k + 1) 0 ≡ bit b)
+    pub chosen : itemTag s k ≡ 2
+        → (b : Bool) × (y : Value) × (z : Value) × (rest : List Value) × (μ .stack ≡ z ∷ y ∷ boolean b ∷ rest) × (itemPayload s k ≡ bit b)
         × (perform (bytes "ifelse") μ ≡ ok (enter (pending (cond b y z)) (withStack rest μ)))
     unfolding ifelse _>>=_ bool
     chosen i =
@@ -150,13 +151,13 @@ module _ {m : Machine} {s e d c l : List ℕ} {μ : Floo.Machine} (R : Rep m s e
         three ∙ ap (λ v. if-false .value ∷ if-true .value ∷ v ∷ which .rest) (x .1) in
         (x .0, if-true .value, if-false .value, which .rest, split, x .2, ifelse-is μ ∙ rw (pop3-some μ split) refl)
 
-module _ {m : Machine} {s e c : List ℕ} (k : ℕ) (h : m .depth ≡ suc (suc (suc k))) (i : getD s (2 * k) 0 ≡ 2) where
+module _ {m : Machine} {s e c : List ℕ} (k : ℕ) (h : m .depth ≡ suc (suc (suc k))) (i : itemTag s k ≡ 2) where
   pub ifelse-full : length e < 8 * m .frames + 8 → DoesFrames (perform (bytes "ifelse")) m s s e e c c (Fail ExecStackOverflow)
   ifelse-full full = frames-full full (λ d l μ R. let x = chosen R k h i in (pending (cond (x .0) (x .1) (x .2)), x .3, x .6))
 
   -- The lower operand is let go.
   pub ifelse-upper : {p r r′ : Machine} {e′ c′ : List ℕ} {a b g : ℕ}
-      → getD s (2 * k + 1) 0 ≡ 0
+      → itemPayload s k ≡ 0
       → Enters 0 a b g m p s e e′
       → MovesHeap dropped p r s s c c′
       → Forgets 1 r r′
@@ -180,7 +181,7 @@ module _ {m : Machine} {s e c : List ℕ} (k : ℕ) (h : m .depth ≡ suc (suc (
 
   -- The upper operand is let go.
   pub ifelse-lower : {p r r′ : Machine} {e′ c′ : List ℕ} {a b g : ℕ}
-      → (getD s (2 * k + 1) 0 ≡ 0 → ⊥)
+      → (itemPayload s k ≡ 0 → ⊥)
       → MovesHeap dropped m p s s c c′
       → Enters 0 a b g p r s e e′
       → Forgets 1 r r′

@@ -16,6 +16,7 @@ use Rattle.semantics.specs.declared.Error.{Error}
 use Rattle.semantics.specs.declared.Error.the-variants.{StackUnderflow, TypeCheck, RangeCheck, ExecStackOverflow}
 use Rattle.store.proofs.Standing.{is-integer}
 use Rattle.word.proofs.Words.{word-signed}
+use Rattle.machine.specs.Words.{itemTag, itemPayload}
 use Rattle.machine.specs.Places.{Nameless}
 use Rattle.machine.specs.Rep.{Rep, IsIn, Items}
 use Rattle.machine.specs.Room.{lent}
@@ -39,7 +40,7 @@ forget-rep {m} {n} {k} h =
     record {
       moves = λ old rest len nameless s e d c l μ split R.
           let items = subst (λ x. Items (IsIn (R .world) μ) s (m .depth) x) split (R .items) in
-          restack R s k old [] rest split nameless nil refl (omega (arith, R .stack-room)) (items-below old k (omega arith) items);
+          restack R s k old [] rest split nameless nil refl (omega (arith, R .rooms .stack-fits)) (items-below old k (omega arith) items);
     }
 
 pub forget-none : {m : Machine} → Forgets 0 m m
@@ -113,27 +114,27 @@ module _ {m : Machine} {s e d c l : List ℕ} {μ : Floo.Machine} (R : Rep m s e
   repeat-under h = repeat-is μ ∙ rw (pop2-under μ (omega (arith, items-length (R .items)))) refl
 
   module _ (k : ℕ) (h : m .depth ≡ suc (suc k)) where
-    pub repeat-type : (getD s (2 * k) 0 ≡ 1 → ⊥) → perform (bytes "repeat") μ ≡ fault TypeCheck
+    pub repeat-type : (itemTag s k ≡ 1 → ⊥) → perform (bytes "repeat") μ ≡ fault TypeCheck
     unfolding repeat _>>=_
     repeat-type n = repeat-is μ ∙ rw (pop2-some μ (both R k (suc k) h refl), stands-no-integer (lower R k (suc k) h refl .words .stands) n) refl
 
-    module _ (i : getD s (2 * k) 0 ≡ 1) where
-      counted : μ .stack ≡ upper R k (suc k) h refl .value ∷ integer (getD s (2 * k + 1) 0) ∷ lower R k (suc k) h refl .rest
+    module _ (i : itemTag s k ≡ 1) where
+      counted : μ .stack ≡ upper R k (suc k) h refl .value ∷ integer (itemPayload s k) ∷ lower R k (suc k) h refl .rest
       counted = both R k (suc k) h refl ∙ ap (λ v. upper R k (suc k) h refl .value ∷ v ∷ lower R k (suc k) h refl .rest) (is-integer (lower R k (suc k) h refl .words .stands) i)
 
-      pub repeat-range : 2 ^ 31 ≤ getD s (2 * k + 1) 0 → getD s (2 * k + 1) 0 < 2 ^ 32 → perform (bytes "repeat") μ ≡ fault RangeCheck
+      pub repeat-range : 2 ^ 31 ≤ itemPayload s k → itemPayload s k < 2 ^ 32 → perform (bytes "repeat") μ ≡ fault RangeCheck
       unfolding repeat _>>=_ int
-      repeat-range l b = repeat-is μ ∙ rw (pop2-some μ counted, count-high (getD s (2 * k + 1) 0) l b) refl
+      repeat-range l b = repeat-is μ ∙ rw (pop2-some μ counted, count-high (itemPayload s k) l b) refl
 
-      pub repeat-into : getD s (2 * k + 1) 0 < 2 ^ 31
-          → Into (perform (bytes "repeat")) (repeating (getD s (2 * k + 1) 0)) (integer (getD s (2 * k + 1) 0) ∷ []) μ
+      pub repeat-into : itemPayload s k < 2 ^ 31
+          → Into (perform (bytes "repeat")) (repeating (itemPayload s k)) (integer (itemPayload s k) ∷ []) μ
       unfolding repeat _>>=_ int
       repeat-into l =
           record {
             value = upper R k (suc k) h refl .value;
             rest = lower R k (suc k) h refl .rest;
             split = counted;
-            gives = repeat-is μ ∙ rw (pop2-some μ counted, count-low (getD s (2 * k + 1) 0) l) refl;
+            gives = repeat-is μ ∙ rw (pop2-some μ counted, count-low (itemPayload s k) l) refl;
           }
 
 -- ---- for
@@ -160,37 +161,37 @@ module _ {m : Machine} {s e d c l : List ℕ} {μ : Floo.Machine} (R : Rep m s e
     four : μ .stack ≡ last .value ∷ third .value ∷ second .value ∷ first .value ∷ first .rest
     four = last .split ∙ ap (λ r. last .value ∷ r) (third .split ∙ ap (λ r. third .value ∷ r) (second .split ∙ ap (λ r. second .value ∷ r) (first .split)))
 
-    pub for-type1 : (getD s (2 * x) 0 ≡ 1 → ⊥) → perform (bytes "for") μ ≡ fault TypeCheck
+    pub for-type1 : (itemTag s x ≡ 1 → ⊥) → perform (bytes "for") μ ≡ fault TypeCheck
     unfolding for _>>=_
     for-type1 n = for-is μ ∙ rw (pop4-some μ four, stands-no-integer (first .words .stands) n) refl
 
-    module _ (i : getD s (2 * x) 0 ≡ 1) where
-      pub for-type2 : (getD s (2 * y) 0 ≡ 1 → ⊥) → perform (bytes "for") μ ≡ fault TypeCheck
+    module _ (i : itemTag s x ≡ 1) where
+      pub for-type2 : (itemTag s y ≡ 1 → ⊥) → perform (bytes "for") μ ≡ fault TypeCheck
       unfolding for _>>=_ int
       for-type2 n = for-is μ ∙ rw (pop4-some μ four, is-integer (first .words .stands) i, stands-no-integer (second .words .stands) n) refl
 
-      module _ (j : getD s (2 * y) 0 ≡ 1) where
-        pub for-type3 : (getD s (2 * z) 0 ≡ 1 → ⊥) → perform (bytes "for") μ ≡ fault TypeCheck
+      module _ (j : itemTag s y ≡ 1) where
+        pub for-type3 : (itemTag s z ≡ 1 → ⊥) → perform (bytes "for") μ ≡ fault TypeCheck
         unfolding for _>>=_ int
         for-type3 n =
             for-is μ
             ∙ rw (pop4-some μ four, is-integer (first .words .stands) i, is-integer (second .words .stands) j, stands-no-integer (third .words .stands) n) refl
 
-        module _ (q : getD s (2 * z) 0 ≡ 1) where
-          numbered : μ .stack ≡ last .value ∷ integer (getD s (2 * z + 1) 0) ∷ integer (getD s (2 * y + 1) 0) ∷ integer (getD s (2 * x + 1) 0) ∷ first .rest
+        module _ (q : itemTag s z ≡ 1) where
+          numbered : μ .stack ≡ last .value ∷ integer (itemPayload s z) ∷ integer (itemPayload s y) ∷ integer (itemPayload s x) ∷ first .rest
           numbered =
               four ∙ rw (is-integer (first .words .stands) i, is-integer (second .words .stands) j, is-integer (third .words .stands) q) refl
 
-          pub for-into : getD s (2 * x + 1) 0 < 2 ^ 32
-              → getD s (2 * y + 1) 0 < 2 ^ 32
-              → getD s (2 * z + 1) 0 < 2 ^ 32
-              → Into (perform (bytes "for")) (counting (getD s (2 * x + 1) 0) (getD s (2 * y + 1) 0) (getD s (2 * z + 1) 0))
-              (integer (getD s (2 * z + 1) 0) ∷ integer (getD s (2 * y + 1) 0) ∷ integer (getD s (2 * x + 1) 0) ∷ []) μ
+          pub for-into : itemPayload s x < 2 ^ 32
+              → itemPayload s y < 2 ^ 32
+              → itemPayload s z < 2 ^ 32
+              → Into (perform (bytes "for")) (counting (itemPayload s x) (itemPayload s y) (itemPayload s z))
+              (integer (itemPayload s z) ∷ integer (itemPayload s y) ∷ integer (itemPayload s x) ∷ []) μ
           unfolding for _>>=_ int
           for-into a b g =
               record {
                 value = last .value;
                 rest = first .rest;
                 split = numbered;
-                gives = for-is μ ∙ rw (pop4-some μ numbered, word-signed (getD s (2 * x + 1) 0) a, word-signed (getD s (2 * y + 1) 0) b, word-signed (getD s (2 * z + 1) 0) g) refl;
+                gives = for-is μ ∙ rw (pop4-some μ numbered, word-signed (itemPayload s x) a, word-signed (itemPayload s y) b, word-signed (itemPayload s z) g) refl;
               }

@@ -3,9 +3,9 @@
 use mathlib.Core.Path.{_≡_, refl, sym, ap, _∙_, subst}
 use mathlib.Core.Bool.{true}
 use mathlib.Core.List.{List, [], _∷_}
-use Prim.Native.Nat.{ℕ, zero, suc, _+_, _-_, _*_, _/_, _%_, _≤_, _<_}
+use Prim.Native.Nat.{ℕ, zero, suc, _+_, _-_, _/_, _%_, _≤_, _<_}
 use native.Mathlib.Omega.{arith}
-use lib.ListN.{getD, drop, drop-of-length-le}
+use lib.ListN.{drop, drop-of-length-le}
 use lib.Seq.{drop-drop}
 use Rattle.semantics.specs.Text.{bytes}
 use Rattle.semantics.specs.Values.{Value, Object, Result, ok, _>>=_}
@@ -17,6 +17,7 @@ use Rattle.semantics.specs.Steps.{roomFor}
 use Rattle.heap.specs.Shape.{Ghost}
 use Rattle.store.specs.Rep.{Names}
 use Rattle.store.proofs.Rooting.{rep-alike}
+use Rattle.machine.specs.Words.{frameKind}
 use Rattle.machine.specs.Places.{rootIn, roots}
 use Rattle.machine.specs.Rep.{Rep, FrameIs, a-pending, a-running, a-looping, a-repeating, a-counting, Frames, frame}
 use Rattle.machine.specs.Room.{lent, fitted}
@@ -58,18 +59,10 @@ halt-rep {μ = μ} R =
       items = R .items;
       frames = R .frames;
       slots = R .slots;
-      names = R .names;
-      titled = R .titled;
-      distinct = R .distinct;
-      logged = R .logged;
+      naming = R .naming;
+      logging = R .logging;
       stopped = refl;
-      stack-room = R .stack-room;
-      exec-room = R .exec-room;
-      dict-room = R .dict-room;
-      log-room = R .log-room;
-      stack-few = R .stack-few;
-      exec-few = R .exec-few;
-      dict-few = R .dict-few;
+      rooms = R .rooms;
     }
 
 pub stop-does : {m : Machine} → DoesState (perform (bytes "stop")) m (Ok (halted m))
@@ -102,7 +95,7 @@ record At (A : Value → ℕ → ℕ → Type 0) (g : Ghost) (store : List Objec
   pub two : ℕ
   pub three : ℕ
   pub split : drop j fs ≡ slot ∷ drop (suc j) fs
-  pub words : FrameIs A g store slot (getD e (8 * k) 0) tag pay one two three
+  pub words : FrameIs A g store slot (frameKind e k) tag pay one two three
 
 module _ {A : Value → ℕ → ℕ → Type 0} {g : Ghost} {store : List Object} where
   passed-by : {f : Frame} {w t p a b c : ℕ} → FrameIs A g store f w t p a b c → w < 2 → (fs : List Frame) → fromLoop (f ∷ fs) ≡ fromLoop fs
@@ -142,7 +135,7 @@ passed-none {e} {n} =
           ap (λ j. fromLoop (drop j (μ .exec))) (sym z);
     }
 
-pub passed-one : {e : List ℕ} {n k : ℕ} → Passed e n k → 0 < k → k ≤ n → getD e (8 * (k - 1)) 0 < 2 → Passed e n (k - 1)
+pub passed-one : {e : List ℕ} {n k : ℕ} → Passed e n k → 0 < k → k ≤ n → frameKind e (k - 1) < 2 → Passed e n (k - 1)
 passed-one {e} {n} {k} P some few low =
     record {
       says = λ m s d c l μ q R.
@@ -154,7 +147,7 @@ passed-one {e} {n} {k} P some few low =
           ∙ ap (λ j. fromLoop (drop j (μ .exec))) next;
     }
 
-pub found : {m : Machine} {e : List ℕ} {k : ℕ} → Passed e (m .frames) k → 0 < k → k ≤ m .frames → 2 ≤ getD e (8 * (k - 1)) 0 → FindsLoop m e k
+pub found : {m : Machine} {e : List ℕ} {k : ℕ} → Passed e (m .frames) k → 0 < k → k ≤ m .frames → 2 ≤ frameKind e (k - 1) → FindsLoop m e k
 found {m} {e} {k} P some few high =
     record {
       says = λ s d c l μ R.

@@ -12,10 +12,13 @@ use frames::FOR;
 use frames::LOOP;
 use frames::REPEAT;
 use machine::Did;
+use machine::ITEM_PAYLOAD;
 use machine::Machine;
 use machine::TAG_BOOLEAN;
 use machine::TAG_INTEGER;
+use semantics::EXEC_WIDTH;
 use semantics::Error;
+use semantics::STACK_WIDTH;
 
 pub fn exec_(m: Machine, stack: &[u32], exec: &mut [u32]) -> Did
     requires { ⌜ Represented m (now stack) (now exec) ⌝ }
@@ -24,7 +27,7 @@ pub fn exec_(m: Machine, stack: &[u32], exec: &mut [u32]) -> Did
     if m.depth < 1 {
         return Did::Fail(Error::StackUnderflow);
     }
-    if exec.len() < 8 * m.frames + 8 {
+    if exec.len() < EXEC_WIDTH * m.frames + EXEC_WIDTH {
         return Did::Fail(Error::ExecStackOverflow);
     }
     Did::Ok(frames::pend_top(m, stack, exec))
@@ -37,7 +40,7 @@ pub fn loop_(m: Machine, stack: &[u32], exec: &mut [u32]) -> Did
     if m.depth < 1 {
         return Did::Fail(Error::StackUnderflow);
     }
-    if exec.len() < 8 * m.frames + 8 {
+    if exec.len() < EXEC_WIDTH * m.frames + EXEC_WIDTH {
         return Did::Fail(Error::ExecStackOverflow);
     }
     Did::Ok(frames::enter_loop(m, stack, exec, LOOP, 0, 0, 0))
@@ -51,15 +54,15 @@ pub fn repeat_(m: Machine, stack: &[u32], exec: &mut [u32]) -> Did
     if m.depth < 2 {
         return Did::Fail(Error::StackUnderflow);
     }
-    let i = 2 * (m.depth - 2);
+    let i = STACK_WIDTH * (m.depth - 2);
     if stack[i] != TAG_INTEGER {
         return Did::Fail(Error::TypeCheck);
     }
-    let n = stack[i + 1];
+    let n = stack[i + ITEM_PAYLOAD];
     if 2147483648 <= n {
         return Did::Fail(Error::RangeCheck);
     }
-    if exec.len() < 8 * m.frames + 8 {
+    if exec.len() < EXEC_WIDTH * m.frames + EXEC_WIDTH {
         return Did::Fail(Error::ExecStackOverflow);
     }
     let r = frames::enter_loop(m, stack, exec, REPEAT, n, 0, 0);
@@ -73,9 +76,9 @@ pub fn for_(m: Machine, stack: &[u32], exec: &mut [u32]) -> Did
     if m.depth < 4 {
         return Did::Fail(Error::StackUnderflow);
     }
-    let i = 2 * (m.depth - 4);
-    let j = 2 * (m.depth - 3);
-    let k = 2 * (m.depth - 2);
+    let i = STACK_WIDTH * (m.depth - 4);
+    let j = STACK_WIDTH * (m.depth - 3);
+    let k = STACK_WIDTH * (m.depth - 2);
     if stack[i] != TAG_INTEGER {
         return Did::Fail(Error::TypeCheck);
     }
@@ -85,7 +88,7 @@ pub fn for_(m: Machine, stack: &[u32], exec: &mut [u32]) -> Did
     if stack[k] != TAG_INTEGER {
         return Did::Fail(Error::TypeCheck);
     }
-    if exec.len() < 8 * m.frames + 8 {
+    if exec.len() < EXEC_WIDTH * m.frames + EXEC_WIDTH {
         return Did::Fail(Error::ExecStackOverflow);
     }
     let r = frames::enter_loop(
@@ -93,9 +96,9 @@ pub fn for_(m: Machine, stack: &[u32], exec: &mut [u32]) -> Did
         stack,
         exec,
         FOR,
-        stack[i + 1],
-        stack[j + 1],
-        stack[k + 1],
+        stack[i + ITEM_PAYLOAD],
+        stack[j + ITEM_PAYLOAD],
+        stack[k + ITEM_PAYLOAD],
     );
     Did::Ok(forget(r, 3))
 }
@@ -108,15 +111,15 @@ pub fn if_(m: Machine, stack: &[u32], exec: &mut [u32], cells: &mut [u32]) -> Di
     if m.depth < 2 {
         return Did::Fail(Error::StackUnderflow);
     }
-    let i = 2 * (m.depth - 2);
+    let i = STACK_WIDTH * (m.depth - 2);
     if stack[i] != TAG_BOOLEAN {
         return Did::Fail(Error::TypeCheck);
     }
-    if stack[i + 1] == 0 {
+    if stack[i + ITEM_PAYLOAD] == 0 {
         let r = m.drop(stack, cells);
         return Did::Ok(forget(r, 1));
     }
-    if exec.len() < 8 * m.frames + 8 {
+    if exec.len() < EXEC_WIDTH * m.frames + EXEC_WIDTH {
         return Did::Fail(Error::ExecStackOverflow);
     }
     let r = frames::pend_top(m, stack, exec);
@@ -130,14 +133,14 @@ pub fn ifelse(m: Machine, stack: &[u32], exec: &mut [u32], cells: &mut [u32]) ->
     if m.depth < 3 {
         return Did::Fail(Error::StackUnderflow);
     }
-    let i = 2 * (m.depth - 3);
+    let i = STACK_WIDTH * (m.depth - 3);
     if stack[i] != TAG_BOOLEAN {
         return Did::Fail(Error::TypeCheck);
     }
-    if exec.len() < 8 * m.frames + 8 {
+    if exec.len() < EXEC_WIDTH * m.frames + EXEC_WIDTH {
         return Did::Fail(Error::ExecStackOverflow);
     }
-    if stack[i + 1] == 0 {
+    if stack[i + ITEM_PAYLOAD] == 0 {
         let p = frames::pend_top(m, stack, exec);
         let r = p.drop(stack, cells);
         return Did::Ok(forget(r, 1));
@@ -194,7 +197,7 @@ fn find_loop(m: Machine, exec: &[u32]) -> usize
 {
     let mut k = m.frames;
     while 0 < k {
-        if LOOP <= exec[8 * (k - 1)] {
+        if LOOP <= exec[EXEC_WIDTH * (k - 1)] {
             return k;
         }
         k = k - 1;

@@ -4,7 +4,7 @@
 use mathlib.Core.Path.{_≡_, refl, sym, ap, _∙_, subst}
 use mathlib.Core.Bool.{Bool, true, false}
 use mathlib.Core.List.{List, [], _∷_, _++_}
-use Prim.Native.Nat.{ℕ, zero, suc, _+_, _-_, _*_, _≤_, _<_}
+use Prim.Native.Nat.{ℕ, zero, suc, _+_, _-_, _≤_, _<_}
 use native.Mathlib.Omega.{arith}
 use borrow.Author.Tests.{le-leb, lt-leb}
 use lib.Dec.{leb, eqb}
@@ -18,6 +18,7 @@ use Rattle.semantics.specs.TextOperators.{overwrite, cvs}
 use Rattle.semantics.specs.Operators.{perform, find, table, _is_}
 use Rattle.semantics.specs.Steps.{roomFor}
 use Rattle.semantics.specs.declared.Error.the-variants.{StackUnderflow, TypeCheck, RangeCheck}
+use Rattle.machine.specs.Words.{itemTag, itemPayload}
 use Rattle.machine.specs.Rep.{Rep, Answer, Somewhere, MovesHeap}
 use Rattle.machine.specs.Room.{lent, fitted, DoesHeap}
 use Rattle.machine.specs.Moves.{dropped, swapped}
@@ -330,10 +331,10 @@ module _ {m : Machine} {s d c : List ℕ} where
         let first = ap (λ (r : List Value). tagOf (getD r 0 null)) (x .3) in
         cvs-type μ (x .3) (tag-no-string (x .0) (λ q. n (Y .says e d c l μ R ∙ first ∙ q)))))
 
-    pub cvs-has-string : getD s (2 * (m .depth - 2)) 0 ≡ 8 → SomewhereNamed m s d c → SomewhereThat (HasString 1) m s c
+    pub cvs-has-string : itemTag s (m .depth - 2) ≡ 8 → SomewhereNamed m s d c → SomewhereThat (HasString 1) m s c
     cvs-has-string q (e, l, μ, R) = (e, d, l, μ, R, string-tagged R 1 (m .depth - 2) (omega (arith, deep)) q)
 
-    pub cvs-known : SomewhereNamed m s d c → Known d (getD s (2 * (m .depth - 2)) 0) (getD s (2 * (m .depth - 2) + 1) 0)
+    pub cvs-known : SomewhereNamed m s d c → Known d (itemTag s (m .depth - 2)) (itemPayload s (m .depth - 2))
     cvs-known (e, l, μ, R) =
         record {
           small = m;
@@ -348,7 +349,7 @@ module _ {m : Machine} {s d c : List ℕ} where
         }
 
     pub cvs-good : {n : ℕ} {out : List ℕ}
-        → TextOf d (getD s (2 * (m .depth - 2)) 0) (getD s (2 * (m .depth - 2) + 1) 0) out n
+        → TextOf d (itemTag s (m .depth - 2)) (itemPayload s (m .depth - 2)) out n
         → {s′ c′ : List ℕ} (r : Did)
         → DoesHeap (converted (take (n - 0) out)) m s s′ c c′ r
         → DoesNamedHeap op m s s′ d c c′ r

@@ -8,6 +8,7 @@ use Prim.Native.Nat.{ℕ, _+_, _≤_, _<_}
 use native.Mathlib.Omega.{arith}
 use lib.ListN.{length, getD, getElem?, set, take, length-set}
 use lib.Seq.{length-take-le, getD-take, getD-set-same, getD-set-other, ext-getD}
+use Rattle.semantics.specs.Sizes.{nameMost}
 use Rattle.semantics.specs.Machine as Floo
 use Rattle.heap.proofs.Since.{lt-or-le}
 use Rattle.machine.specs.Places.{keys}
@@ -16,7 +17,7 @@ use Rattle.machine.specs.declared.Machine.{Machine}
 use Rattle.names.specs.Names.{Named, NameSize, NameByte}
 use Rattle.conversions.specs.Texts.{NameRead}
 
-pub few : {k r : ℕ} {d : List ℕ} → NameSize k d r → Named k d → r ≤ 31
+pub few : {k r : ℕ} {d : List ℕ} → NameSize k d r → Named k d → r ≤ nameMost
 few Z N = Z .says (N .small) (N .stack) (N .exec) (N .heap) (N .log) (N .machine) (N .rep) (N .name) (N .slot) .1
 
 pub record Reads (k : ℕ) (d out₀ out : List ℕ) (j : ℕ) : Type 0 where

@@ -8,6 +8,7 @@ use Prim.Native.Nat.{ℕ, _+_, _≤_}
 use native.Mathlib.Omega.{arith}
 use lib.ListN.{length, take, drop, getElem?}
 use lib.Seq.{take-at}
+use Rattle.semantics.specs.Sizes.{nameMost}
 use Rattle.semantics.specs.Text.{bytes}
 use Rattle.semantics.specs.Words.{signed, decimalZ}
 use Rattle.semantics.specs.Values.{Value}
@@ -34,7 +35,7 @@ front {t} {old} {new} {r} w =
     let size : length t ≡ r = omega (arith, w .end) in
     ap (λ (u : List ℕ). take r u) (w .bytes) ∙ take-at t (drop (0 + length t) old) r size
 
-module _ {d : List ℕ} {t p : ℕ} {T old new : List ℕ} {r : ℕ} (A : Always d t p T) (w : Written 0 T old new r) (few : length T ≤ 31) (room : 31 ≤ length old) where
+module _ {d : List ℕ} {t p : ℕ} {T old new : List ℕ} {r : ℕ} (A : Always d t p T) (w : Written 0 T old new r) (few : length T ≤ nameMost) (room : nameMost ≤ length old) where
   written : TextOf d t p new r
   written =
       record {
@@ -42,7 +43,7 @@ module _ {d : List ℕ} {t p : ℕ} {T old new : List ℕ} {r : ℕ} (A : Always
         says = λ m s e c l μ R v I. front w ∙ sym (A m s e c l μ R v I);
       }
 
-  written-few : r ≤ 31
+  written-few : r ≤ nameMost
   written-few = omega (arith, w .end, few)
 
 -- ---- each tag
@@ -93,19 +94,19 @@ module _ {d : List ℕ} {t p : ℕ} where
   unfolding stringval
   always-false q one m s e c l μ R v I = let y = is-boolean (I .stands) q in ap (stringval μ) (y .1) ∙ truth-no (y .0) p (y .2) one
 
-  module _ {old new : List ℕ} {r : ℕ} (room : 31 ≤ length old) where
-    pub integer-text : t ≡ 1 → length (decimalZ (signed p)) ≤ 11 → Written 0 (decimalZ (signed p)) old new r → TextOf d t p new r × (r ≤ 31)
+  module _ {old new : List ℕ} {r : ℕ} (room : nameMost ≤ length old) where
+    pub integer-text : t ≡ 1 → length (decimalZ (signed p)) ≤ 11 → Written 0 (decimalZ (signed p)) old new r → TextOf d t p new r × (r ≤ nameMost)
     integer-text q few w =
-        let short : length (decimalZ (signed p)) ≤ 31 = omega (arith, few) in
+        let short : length (decimalZ (signed p)) ≤ nameMost = omega (arith, few) in
         (written (always-integer q) w short room, written-few (always-integer q) w short room)
 
-    pub true-text : t ≡ 2 → p ≡ 1 → Written 0 (116 ∷ 114 ∷ 117 ∷ 101 ∷ []) old new r → TextOf d t p new r × (r ≤ 31)
+    pub true-text : t ≡ 2 → p ≡ 1 → Written 0 (116 ∷ 114 ∷ 117 ∷ 101 ∷ []) old new r → TextOf d t p new r × (r ≤ nameMost)
     true-text q one w = (written (always-true q one) w (omega arith) room, written-few (always-true q one) w (omega arith) room)
 
-    pub false-text : t ≡ 2 → (p ≡ 1 → ⊥) → Written 0 (102 ∷ 97 ∷ 108 ∷ 115 ∷ 101 ∷ []) old new r → TextOf d t p new r × (r ≤ 31)
+    pub false-text : t ≡ 2 → (p ≡ 1 → ⊥) → Written 0 (102 ∷ 97 ∷ 108 ∷ 115 ∷ 101 ∷ []) old new r → TextOf d t p new r × (r ≤ nameMost)
     false-text q one w = (written (always-false q one) w (omega arith) room, written-few (always-false q one) w (omega arith) room)
 
-    pub nothing-text : (t ≡ 8 → ⊥) → (t ≡ 1 → ⊥) → (t ≡ 2 → ⊥) → (t ≡ 5 → ⊥) → (t ≡ 6 → ⊥) → Written 0 nothing old new r → TextOf d t p new r × (r ≤ 31)
+    pub nothing-text : (t ≡ 8 → ⊥) → (t ≡ 1 → ⊥) → (t ≡ 2 → ⊥) → (t ≡ 5 → ⊥) → (t ≡ 6 → ⊥) → Written 0 nothing old new r → TextOf d t p new r × (r ≤ nameMost)
     nothing-text a b x y z w =
         let A : Always d t p nothing = λ m s e c l μ R v I. no-text μ (I .stands) a b x y z in
         (written A w (omega arith) room, written-few A w (omega arith) room)

@@ -3,6 +3,7 @@
 ghost use mathlib.Core.Path.{_≡_};
 ghost use Prim.Native.Nat.{_≤_, _<_};
 ghost use lib.ListN.{length};
+ghost use Rattle.semantics.specs.Sizes.{nameMost};
 ghost use Rattle.semantics.specs.Text.{bytes};
 ghost use Rattle.semantics.specs.Operators.{perform};
 ghost use Rattle.machine.specs.Rep.{Somewhere, MovesHeap};
@@ -12,6 +13,7 @@ ghost use Rattle.strings.specs.Strings.{HasBytes, bytesFilled};
 ghost use Rattle.names.specs.Names.{Named};
 ghost use Rattle.conversions.specs.Texts.{SomewhereNamed, DoesNamedHeap, converted, ended, Known, TextOf, NameRead};
 use machine::Did;
+use machine::ITEM_PAYLOAD;
 use machine::Machine;
 use machine::TAG_BOOLEAN;
 use machine::TAG_EXECUTABLE;
@@ -19,6 +21,8 @@ use machine::TAG_INTEGER;
 use machine::TAG_LITERAL;
 use machine::TAG_STRING;
 use semantics::Error;
+use semantics::NAME_MOST;
+use semantics::STACK_WIDTH;
 
 // Ruled out: rangecheck where the text fills the string exactly; bytes after the text and its zero that are lost.
 pub fn cvs(m: Machine, stack: &mut [u32], dict: &[u32], cells: &mut [u32]) -> Did
@@ -32,12 +36,12 @@ pub fn cvs(m: Machine, stack: &mut [u32], dict: &[u32], cells: &mut [u32]) -> Di
         return Did::Fail(Error::TypeCheck);
     }
     let k = m.depth - 2;
-    let tag = stack[2 * k];
-    let pay = stack[2 * k + 1];
+    let tag = stack[STACK_WIDTH * k];
+    let pay = stack[STACK_WIDTH * k + ITEM_PAYLOAD];
     if tag == TAG_STRING {
         return convert_string(m, stack, cells);
     }
-    let mut text = [0u8; 31];
+    let mut text = [0u8; NAME_MOST];
     let n = write_value(dict, tag, pay, &mut text);
     convert(m, stack, cells, &text[0..n])
 }
@@ -58,7 +62,7 @@ fn convert_string(m: Machine, stack: &mut [u32], cells: &mut [u32]) -> Did
 
 // cvs of a value with this text.
 fn convert(m: Machine, stack: &mut [u32], cells: &mut [u32], text: &[u8]) -> Did
-    requires { ⌜ (2 ≤ m .depth) × (length (now text) ≤ 31) × ItemTag 0 m (now stack) 8 × Somewhere m (now stack) (now cells) ⌝ }
+    requires { ⌜ (2 ≤ m .depth) × (length (now text) ≤ nameMost) × ItemTag 0 m (now stack) 8 × Somewhere m (now stack) (now cells) ⌝ }
     ensures { λ r. ⌜ DoesHeap (converted (now (text .entry))) m (now (stack .entry)) (now (stack .exit)) (now (cells .entry)) (now (cells .exit)) r ⌝ }
 {
     let n = text.len() as u32;
@@ -71,7 +75,7 @@ fn convert(m: Machine, stack: &mut [u32], cells: &mut [u32], text: &[u8]) -> Did
 
 // The text goes to the front of the string that is item 0; its bytes after it stay.
 fn put_text(m: Machine, stack: &[u32], cells: &mut [u32], text: &[u8])
-    requires { ⌜ (2 ≤ m .depth) × (length (now text) ≤ 31) × SomewhereThat (HasBytes 0 0 (length (now text))) m (now stack) (now cells) ⌝ }
+    requires { ⌜ (2 ≤ m .depth) × (length (now text) ≤ nameMost) × SomewhereThat (HasBytes 0 0 (length (now text))) m (now stack) (now cells) ⌝ }
     ensures { λ _. ⌜ MovesHeap (bytesFilled 0 (now (text .entry))) m m (now (stack .entry)) (now (stack .entry)) (now (cells .entry)) (now (cells .exit)) ⌝ }
 {
     let mut q = 0;
@@ -104,9 +108,9 @@ fn put_zero(m: Machine, stack: &[u32], cells: &mut [u32], n: u32)
 
 // The text of a value that is no string, at the front of out.
 fn write_value(dict: &[u32], tag: u32, pay: u32, out: &mut [u8]) -> usize
-    requires { ⌜ (31 ≤ length (now out)) × (tag ≡ 8 → ⊥) × Known (now dict) tag pay ⌝ }
+    requires { ⌜ (nameMost ≤ length (now out)) × (tag ≡ 8 → ⊥) × Known (now dict) tag pay ⌝ }
     ensures { λ r. ⌜ TextOf (now (dict .entry)) tag pay (now (out .exit)) r ⌝ }
-    ensures { λ r. ⌜ r ≤ 31 ⌝ }
+    ensures { λ r. ⌜ r ≤ nameMost ⌝ }
 {
     if tag == TAG_INTEGER {
         return text::write_integer(out, 0, pay);
@@ -128,9 +132,9 @@ fn write_value(dict: &[u32], tag: u32, pay: u32, out: &mut [u8]) -> usize
 
 // The name in a slot, at the front of out.
 fn read_name(dict: &[u32], slot: usize, out: &mut [u8]) -> usize
-    requires { ⌜ (31 ≤ length (now out)) × Named slot (now dict) ⌝ }
+    requires { ⌜ (nameMost ≤ length (now out)) × Named slot (now dict) ⌝ }
     ensures { λ r. ⌜ NameRead slot (now (dict .entry)) (now (out .exit)) r ⌝ }
-    ensures { λ r. ⌜ r ≤ 31 ⌝ }
+    ensures { λ r. ⌜ r ≤ nameMost ⌝ }
 {
     let n = names::name_size(dict, slot);
     let mut j = 0;

@@ -9,6 +9,7 @@ use Prim.Native.Nat.{ℕ, zero, suc, _+_, _*_, _/_, _%_, _≤_, _<_}
 use native.Mathlib.Omega.{arith}
 use lib.ListN.{length, getD, take, set, getElem?, length-append, length-take, length-set}
 use lib.Seq.{getD-set-same, getD-set-other}
+use Rattle.semantics.specs.Sizes.{operatorCount, nameMost}
 use Rattle.semantics.specs.Values.{Value}
 use Rattle.semantics.specs.Machine as Floo
 use Rattle.semantics.specs.Machine.{Slot, withDictionary, intern}
@@ -18,6 +19,7 @@ use Rattle.store.specs.Rep.{Names, Stands, byteOf}
 use Rattle.store.proofs.Fresh.{rep-keys}
 use Rattle.store.proofs.Rooting.{rep-alike}
 use Rattle.store.proofs.Standing.{stands-keys, titles-count}
+use Rattle.machine.specs.Words.{bindingTag, bindingPayload}
 use Rattle.machine.specs.Places.{frameValue, bindingAt, bound, rootIn, roots, rootCount, keys, texts, Distinct}
 use Rattle.machine.specs.Rep as Words
 use Rattle.machine.specs.Rep.{Rep, Stored, Is, IsIn, Bound, Slots, SlotIs}
@@ -41,19 +43,18 @@ kept-rep {m} R long K =
       stored = R .stored;
       items = R .items;
       frames = R .frames;
-      slots = slots-frame (λ j l. K .below j (omega (arith, R .names))) (R .slots);
-      names = R .names;
-      titled = R .titled;
-      distinct = R .distinct;
-      logged = R .logged;
+      slots = slots-frame (λ j l. K .below j (omega (arith, R .naming .many))) (R .slots);
+      naming = R .naming;
+      logging = R .logging;
       stopped = R .stopped;
-      stack-room = R .stack-room;
-      exec-room = R .exec-room;
-      dict-room = omega (arith, R .dict-room);
-      log-room = R .log-room;
-      stack-few = R .stack-few;
-      exec-few = R .exec-few;
-      dict-few = omega (arith, R .dict-few);
+      rooms = record {
+        stack-fits = R .rooms .stack-fits;
+        exec-fits = R .rooms .exec-fits;
+        dict-fits = omega (arith, R .rooms .dict-fits);
+        stack-few = R .rooms .stack-few;
+        exec-few = R .rooms .exec-few;
+        dict-few = omega (arith, R .rooms .dict-few);
+      };
     }
 
 -- ---- one name more
@@ -64,7 +65,7 @@ pub record Slotted (k : ℕ) (n d d′ : List ℕ) : Type 0 where
   pub below : (i : ℕ) → i < 12 * k → getD d′ i 0 ≡ getD d i 0
   pub size : getD d′ (12 * k) 0 ≡ length n
   pub spelt : (j : ℕ) → j < 32 → byteOf (getD d′ (12 * k + 1 + j / 4) 0) (j % 4) ≡ getD n j 0
-  pub unbound : getD d′ (12 * k + 9) 0 ≡ 7
+  pub unbound : bindingTag d′ k ≡ 7
 
 -- The small state with another number of names.
 abbrev pub withNames : ℕ → Machine → Machine
@@ -127,7 +128,7 @@ all-any f (a ∷ l) = cons (f a) (all-any f l)
 anything : (v : Value) → Reached (λ i. Unit {0}) v
 anything v = record { reach = λ i n. tt }
 
-module _ {m : Machine} {s e d c l : List ℕ} {μ : Floo.Machine} (R : Rep m s e d c l μ) (n : List ℕ) (short : length n ≤ 31) (new : slotOf n (μ .dictionary) ≡ m .names)
+module _ {m : Machine} {s e d c l : List ℕ} {μ : Floo.Machine} (R : Rep m s e d c l μ) (n : List ℕ) (short : length n ≤ nameMost) (new : slotOf n (μ .dictionary) ≡ m .names)
     (room : 12 * m .names + 12 ≤ length d) {d′ : List ℕ} (W : Slotted (m .names) n d d′) where
   abbrev unbound : Slot
   unbound = record { key = n; binding = none }
@@ -136,7 +137,7 @@ module _ {m : Machine} {s e d c l : List ℕ} {μ : Floo.Machine} (R : Rep m s e
   dictionary = μ .dictionary ++ (unbound ∷ [])
 
   nowhere : Absent n (μ .dictionary)
-  nowhere = absent n (μ .dictionary) (new ∙ R .names)
+  nowhere = absent n (μ .dictionary) (new ∙ R .naming .many)
 
   more : keysOf dictionary ≡ keys μ ++ (n ∷ [])
   more = map-append (λ (t : Slot). t .key) (μ .dictionary) (unbound ∷ [])
@@ -148,19 +149,19 @@ module _ {m : Machine} {s e d c l : List ℕ} {μ : Floo.Machine} (R : Rep m s e
   carry v t p q h =
       record { stands = subst (λ ks. Stands ks (texts μ) (R .world .ρ) v t p) (sym more) (stands-keys (n ∷ []) (h .stands)); alive = h .alive }
 
-  enough : 54 ≤ length (keys μ)
-  enough = omega (arith, ap length (R .titled), titles-count, length-take 54 (keys μ))
+  enough : operatorCount ≤ length (keys μ)
+  enough = omega (arith, ap length (R .naming .titled), titles-count, length-take operatorCount (keys μ))
 
   slot-new : SlotIs Now d′ (0 + length (μ .dictionary)) unbound
   slot-new =
-      let at : m .names ≡ 0 + length (μ .dictionary) = omega (arith, R .names) in
-      let tag : Bound Now none (getD d′ (12 * m .names + 9) 0) (getD d′ (12 * m .names + 10) 0) = rw (W .unbound) Words.unbound in
+      let at : m .names ≡ 0 + length (μ .dictionary) = omega (arith, R .naming .many) in
+      let tag : Bound Now none (bindingTag d′ (m .names)) (bindingPayload d′ (m .names)) = rw (W .unbound) Words.unbound in
       subst (λ k. SlotIs Now d′ k unbound) at (record { size = W .size; short = short; spelt = W .spelt; binding = tag })
 
   slots-new : Slots Now d′ 0 dictionary
   slots-new =
       slots-more
-      (slots-frame (λ j x. W .below j (omega (arith, R .names))) (slots-map carry (all-any (λ (t : Slot). anything (bound (t .binding))) (μ .dictionary)) (R .slots)))
+      (slots-frame (λ j x. W .below j (omega (arith, R .naming .many))) (slots-map carry (all-any (λ (t : Slot). anything (bound (t .binding))) (μ .dictionary)) (R .slots)))
       slot-new
 
   stored-new : Stored (R .world) (m .lists) c (keysOf dictionary) (μ .store) (roots (withDictionary dictionary μ))
@@ -183,18 +184,21 @@ module _ {m : Machine} {s e d c l : List ℕ} {μ : Floo.Machine} (R : Rep m s e
         items = items-map carry (all-any anything (μ .stack)) (R .items);
         frames = frames-map carry (λ i t p w. refl) (λ i t p a r q h o. o) (all-any (λ f. anything (frameValue f)) (μ .exec)) (R .frames);
         slots = slots-new;
-        names = omega (arith, R .names, length-append (μ .dictionary) (unbound ∷ []));
-        titled = ap (take 54) more ∙ take-more 54 (keys μ) (n ∷ []) enough ∙ R .titled;
-        distinct = subst Distinct (sym more) (distinct-more (keys μ) n (R .distinct) (no-key n nowhere));
-        logged = R .logged;
+        naming = record {
+          many = omega (arith, R .naming .many, length-append (μ .dictionary) (unbound ∷ []));
+          titled = ap (take operatorCount) more ∙ take-more operatorCount (keys μ) (n ∷ []) enough ∙ R .naming .titled;
+          distinct = subst Distinct (sym more) (distinct-more (keys μ) n (R .naming .distinct) (no-key n nowhere));
+        };
+        logging = R .logging;
         stopped = R .stopped;
-        stack-room = R .stack-room;
-        exec-room = R .exec-room;
-        dict-room = omega (arith, W .long);
-        log-room = R .log-room;
-        stack-few = R .stack-few;
-        exec-few = R .exec-few;
-        dict-few = omega (arith, W .long, R .dict-few);
+        rooms = record {
+          stack-fits = R .rooms .stack-fits;
+          exec-fits = R .rooms .exec-fits;
+          dict-fits = omega (arith, W .long);
+          stack-few = R .rooms .stack-few;
+          exec-few = R .rooms .exec-few;
+          dict-few = omega (arith, W .long, R .rooms .dict-few);
+        };
       }
 
   pub add-rep : Rep (withNames (m .names + 1) m) s e d′ c l (intern n μ)
@@ -213,5 +217,5 @@ slotted-words {k} {n} {d} {d₁} room long P =
       unbound = getD-set-same d₁ (12 * k + 9) 7 0 (omega arith);
     }
 
-pub adds : {m : Machine} {n d d′ : List ℕ} → length n ≤ 31 → 12 * m .names + 12 ≤ length d → Slotted (m .names) n d d′ → Adds m (withNames (m .names + 1) m) d d′ n
+pub adds : {m : Machine} {n d d′ : List ℕ} → length n ≤ nameMost → 12 * m .names + 12 ≤ length d → Slotted (m .names) n d d′ → Adds m (withNames (m .names + 1) m) d d′ n
 adds {n = n} short room W = record { moves = λ s e c l μ R new. add-rep R n short new room W; kept = record { below = W .below } }

@@ -7,6 +7,7 @@ use Prim.Native.Nat.{ℕ, suc, _+_, _*_, _/_, _%_, _≤_, _<_}
 use native.Mathlib.Omega.{arith}
 use lib.ListN.{length, getD}
 use lib.Seq.{ext-getD}
+use Rattle.semantics.specs.Sizes.{nameMost}
 use Rattle.semantics.specs.Text.{same}
 use Rattle.semantics.specs.Values.{Value}
 use Rattle.semantics.specs.Machine.{Slot}
@@ -23,7 +24,7 @@ spelt {w = w} P j l =
     let e : j / 4 ≡ 0 + j / 4 = omega arith in
     ap (λ x. byteOf (getD w x 0) (j % 4)) e ∙ P .spelt j l
 
-module _ {Is : Value → ℕ → ℕ → Type 0} {d n d₀ w : List ℕ} (short : length n ≤ 31) (P : Packs 8 n 0 d₀ w) where
+module _ {Is : Value → ℕ → ℕ → Type 0} {d n d₀ w : List ℕ} (short : length n ≤ nameMost) (P : Packs 8 n 0 d₀ w) where
   same-name : {k : ℕ} {s : Slot} → SlotIs Is d k s → Agrees d (12 * k) (length n) w → n ≡ s .key
   same-name {k} {s} S A =
       let long : length n ≡ length (s .key) = sym (A .size-is) ∙ S .size in
@@ -67,7 +68,7 @@ module _ {Is : Value → ℕ → ℕ → Type 0} {d n d₀ w : List ℕ} (short 
           (lt-or-le k r)
 
 pub finds : {m : Machine} {d n d₀ w : List ℕ} {r : ℕ}
-    → length n ≤ 31
+    → length n ≤ nameMost
     → Packs 8 n 0 d₀ w
     → First d (m .names) (length n) w r
     → r ≤ m .names
@@ -75,6 +76,6 @@ pub finds : {m : Machine} {d n d₀ w : List ℕ} {r : ℕ}
 finds {r = r} short P F low =
     record {
       says = λ s e c l μ R.
-          let q = first-slot short P r (R .slots) (omega arith) (omega (arith, R .names)) (F .before) (λ x. F .here (omega (arith, R .names))) in
+          let q = first-slot short P r (R .slots) (omega arith) (omega (arith, R .naming .many)) (F .before) (λ x. F .here (omega (arith, R .naming .many))) in
           omega (arith, q);
     }

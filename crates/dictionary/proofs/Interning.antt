@@ -25,7 +25,7 @@ module _ {m : Machine} {s e d c l : List ℕ} {μ : Floo.Machine} (R : Rep m s e
   module _ (low : k < m .names) where
     here : (getElem? (keys μ) (slotOf n (μ .dictionary)) ≡ some n) × (slotted n (μ .dictionary) ≡ μ .dictionary)
     here =
-        let low : slotOf n (μ .dictionary) < length (μ .dictionary) = omega (arith, at-slot, R .names) in
+        let low : slotOf n (μ .dictionary) < length (μ .dictionary) = omega (arith, at-slot, R .naming .many) in
         (found-slot n (μ .dictionary) low, slotted-found n (μ .dictionary) low)
 
     pub found-key : getElem? (keys μ) k ≡ some n
@@ -47,7 +47,7 @@ module _ {m : Machine} {s e d c l : List ℕ} {μ : Floo.Machine} (R : Rep m s e
 
     new-count : length (intern n μ .dictionary) ≡ m .names + 1
     unfolding intern withDictionary
-    new-count = omega (arith, slotted-missing n (μ .dictionary) (new-slot ∙ R .names), R .names)
+    new-count = omega (arith, slotted-missing n (μ .dictionary) (new-slot ∙ R .naming .many), R .naming .many)
 
     pub new-slot-lacks : length d < 12 * m .names + 12 → lent s e d c l .dictionarySlots < length (intern n μ .dictionary)
     unfolding lent

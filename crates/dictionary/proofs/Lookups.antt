@@ -145,13 +145,13 @@ module _ (n : List ℕ) where
 
 module _ {m : Machine} {s e d c l : List ℕ} {μ : Floo.Machine} (R : Rep m s e d c l μ) {n : List ℕ} {k : ℕ} (F : Finds m d n k) where
   pub find-has : k < m .names → slotOf n (μ .dictionary) < length (μ .dictionary)
-  find-has low = omega (arith, F .says s e c l μ R, R .names, low)
+  find-has low = omega (arith, F .says s e c l μ R, R .naming .many, low)
 
   pub find-key : k < m .names → getElem? (keys μ) k ≡ some n
   find-key low = subst (λ i. getElem? (keys μ) i ≡ some n) (sym (F .says s e c l μ R)) (found-key n (μ .dictionary) (find-has low))
 
   pub find-none : m .names ≤ k → k ≤ m .names → slotOf n (μ .dictionary) ≡ length (μ .dictionary)
-  find-none high low = omega (arith, F .says s e c l μ R, R .names, high, low)
+  find-none high low = omega (arith, F .says s e c l μ R, R .naming .many, high, low)
 
 -- ---- the test of room
 

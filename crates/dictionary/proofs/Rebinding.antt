@@ -10,6 +10,7 @@ use Prim.Native.Nat.{ℕ, zero, suc, _+_, _*_, _/_, _%_, _≤_, _<_}
 use native.Mathlib.Omega.{arith}
 use lib.ListN.{length, getD, set, getElem?, length-set}
 use lib.Seq.{getD-set-same, getD-set-other}
+use Rattle.semantics.specs.Sizes.{nameMost, dictionaryWordsMost}
 use Rattle.semantics.specs.Values.{Value, null, name}
 use Rattle.semantics.specs.Machine as Floo
 use Rattle.semantics.specs.Machine.{Slot, withStack, withExec, withDictionary, lookup, assign}
@@ -20,6 +21,7 @@ use Rattle.heap.specs.Upd.{upd}
 use Rattle.heap.specs.declared.Lists.{Lists}
 use Rattle.heap.proofs.Parts as parts
 use Rattle.heap.proofs.Upds.{same?, upd-at, upd-other}
+use Rattle.machine.specs.Words.{bindingTag, bindingPayload}
 use Rattle.machine.specs.Places as Places
 use Rattle.machine.specs.Places.{bindingAt, rootIn, roots, rootCount, keys}
 use Rattle.machine.specs.Rep.{Rep, World, IsIn, Bound, unbound, bound, SlotIs, Slots}
@@ -107,13 +109,13 @@ valued {t = t} {p = p} none (bound h) = record { tag = t; pay = p; is = h; alike
 
 module _ {m : Machine} {st e d c l : List ℕ} {μ : Floo.Machine} (R : Rep m st e d c l μ) (k : ℕ) (n : List ℕ) (key : getElem? (keys μ) k ≡ some n) where
   at : (s : Slot) × Sits n (μ .dictionary) k s
-  at = sits n (μ .dictionary) k (R .distinct) key
+  at = sits n (μ .dictionary) k (R .naming .distinct) key
 
   pub slot-room : 12 * k + 12 ≤ length d
-  slot-room = omega (arith, element-sits n (at .1) .2, R .names, R .dict-room)
+  slot-room = omega (arith, element-sits n (at .1) .2, R .naming .many, R .rooms .dict-fits)
 
-  pub slot-few : 12 * k + 12 ≤ 6155
-  slot-few = omega (arith, slot-room, R .dict-few)
+  pub slot-few : 12 * k + 12 ≤ dictionaryWordsMost
+  slot-few = omega (arith, slot-room, R .rooms .dict-few)
 
   words : SlotIs (IsIn (R .world) μ) d k (at .0)
   words =
@@ -121,13 +123,13 @@ module _ {m : Machine} {st e d c l : List ℕ} {μ : Floo.Machine} (R : Rep m st
       subst (λ x. SlotIs (IsIn (R .world) μ) d x (at .0)) place (slot-at k (element-sits n (at .1) .0) (R .slots))
 
   -- The words of the binding stand for what is looked up, and the slot is the name's.
-  pub binding-at : Bound (IsIn (R .world) μ) (lookup n (μ .dictionary)) (getD d (12 * k + 9) 0) (getD d (12 * k + 10) 0) × (slotOf n (μ .dictionary) ≡ k)
+  pub binding-at : Bound (IsIn (R .world) μ) (lookup n (μ .dictionary)) (bindingTag d k) (bindingPayload d k) × (slotOf n (μ .dictionary) ≡ k)
   binding-at =
-      (subst (λ o. Bound (IsIn (R .world) μ) o (getD d (12 * k + 9) 0) (getD d (12 * k + 10) 0)) (sym (lookup-sits n (at .1))) (words .binding), slot-sits n (at .1))
+      (subst (λ o. Bound (IsIn (R .world) μ) o (bindingTag d k) (bindingPayload d k)) (sym (lookup-sits n (at .1))) (words .binding), slot-sits n (at .1))
 
   -- ---- the binding becomes another value
 
-  abbrev old : Valued (IsIn (R .world) μ) (Places.bound (at .0 .binding)) (getD d (12 * k + 9) 0) (getD d (12 * k + 10) 0)
+  abbrev old : Valued (IsIn (R .world) μ) (Places.bound (at .0 .binding)) (bindingTag d k) (bindingPayload d k)
   old = valued nothing (words .binding)
 
   held : IsIn (R .world) μ (roots μ (4 * k + 2)) (old .tag) (old .pay)
@@ -140,7 +142,7 @@ module _ {m : Machine} {st e d c l : List ℕ} {μ : Floo.Machine} (R : Rep m st
   low = omega (arith, slot-few)
 
   module _ {v : Value} {t p : ℕ} (new : IsIn (R .world) μ v t p) where
-    pub bind-placed : Placed (m .lists) c (getD d (12 * k + 9) 0) (getD d (12 * k + 10) 0) t p
+    pub bind-placed : Placed (m .lists) c (bindingTag d k) (bindingPayload d k) t p
     bind-placed = placed-alike (old .alike) (placed R (4 * k + 2) low held new)
 
     abbrev words-after : List ℕ
@@ -152,12 +154,12 @@ module _ {m : Machine} {st e d c l : List ℕ} {μ : Floo.Machine} (R : Rep m st
     elsewhere : (j : ℕ) → (j ≡ 12 * k + 9 → ⊥) → (j ≡ 12 * k + 10 → ⊥) → getD words-after j 0 ≡ getD d j 0
     elsewhere j a b = getD-set-other (set d (12 * k + 9) t) (12 * k + 10) j p 0 b ∙ getD-set-other d (12 * k + 9) j t 0 a
 
-    tag-after : getD words-after (12 * k + 9) 0 ≡ t
+    tag-after : bindingTag words-after k ≡ t
     tag-after =
         getD-set-other (set d (12 * k + 9) t) (12 * k + 10) (12 * k + 9) p 0 (λ q. omega arith)
         ∙ getD-set-same d (12 * k + 9) t 0 (omega (arith, slot-room))
 
-    pay-after : getD words-after (12 * k + 10) 0 ≡ p
+    pay-after : bindingPayload words-after k ≡ p
     pay-after = getD-set-same (set d (12 * k + 9) t) (12 * k + 10) p 0 (omega (arith, slot-room, length-set d (12 * k + 9) t))
 
     abbrev slot-after : Slot
@@ -167,11 +169,11 @@ module _ {m : Machine} {st e d c l : List ℕ} {μ : Floo.Machine} (R : Rep m st
     slot-is =
         let place : k ≡ 0 + k = omega arith in
         let same-key = element-sits n (at .1) .1 in
-        let both : Bound (IsIn (R .world) μ) (some v) (getD words-after (12 * k + 9) 0) (getD words-after (12 * k + 10) 0) = rw (tag-after, pay-after) (bound new) in
+        let both : Bound (IsIn (R .world) μ) (some v) (bindingTag words-after k) (bindingPayload words-after k) = rw (tag-after, pay-after) (bound new) in
         subst (λ x. SlotIs (IsIn (R .world) μ) words-after x slot-after) place
         (record {
           size = elsewhere (12 * k) (λ q. omega arith) (λ q. omega arith) ∙ words .size ∙ ap length same-key;
-          short = subst (λ x. length x ≤ 31) same-key (words .short);
+          short = subst (λ x. length x ≤ nameMost) same-key (words .short);
           spelt = λ j x.
               ap (λ w. byteOf w (j % 4)) (elsewhere (12 * k + 1 + j / 4) (λ q. omega arith) (λ q. omega arith))
               ∙ words .spelt j x
@@ -183,7 +185,7 @@ module _ {m : Machine} {st e d c l : List ℕ} {μ : Floo.Machine} (R : Rep m st
     all-slots = slots-set k (element-sits n (at .1) .2) (λ j x. elsewhere j (λ q. omega (arith, x (omega arith))) (λ q. omega (arith, x (omega arith)))) (R .slots) slot-is
 
     pub bind-rep : {s′ : Lists} {c′ : List ℕ}
-        → Recounts (m .lists) c (getD d (12 * k + 9) 0) (getD d (12 * k + 10) 0) t p s′ c′
+        → Recounts (m .lists) c (bindingTag d k) (bindingPayload d k) t p s′ c′
         → Rep (withDepths (m .depth) (m .frames) s′ m) st e words-after c′ l (withDictionary (assign n v (μ .dictionary)) μ)
     unfolding withExec withStack withDictionary
     bind-rep {s′} {c′} K =
@@ -191,7 +193,7 @@ module _ {m : Machine} {st e d c l : List ℕ} {μ : Floo.Machine} (R : Rep m st
         (rerooted-all R (4 * k + 2) low held new (recounts-alike (old .alike) K) (μ .stack) (μ .exec) (set (μ .dictionary) k slot-after)
         (keys-set n (some v) (at .1))
         (binding-changed μ (set (μ .dictionary) k slot-after) k v (binding-set (μ .dictionary) k slot-after (element-sits n (at .1) .2)))
-        refl refl after-long (R .stack-room) (R .exec-room) (R .items) (R .frames) all-slots)
+        refl refl after-long (R .rooms .stack-fits) (R .rooms .exec-fits) (R .items) (R .frames) all-slots)
 
 -- The value that a bound name's words stand for.
 bound-is : {A : Value → ℕ → ℕ → Type 0} {o : Option Value} {v : Value} {t p : ℕ} → Bound A o t p → o ≡ some v → A v t p
@@ -201,7 +203,7 @@ bound-is {A} {v = v} {t = t} {p = p} (bound {v = u} h) e =
 bound-is unbound e = absurd (none-some e)
 
 module _ {m : Machine} {st e d c l : List ℕ} {μ : Floo.Machine} (R : Rep m st e d c l μ) (k : ℕ) (n : List ℕ) (key : getElem? (keys μ) k ≡ some n) where
-  pub bound-value : {v : Value} → lookup n (μ .dictionary) ≡ some v → IsIn (R .world) μ v (getD d (12 * k + 9) 0) (getD d (12 * k + 10) 0)
+  pub bound-value : {v : Value} → lookup n (μ .dictionary) ≡ some v → IsIn (R .world) μ v (bindingTag d k) (bindingPayload d k)
   bound-value q = bound-is (binding-at R k n key .0) q
 
 -- The words of a literal name.

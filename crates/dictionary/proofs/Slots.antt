@@ -10,6 +10,7 @@ use Rattle.semantics.specs.Values.{Value}
 use Rattle.semantics.specs.Machine.{Slot}
 use Rattle.semantics.specs.ListLaws.{some-one, none-some}
 use Rattle.store.specs.Rep.{byteOf}
+use Rattle.machine.specs.Words.{bindingTag, bindingPayload}
 use Rattle.machine.specs.Rep.{Bound, SlotIs, Slots, end, slot}
 
 module _ {Is : Value → ℕ → ℕ → Type 0} where
@@ -21,7 +22,7 @@ module _ {Is : Value → ℕ → ℕ → Type 0} where
   slot-same {words} {other} {k} {s} f S =
       let tag = f (12 * k + 9) (omega arith) (omega arith) in
       let pay = f (12 * k + 10) (omega arith) (omega arith) in
-      let words-are : Bound Is (s .binding) (getD other (12 * k + 9) 0) (getD other (12 * k + 10) 0) = rw (tag, pay) (S .binding) in
+      let words-are : Bound Is (s .binding) (bindingTag other k) (bindingPayload other k) = rw (tag, pay) (S .binding) in
       record {
         size = f (12 * k) (omega arith) (omega arith) ∙ S .size;
         short = S .short;

@@ -3,31 +3,30 @@
 ghost use mathlib.Core.Path.{_≡_};
 ghost use Prim.Native.Nat.{_+_, _*_, _≤_, _<_};
 ghost use lib.ListN.{length, getD};
+ghost use Rattle.machine.specs.Words.{bindingTag, bindingPayload};
+ghost use Rattle.semantics.specs.Sizes.{nameMost, dictionaryWordsMost};
 ghost use Rattle.dictionary.specs.Names.{Finds, Adds};
 ghost use Rattle.dictionary.specs.Packing.{Packs, Spells, Agrees, Tells, First, Bytes};
 ghost use Rattle.dictionary.specs.Bindings.{BoundItems, BoundFrames, NamedItems, LoadsBinding, PendsBinding, BindsItem, NamedStack, PutsName};
 use frames::PENDING;
+use machine::BINDING_PAYLOAD;
+use machine::BINDING_TAG;
+use machine::FRAME_PAYLOAD;
+use machine::FRAME_TAG;
+use machine::ITEM_PAYLOAD;
 use machine::Machine;
+use machine::SPELLING;
 use machine::TAG_LITERAL;
 use machine::TAG_NULL;
 use machine::TAG_UNBOUND;
-
-// The words of a slot: the name's length, eight words of its bytes, and the binding's two.
-pub const SLOT: usize = 12;
-
-// The most bytes that a name has.
-pub const NAME_BYTES: usize = 31;
-
-const SPELLING: usize = 1;
-
-pub const BINDING: usize = 9;
-
-pub const PAYLOAD: usize = 10;
+use semantics::DICTIONARY_WIDTH;
+use semantics::EXEC_WIDTH;
+use semantics::STACK_WIDTH;
 
 // The slot of a name; the number of slots where it has none. The name is packed once, so that a slot takes a comparison of words and none of bytes.
 // Rules out: a name taken for a longer one that starts like it; a slot past the last one.
 pub fn find(m: Machine, dict: &[u32], name: &[u8]) -> usize
-    requires { ⌜ (length (now name) ≤ 31) × (12 * m .names ≤ length (now dict)) × (length (now dict) ≤ 6155) ⌝ }
+    requires { ⌜ (length (now name) ≤ nameMost) × (12 * m .names ≤ length (now dict)) × (length (now dict) ≤ dictionaryWordsMost) ⌝ }
     ensures { λ r. ⌜ Finds m (now (dict .entry)) (now (name .entry)) r ⌝ }
     ensures { λ r. ⌜ r ≤ m .names ⌝ }
 {
@@ -40,13 +39,13 @@ pub fn find(m: Machine, dict: &[u32], name: &[u8]) -> usize
 // A name that has no slot takes the next one, unbound.
 // Rules out: a slot over that of another name; bytes of an earlier name left after the new one.
 pub fn add(m: Machine, dict: &mut [u32], name: &[u8]) -> Machine
-    requires { ⌜ (length (now name) ≤ 31) × (12 * m .names + 12 ≤ length (now dict)) × (length (now dict) ≤ 6155) ⌝ }
+    requires { ⌜ (length (now name) ≤ nameMost) × (12 * m .names + 12 ≤ length (now dict)) × (length (now dict) ≤ dictionaryWordsMost) ⌝ }
     ensures { λ r. ⌜ Adds m r (now (dict .entry)) (now (dict .exit)) (now (name .entry)) ⌝ }
     ensures { λ r. ⌜ (r .names ≡ m .names + 1) × (r .depth ≡ m .depth) × (r .frames ≡ m .frames) × (r .lists ≡ m .lists) ⌝ }
 {
     let n = m.names;
     spell(dict, n, name);
-    dict[SLOT * n + BINDING] = TAG_UNBOUND;
+    dict[DICTIONARY_WIDTH * n + BINDING_TAG] = TAG_UNBOUND;
     let mut r = m;
     r.names = n + 1;
     r
@@ -55,11 +54,11 @@ pub fn add(m: Machine, dict: &mut [u32], name: &[u8]) -> Machine
 // A name's length and bytes go into a slot.
 // Rules out: bytes of an earlier name left after the new one; a binding changed.
 pub fn spell(dict: &mut [u32], slot: usize, name: &[u8])
-    requires { ⌜ (length (now name) ≤ 31) × (12 * slot + 12 ≤ length (now dict)) × (length (now dict) ≤ 6155) ⌝ }
+    requires { ⌜ (length (now name) ≤ nameMost) × (12 * slot + 12 ≤ length (now dict)) × (length (now dict) ≤ dictionaryWordsMost) ⌝ }
     ensures { λ _. ⌜ Spells slot (now (name .entry)) (now (dict .entry)) (now (dict .exit)) ⌝ }
 {
-    dict[SLOT * slot] = name.len() as u32;
-    pack(name, dict, SLOT * slot + SPELLING);
+    dict[DICTIONARY_WIDTH * slot] = name.len() as u32;
+    pack(name, dict, DICTIONARY_WIDTH * slot + SPELLING);
 }
 
 // Item i gives way to a copy of the slot's binding.
@@ -77,15 +76,15 @@ pub fn load_binding(
     ensures { λ r. ⌜ r .depth ≡ m .depth ⌝ }
 {
     let k = m.depth - 1 - i;
-    let at = SLOT * slot;
-    let tag = dict[at + BINDING];
-    let pay = dict[at + PAYLOAD];
-    let old = stack[2 * k];
-    let was = stack[2 * k + 1];
+    let at = DICTIONARY_WIDTH * slot;
+    let tag = dict[at + BINDING_TAG];
+    let pay = dict[at + BINDING_PAYLOAD];
+    let old = stack[STACK_WIDTH * k];
+    let was = stack[STACK_WIDTH * k + ITEM_PAYLOAD];
     let lists = m.lists;
     let left = machine::recount(lists, cells, old, was, tag, pay);
-    stack[2 * k] = tag;
-    stack[2 * k + 1] = pay;
+    stack[STACK_WIDTH * k] = tag;
+    stack[STACK_WIDTH * k + ITEM_PAYLOAD] = pay;
     let mut r = m;
     r.lists = left;
     r
@@ -105,14 +104,14 @@ pub fn pend_binding(
     ensures { λ r. ⌜ (r .depth ≡ m .depth) × (r .frames ≡ m .frames + 1) ⌝ }
 {
     let n = m.frames;
-    let at = SLOT * slot;
-    let tag = dict[at + BINDING];
-    let pay = dict[at + PAYLOAD];
+    let at = DICTIONARY_WIDTH * slot;
+    let tag = dict[at + BINDING_TAG];
+    let pay = dict[at + BINDING_PAYLOAD];
     let lists = m.lists;
     let counted = machine::recount(lists, cells, TAG_NULL, 0, tag, pay);
-    exec[8 * n] = PENDING;
-    exec[8 * n + 1] = tag;
-    exec[8 * n + 2] = pay;
+    exec[EXEC_WIDTH * n] = PENDING;
+    exec[EXEC_WIDTH * n + FRAME_TAG] = tag;
+    exec[EXEC_WIDTH * n + FRAME_PAYLOAD] = pay;
     let mut r = m;
     r.frames = n + 1;
     r.lists = counted;
@@ -134,15 +133,15 @@ pub fn bind_item(
     ensures { λ r. ⌜ r .depth ≡ m .depth ⌝ }
 {
     let k = m.depth - 1 - i;
-    let tag = stack[2 * k];
-    let pay = stack[2 * k + 1];
-    let at = SLOT * slot;
-    let old = dict[at + BINDING];
-    let was = dict[at + PAYLOAD];
+    let tag = stack[STACK_WIDTH * k];
+    let pay = stack[STACK_WIDTH * k + ITEM_PAYLOAD];
+    let at = DICTIONARY_WIDTH * slot;
+    let old = dict[at + BINDING_TAG];
+    let was = dict[at + BINDING_PAYLOAD];
     let lists = m.lists;
     let left = machine::recount(lists, cells, old, was, tag, pay);
-    dict[at + BINDING] = tag;
-    dict[at + PAYLOAD] = pay;
+    dict[at + BINDING_TAG] = tag;
+    dict[at + BINDING_PAYLOAD] = pay;
     let mut r = m;
     r.lists = left;
     r
@@ -156,12 +155,12 @@ pub fn put_name(m: Machine, stack: &mut [u32], cells: &mut [u32], slot: u32, i: 
     ensures { λ r. ⌜ r .depth ≡ m .depth ⌝ }
 {
     let k = m.depth - 1 - i;
-    let old = stack[2 * k];
-    let was = stack[2 * k + 1];
+    let old = stack[STACK_WIDTH * k];
+    let was = stack[STACK_WIDTH * k + ITEM_PAYLOAD];
     let lists = m.lists;
     let left = machine::recount(lists, cells, old, was, TAG_LITERAL, slot);
-    stack[2 * k] = TAG_LITERAL;
-    stack[2 * k + 1] = slot;
+    stack[STACK_WIDTH * k] = TAG_LITERAL;
+    stack[STACK_WIDTH * k + ITEM_PAYLOAD] = slot;
     let mut r = m;
     r.lists = left;
     r
@@ -169,29 +168,29 @@ pub fn put_name(m: Machine, stack: &mut [u32], cells: &mut [u32], slot: u32, i: 
 
 // The tag of the slot's binding.
 pub fn binding_tag(dict: &[u32], slot: usize) -> u32
-    requires { ⌜ (12 * slot + 12 ≤ length (now dict)) × (length (now dict) ≤ 6155) ⌝ }
-    ensures { λ r. ⌜ r ≡ getD (now (dict .entry)) (12 * slot + 9) 0 ⌝ }
+    requires { ⌜ (12 * slot + 12 ≤ length (now dict)) × (length (now dict) ≤ dictionaryWordsMost) ⌝ }
+    ensures { λ r. ⌜ r ≡ bindingTag (now (dict .entry)) slot ⌝ }
 {
-    dict[SLOT * slot + BINDING]
+    dict[DICTIONARY_WIDTH * slot + BINDING_TAG]
 }
 
 // The payload of the slot's binding.
 pub fn binding_payload(dict: &[u32], slot: usize) -> u32
-    requires { ⌜ (12 * slot + 12 ≤ length (now dict)) × (length (now dict) ≤ 6155) ⌝ }
-    ensures { λ r. ⌜ r ≡ getD (now (dict .entry)) (12 * slot + 10) 0 ⌝ }
+    requires { ⌜ (12 * slot + 12 ≤ length (now dict)) × (length (now dict) ≤ dictionaryWordsMost) ⌝ }
+    ensures { λ r. ⌜ r ≡ bindingPayload (now (dict .entry)) slot ⌝ }
 {
-    dict[SLOT * slot + PAYLOAD]
+    dict[DICTIONARY_WIDTH * slot + BINDING_PAYLOAD]
 }
 
 // The first of n slots that has this size and these words; n where none has.
 fn first(dict: &[u32], n: usize, size: u32, words: &[u32]) -> usize
-    requires { ⌜ (12 * n ≤ length (now dict)) × (length (now dict) ≤ 6155) × (length (now words) ≡ 8) ⌝ }
+    requires { ⌜ (12 * n ≤ length (now dict)) × (length (now dict) ≤ dictionaryWordsMost) × (length (now words) ≡ 8) ⌝ }
     ensures { λ r. ⌜ First (now (dict .entry)) n size (now (words .entry)) r ⌝ }
     ensures { λ r. ⌜ r ≤ n ⌝ }
 {
     let mut k = 0;
     while k < n {
-        if agrees(dict, SLOT * k, size, words) {
+        if agrees(dict, DICTIONARY_WIDTH * k, size, words) {
             return k;
         }
         k = k + 1;
@@ -201,7 +200,7 @@ fn first(dict: &[u32], n: usize, size: u32, words: &[u32]) -> usize
 
 // Whether the slot at this place has this size and these words. The sizes mostly differ.
 fn agrees(dict: &[u32], at: usize, size: u32, words: &[u32]) -> bool
-    requires { ⌜ (at + 12 ≤ length (now dict)) × (length (now dict) ≤ 6155) × (length (now words) ≡ 8) ⌝ }
+    requires { ⌜ (at + 12 ≤ length (now dict)) × (length (now dict) ≤ dictionaryWordsMost) × (length (now words) ≡ 8) ⌝ }
     ensures { λ r. ⌜ Tells (Agrees (now (dict .entry)) at size (now (words .entry))) r ⌝ }
 {
     if dict[at] != size {
@@ -219,7 +218,7 @@ fn agrees(dict: &[u32], at: usize, size: u32, words: &[u32]) -> bool
 
 // The name's bytes go into eight words from `at` on, with zeros after them.
 fn pack(name: &[u8], words: &mut [u32], at: usize)
-    requires { ⌜ (at + 8 ≤ length (now words)) × (length (now words) ≤ 6155) ⌝ }
+    requires { ⌜ (at + 8 ≤ length (now words)) × (length (now words) ≤ dictionaryWordsMost) ⌝ }
     ensures { λ _. ⌜ Packs 8 (now (name .entry)) at (now (words .entry)) (now (words .exit)) ⌝ }
 {
     let mut i = 0;

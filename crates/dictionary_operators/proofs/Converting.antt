@@ -11,6 +11,7 @@ use lib.Dec.{leb}
 use lib.ListN.{length, getD, set, take, length-set}
 use lib.Seq.{length-take-le, getD-take, getD-set-same, getD-set-other, ext-getD}
 use borrow.Author.Tests.{le-leb, lt-leb}
+use Rattle.semantics.specs.Sizes.{nameMost, dictionaryWordsMost}
 use Rattle.semantics.specs.Text.{bytes, textual}
 use Rattle.semantics.specs.Values.{Value, name, null, string, Result, ok, fault, _>>=_, check, stringId, current}
 use Rattle.semantics.specs.Machine as Floo
@@ -21,6 +22,7 @@ use Rattle.semantics.specs.Steps.{roomFor}
 use Rattle.semantics.specs.declared.Error.the-variants.{StackUnderflow, TypeCheck, LimitCheck}
 use Rattle.heap.proofs.Since.{lt-or-le}
 use Rattle.store.specs.Rep.{Stands, a-null, an-integer, a-boolean, a-mark, an-operator, a-literal, an-executable, a-string, an-array, a-procedure}
+use Rattle.machine.specs.Words.{itemTag}
 use Rattle.machine.specs.Rep.{Rep}
 use Rattle.machine.specs.Room.{lent, fitted}
 use Rattle.machine.specs.declared.Machine.{Machine}
@@ -97,8 +99,8 @@ unfolding withStack
 stacked-dictionary n s μ = refl
 
 module _ {m : Machine} {s d c : List ℕ} where
-  pub few : Represented m s d c → length d ≤ 6155
-  few (e, l, μ, R) = R .dict-few
+  pub few : Represented m s d c → length d ≤ dictionaryWordsMost
+  few (e, l, μ, R) = R .rooms .dict-few
 
   module _ {n : List ℕ} {k : ℕ} (F : Finds m d n k) where
     module _ (low : k < m .names) where
@@ -167,7 +169,7 @@ stands-no-string (a-procedure q k) n = refl
 
 -- What comes of a string's current bytes.
 abbrev become : Floo.Machine → List ℕ → Result Floo.Machine
-become τ n = check (leb (length n) 31) LimitCheck >>= λ u. ok (push (name false n) (intern n τ))
+become τ n = check (leb (length n) nameMost) LimitCheck >>= λ u. ok (push (name false n) (intern n τ))
 
 abbrev converted : Floo.Machine → ℕ → Result Floo.Machine
 converted τ i = become τ (current (bytesOf (object τ i)))
@@ -200,17 +202,17 @@ module _ (μ : Floo.Machine) where
         let f = first-item (μ .stack) h in
         converting (f .2) ∙ ap (λ v. stringId v >>= converted (withStack (f .1) μ)) (ap (λ t. getD t 0 null) (sym (f .2)) ∙ x)
 
-    cvn-long : 31 < length text → perform (bytes "cvn") μ ≡ fault LimitCheck
+    cvn-long : nameMost < length text → perform (bytes "cvn") μ ≡ fault LimitCheck
     unfolding _>>=_ check
     cvn-long q =
-        of-string ∙ ap (λ t. check t LimitCheck >>= λ u. ok (push (name false text) (intern text (withStack rest μ)))) (lt-leb (length text) 31 q)
+        of-string ∙ ap (λ t. check t LimitCheck >>= λ u. ok (push (name false text) (intern text (withStack rest μ)))) (lt-leb (length text) nameMost q)
 
-    cvn-done : length text ≤ 31 → itemNamed text μ ≡ perform (bytes "cvn") μ
+    cvn-done : length text ≤ nameMost → itemNamed text μ ≡ perform (bytes "cvn") μ
     unfolding _>>=_ check itemNamed push withStack intern withDictionary
     cvn-done q =
         sym
         (of-string
-        ∙ ap (λ t. check t LimitCheck >>= λ u. ok (push (name false text) (intern text (withStack rest μ)))) (le-leb (length text) 31 q)
+        ∙ ap (λ t. check t LimitCheck >>= λ u. ok (push (name false text) (intern text (withStack rest μ)))) (le-leb (length text) nameMost q)
         ∙ sym (ap (λ (t : List Value). ok (withStack (set t 0 (name false text)) (intern text μ))) (first-item (μ .stack) h .2)))
 
 -- ---- what is read is the name
@@ -238,11 +240,11 @@ module _ {m : Machine} {s d c : List ℕ} where
   cvn-short h = fails (λ e l μ R. cvn-under μ (omega (arith, stack-depth R)))
 
   module _ (one : 1 ≤ m .depth) where
-    pub cvn-mistyped : (getD s (2 * (m .depth - 1)) 0 ≡ 8 → ⊥) → DoesDictionary (perform (bytes "cvn")) m s s d d c c (Fail TypeCheck)
+    pub cvn-mistyped : (itemTag s (m .depth - 1) ≡ 8 → ⊥) → DoesDictionary (perform (bytes "cvn")) m s s d d c c (Fail TypeCheck)
     cvn-mistyped q =
         fails (λ e l μ R. cvn-type μ (omega (arith, stack-depth R)) (stands-no-string (word-of R 0 (m .depth - 1) (omega arith) .stands) q))
 
-    module _ (q : getD s (2 * (m .depth - 1)) 0 ≡ 8) where
+    module _ (q : itemTag s (m .depth - 1) ≡ 8) where
       has-string : {e l : List ℕ} {μ : Floo.Machine} → Rep m s e d c l μ → HasString 0 μ
       has-string R = string-tagged R 0 (m .depth - 1) (omega arith) q
 
@@ -250,7 +252,7 @@ module _ {m : Machine} {s d c : List ℕ} where
       cvn-string (e, l, μ, R) = (e, d, l, μ, R, has-string R)
 
       module _ {n : ℕ} (Z : CurrentSize 0 m s c n) where
-        pub cvn-over : 31 < n → DoesDictionary (perform (bytes "cvn")) m s s d d c c (Fail LimitCheck)
+        pub cvn-over : nameMost < n → DoesDictionary (perform (bytes "cvn")) m s s d d c c (Fail LimitCheck)
         cvn-over h =
             fails
             (λ e l μ R.
@@ -262,7 +264,7 @@ module _ {m : Machine} {s d c : List ℕ} where
             let x = has-string R in
             (e, d, l, μ, R, record { string = x; inside = omega (arith, Z .says e d l μ R (x .id) (x .item), current-few (bytesOf (object μ (x .id)))) })
 
-        module _ (h : n ≤ 31) {out : List ℕ} (B : ReadsBytes n m s c out) (long : n ≤ length out) where
+        module _ (h : n ≤ nameMost) {out : List ℕ} (B : ReadsBytes n m s c out) (long : n ≤ length out) where
           pub cvn-good : {s′ d′ c′ : List ℕ} (r : Did)
               → DoesDictionary (itemNamed (take (n - 0) out)) m s s′ d d′ c c′ r
               → DoesDictionary (perform (bytes "cvn")) m s s′ d d′ c c′ r

@@ -9,6 +9,7 @@ use Prim.Native.Nat.{ℕ, _+_, _*_, _≤_, _<_}
 use native.Mathlib.Omega.{arith}
 use lib.ListN.{length, getD, set, getElem?}
 use lib.Seq.{set-getD}
+use Rattle.semantics.specs.Sizes.{dictionaryWordsMost}
 use Rattle.semantics.specs.Values.{Value, name, operator, null, array, elements}
 use Rattle.semantics.specs.Machine as Floo
 use Rattle.semantics.specs.Machine.{withStore, object, change, lookup}
@@ -21,6 +22,7 @@ use Rattle.heap.specs.declared.Lists.{Lists}
 use Rattle.heap.proofs.Shapes.{room}
 use Rattle.store.specs.Rep.{Stands, a-null, an-integer, a-boolean, a-mark, an-operator, a-literal, an-executable, a-string, an-array, a-procedure}
 use Rattle.store.proofs.Standing.{is-executable, is-operator}
+use Rattle.machine.specs.Words.{itemPayload, bindingTag, bindingPayload}
 use Rattle.machine.specs.Places.{keys}
 use Rattle.machine.specs.Rep as Words
 use Rattle.machine.specs.Rep.{Rep, IsIn, Bound}
@@ -83,7 +85,7 @@ abbrev element-of : (μ : Floo.Machine) (q id : ℕ) → IsProcedure μ id → q
 element-of μ q id p inside = record { array = record { executable = true; id = id; item = p }; inside = inside }
 
 module _ {m : Machine} {s e d c l : List ℕ} {μ : Floo.Machine} (R : Rep m s e d c l μ) (q k : ℕ) (h : m .depth ≡ k + 1) (id : ℕ) (p : IsProcedure μ id) (inside : q < length (elementsIn μ id))
-    (cell : ℕ) (found : Found c (getD s (2 * k + 1) 0) q cell) where
+    (cell : ℕ) (found : Found c (itemPayload s k) q cell) where
   abbrev has : HasElement 0 q μ
   has = element-of μ q id p inside
 
@@ -124,28 +126,28 @@ module _ {m : Machine} {s e d c l : List ℕ} {μ : Floo.Machine} (R : Rep m s e
       text : (n : List ℕ) × (value ≡ name true n) × (getElem? (keys μ) w ≡ some n)
       text = is-executable (words t w te we .stands) is
 
-      slot-there : (12 * w + 12 ≤ length d) × (length d ≤ 6155)
-      slot-there = (slot-room R w (text .0) (text .2), R .dict-few)
+      slot-there : (12 * w + 12 ≤ length d) × (length d ≤ dictionaryWordsMost)
+      slot-there = (slot-room R w (text .0) (text .2), R .rooms .dict-few)
 
       looked-up : bound μ value ≡ operatorOr (name true (text .0)) (lookup (text .0) (μ .dictionary))
       unfolding bound
       looked-up = ap (bound μ) (text .1)
 
-      keeps : (getD d (12 * w + 9) 0 ≡ 4 → ⊥) → Rep m s e d c l (after (bound μ value))
+      keeps : (bindingTag d w ≡ 4 → ⊥) → Rep m s e d c l (after (bound μ value))
       keeps n = stays (looked-up ∙ bound-other R (name true (text .0)) (binding-at R w (text .0) (text .2) .0) n ∙ sym (text .1))
 
-      module _ (op : getD d (12 * w + 9) 0 ≡ 4) where
-        binding : Operates R (lookup (text .0) (μ .dictionary)) (getD d (12 * w + 10) 0)
+      module _ (op : bindingTag d w ≡ 4) where
+        binding : Operates R (lookup (text .0) (μ .dictionary)) (bindingPayload d w)
         binding = operates R (binding-at R w (text .0) (text .2) .0) op
 
         becomes : bound μ value ≡ operator (binding .title)
         unfolding operatorOr
         becomes = looked-up ∙ ap (operatorOr (name true (text .0))) (binding .value)
 
-        target : Target cell 4 (getD d (12 * w + 10) 0) (m .lists) c × (m .lists .dead ≡ 0)
+        target : Target cell 4 (bindingPayload d w) (m .lists) c × (m .lists .dead ≡ 0)
         target = (value-target R 0 k q (omega arith) has cell found (binding .words), R .stored .none-dead)
 
-        puts : {r : Lists} {c′ : List ℕ} → Assigned cell 4 (getD d (12 * w + 10) 0) (m .lists) c r c′ → r .dead ≡ 0 → Rep (withDepth (m .depth) r m) s e d c′ l (after (bound μ value))
+        puts : {r : Lists} {c′ : List ℕ} → Assigned cell 4 (bindingPayload d w) (m .lists) c r c′ → r .dead ≡ 0 → Rep (withDepth (m .depth) r m) s e d c′ l (after (bound μ value))
         puts {r} {c′} A z =
             subst (λ v. Rep (withDepth (m .depth) r m) s e d c′ l (after v)) (sym becomes)
             (subst (λ x. Rep (withDepth (m .depth) r m) s e d c′ l (change x (elements (set (elementsIn μ x) q (operator (binding .title)))) μ)) named-id
@@ -157,10 +159,10 @@ module _ {m : Machine} {s d c : List ℕ} (q k : ℕ) (h : m .depth ≡ k + 1) (
   inside-too : {e l : List ℕ} {μ : Floo.Machine} → Rep m s e d c l μ → (id : ℕ) → IsProcedure μ id → q < length (elementsIn μ id)
   inside-too R id p = omega (arith, W .5, size-read (W .6) 0 k (omega arith) (W .4), size-read R 0 k (omega arith) p)
 
-  pub bind-sought : (g : Ghost) × (n : ℕ) × Shape g n c × (g .own (getD s (2 * k + 1) 0) ≡ live) × (q < g .size (getD s (2 * k + 1) 0 + 2))
+  pub bind-sought : (g : Ghost) × (n : ℕ) × Shape g n c × (g .own (itemPayload s k) ≡ live) × (q < g .size (itemPayload s k + 2))
   bind-sought = sought (W .6) 0 k q (omega arith) (element-of (W .2) q (W .3) (W .4) (W .5))
 
-  module _ (cell : ℕ) (found : Found c (getD s (2 * k + 1) 0) q cell) where
+  module _ (cell : ℕ) (found : Found c (itemPayload s k) q cell) where
     pub bind-room : cell * 4 + 4 ≤ length c
     bind-room = room (W .6 .stored .full .heap .shape) cell (at-cell (W .6) 0 k q (omega arith) (element-of (W .2) q (W .3) (W .4) (W .5)) cell found) refl
 
@@ -169,13 +171,13 @@ module _ {m : Machine} {s d c : List ℕ} (q k : ℕ) (h : m .depth ≡ k + 1) (
       bind-skips n = record { moves = λ e l μ R id p. skips R q k h id p (inside-too R id p) cell found t (word c cell 1) te refl n }
 
       module _ (is : t ≡ 6) (w : ℕ) (we : w ≡ word c cell 1) where
-        pub bind-slot : (12 * w + 12 ≤ length d) × (length d ≤ 6155)
+        pub bind-slot : (12 * w + 12 ≤ length d) × (length d ≤ dictionaryWordsMost)
         bind-slot = slot-there (W .6) q k h (W .3) (W .4) (W .5) cell found t w te we is
 
-        pub bind-keeps : (getD d (12 * w + 9) 0 ≡ 4 → ⊥) → BindsElement q m m s d c c
+        pub bind-keeps : (bindingTag d w ≡ 4 → ⊥) → BindsElement q m m s d c c
         bind-keeps n = record { moves = λ e l μ R id p. keeps R q k h id p (inside-too R id p) cell found t w te we is n }
 
-        module _ (op : getD d (12 * w + 9) 0 ≡ 4) {pay : ℕ} (pe : pay ≡ getD d (12 * w + 10) 0) where
+        module _ (op : bindingTag d w ≡ 4) {pay : ℕ} (pe : pay ≡ bindingPayload d w) where
           pub bind-target : Target cell 4 pay (m .lists) c × (m .lists .dead ≡ 0)
           bind-target = rw pe (target (W .6) q k h (W .3) (W .4) (W .5) cell found t w te we is op)
 

@@ -4,7 +4,7 @@ use mathlib.Core.Path.{_≡_, refl, sym, ap, _∙_, subst}
 use mathlib.Core.Bool.{Bool, true, false}
 use mathlib.Core.List.{List, [], _∷_, map}
 use mathlib.Core.Logic.{⊎-elim}
-use Prim.Native.Nat.{ℕ, _+_, _-_, _*_, _≤_, _<_}
+use Prim.Native.Nat.{ℕ, _+_, _-_, _≤_, _<_}
 use native.Mathlib.Omega.{arith}
 use lib.ListN.{length, getD, set, length-set, length-map, List·getD-map}
 use lib.Seq.{set-getD, set-set, getD-set-same, getD-set-other, ext-getD}
@@ -18,6 +18,7 @@ use Rattle.semantics.specs.declared.Error.the-variants.{StackUnderflow, TypeChe
 use Rattle.heap.proofs.Since.{lt-or-le}
 use Rattle.store.specs.Rep.{Stands, a-null, an-integer, a-boolean, a-mark, an-operator, a-literal, an-executable, a-string, an-array, a-procedure}
 use Rattle.store.proofs.Standing.{is-procedure}
+use Rattle.machine.specs.Words.{itemTag, itemPayload}
 use Rattle.machine.specs.Rep.{Rep}
 use Rattle.machine.specs.declared.Machine.{Machine}
 use Rattle.machine.specs.declared.Did.the-variants.{Ok, Fail}
@@ -75,7 +76,7 @@ module _ {m : Machine} {s e d c l : List ℕ} {μ : Floo.Machine} (R : Rep m s e
   inside : id < length (μ .store)
   inside =
       let at = array-item R 0 k (omega arith) p in
-      subst (λ x. x < length (μ .store)) (at .stands) (R .stored .objects .id (getD s (2 * k + 1) 0) (at .lives))
+      subst (λ x. x < length (μ .store)) (at .stands) (R .stored .objects .id (itemPayload s k) (at .lives))
 
   settled : change id (elements (elementsIn μ id)) μ ≡ μ
   unfolding change withStore object
@@ -226,11 +227,11 @@ module _ {m : Machine} {s d c : List ℕ} where
   bind-short h = fails (λ e l μ R. bind-under μ (omega (arith, stack-depth R)))
 
   module _ (one : 1 ≤ m .depth) where
-    pub bind-mistyped : (getD s (2 * (m .depth - 1)) 0 ≡ 10 → ⊥) → DoesDictionary (perform (bytes "bind")) m s s d d c c (Fail TypeCheck)
+    pub bind-mistyped : (itemTag s (m .depth - 1) ≡ 10 → ⊥) → DoesDictionary (perform (bytes "bind")) m s s d d c c (Fail TypeCheck)
     bind-mistyped q =
         fails (λ e l μ R. bind-type μ (omega (arith, stack-depth R)) (stands-no-procedure (word-of R 0 (m .depth - 1) (omega arith) .stands) q))
 
-    module _ (q : getD s (2 * (m .depth - 1)) 0 ≡ 10) where
+    module _ (q : itemTag s (m .depth - 1) ≡ 10) where
       pub bind-procedure : Represented m s d c → HasProcedure m s d c
       bind-procedure (e, l, μ, R) =
           let y = is-procedure (word-of R 0 (m .depth - 1) (omega arith) .stands) q in

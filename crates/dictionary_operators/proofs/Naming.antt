@@ -5,7 +5,7 @@ use mathlib.Core.Path.{_≡_, refl, sym, ap, _∙_}
 use mathlib.Core.Bool.{Bool, false}
 use mathlib.Core.List.{List, _∷_}
 use mathlib.Core.Option.{Option, none, some}
-use Prim.Native.Nat.{ℕ, suc, _+_, _*_, _≤_, _<_}
+use Prim.Native.Nat.{ℕ, suc, _+_, _≤_, _<_}
 use native.Mathlib.Omega.{arith}
 use lib.ListN.{length, getD, drop, set, getElem?}
 use Rattle.semantics.specs.Text.{bytes, textual}
@@ -17,6 +17,7 @@ use Rattle.semantics.specs.ControlOperators.{def, load}
 use Rattle.semantics.specs.declared.Error.the-variants.{StackUnderflow, TypeCheck, Undefined}
 use Rattle.store.specs.Rep.{Stands, a-null, an-integer, a-boolean, a-mark, an-operator, a-literal, an-executable, a-string, an-array, a-procedure}
 use Rattle.store.proofs.Standing.{is-literal, not-seven}
+use Rattle.machine.specs.Words.{itemTag, itemPayload, bindingTag}
 use Rattle.machine.specs.Places.{keys}
 use Rattle.machine.specs.Rep.{Rep, Bound, unbound, bound}
 use Rattle.machine.specs.Moves.{dropped}
@@ -56,10 +57,10 @@ pub record Named (i p : ℕ) (μ : Floo.Machine) : Type 0 where
   pub slot : getElem? (keys μ) p ≡ some text
 
 module _ {m : Machine} {s e d c l : List ℕ} {μ : Floo.Machine} (R : Rep m s e d c l μ) (i k : ℕ) (h : m .depth ≡ k + suc i) where
-  no-name : (getD s (2 * k) 0 ≡ 5 → ⊥) → literalName (getD (μ .stack) i null) ≡ fault TypeCheck
+  no-name : (itemTag s k ≡ 5 → ⊥) → literalName (getD (μ .stack) i null) ≡ fault TypeCheck
   no-name = stands-no-name (word-of R i k h .stands)
 
-  pub named : getD s (2 * k) 0 ≡ 5 → Named i (getD s (2 * k + 1) 0) μ
+  pub named : itemTag s k ≡ 5 → Named i (itemPayload s k) μ
   named q =
       let y = is-literal (word-of R i k h .stands) q in
       record { text = y .0; item = y .1; slot = y .2 }
@@ -79,10 +80,10 @@ bound-some unbound n = absurd (n refl)
 bound-some (bound {v = v} h) n = (v, refl)
 
 module _ {m : Machine} {s e d c l : List ℕ} {μ : Floo.Machine} (R : Rep m s e d c l μ) (k : ℕ) (n : List ℕ) (key : getElem? (keys μ) k ≡ some n) where
-  pub name-unbound : getD d (12 * k + 9) 0 ≡ 7 → lookup n (μ .dictionary) ≡ none
+  pub name-unbound : bindingTag d k ≡ 7 → lookup n (μ .dictionary) ≡ none
   name-unbound q = bound-none (λ v t p x. not-seven (x .stands)) (binding-at R k n key .0) q
 
-  pub name-bound : (getD d (12 * k + 9) 0 ≡ 7 → ⊥) → (v : Value) × (lookup n (μ .dictionary) ≡ some v)
+  pub name-bound : (bindingTag d k ≡ 7 → ⊥) → (v : Value) × (lookup n (μ .dictionary) ≡ some v)
   name-bound q = bound-some (binding-at R k n key .0) q
 
 -- ---- def
@@ -157,8 +158,8 @@ module _ (μ : Floo.Machine) where
 -- ---- the same of machines that the words stand for
 
 module _ {m : Machine} {s e d c l : List ℕ} {μ : Floo.Machine} (R : Rep m s e d c l μ) (k : ℕ) where
-  pub def-typed : m .depth ≡ k + 2 → (getD s (2 * k) 0 ≡ 5 → ⊥) → perform (bytes "def") μ ≡ fault TypeCheck
+  pub def-typed : m .depth ≡ k + 2 → (itemTag s k ≡ 5 → ⊥) → perform (bytes "def") μ ≡ fault TypeCheck
   def-typed h q = def-type μ (omega (arith, stack-depth R)) (no-name R 1 k (omega arith) q)
 
-  pub load-typed : m .depth ≡ k + 1 → (getD s (2 * k) 0 ≡ 5 → ⊥) → perform (bytes "load") μ ≡ fault TypeCheck
+  pub load-typed : m .depth ≡ k + 1 → (itemTag s k ≡ 5 → ⊥) → perform (bytes "load") μ ≡ fault TypeCheck
   load-typed h q = load-type μ (omega (arith, stack-depth R)) (no-name R 0 k (omega arith) q)

@@ -5,11 +5,13 @@ use mathlib.Core.List.{List}
 use Prim.Native.Nat.{ℕ, _+_, _-_, _*_, _≤_, _<_}
 use native.Mathlib.Omega.{arith}
 use lib.ListN.{length, getD, set}
+use Rattle.semantics.specs.Sizes.{dictionaryWordsMost}
 use Rattle.semantics.specs.Text.{bytes}
 use Rattle.semantics.specs.Values.{null}
 use Rattle.semantics.specs.Machine.{withStack, withDictionary, assign}
 use Rattle.semantics.specs.Operators.{perform}
 use Rattle.semantics.specs.declared.Error.the-variants.{StackUnderflow, TypeCheck, Undefined}
+use Rattle.machine.specs.Words.{itemTag, itemPayload, bindingTag}
 use Rattle.machine.specs.Rep.{Somewhere, MovesHeap}
 use Rattle.machine.specs.Moves.{dropped}
 use Rattle.machine.specs.declared.Machine.{Machine}
@@ -29,7 +31,7 @@ abbrev topmost : Machine → ℕ
 topmost m = m .depth - 1
 
 abbrev slotIn : Machine → List ℕ → ℕ
-slotIn m s = getD s (2 * topmost m + 1) 0
+slotIn m s = itemPayload s (topmost m)
 
 module _ {m : Machine} {s d c : List ℕ} where
   -- ---- def
@@ -38,16 +40,16 @@ module _ {m : Machine} {s d c : List ℕ} where
   def-short h = fails (λ e l μ R. def-under μ (omega (arith, stack-depth R)))
 
   module _ (two : 2 ≤ m .depth) where
-    pub def-mistyped : (getD s (2 * second m) 0 ≡ 5 → ⊥) → DoesDictionary (perform (bytes "def")) m s s d d c c (Fail TypeCheck)
+    pub def-mistyped : (itemTag s (second m) ≡ 5 → ⊥) → DoesDictionary (perform (bytes "def")) m s s d d c c (Fail TypeCheck)
     def-mistyped q = fails (λ e l μ R. def-typed R (second m) (omega arith) q)
 
-    module _ (q : getD s (2 * second m) 0 ≡ 5) where
-      pub def-named : Represented m s d c → NamedItems (getD s (2 * second m + 1) 0) m s d c
+    module _ (q : itemTag s (second m) ≡ 5) where
+      pub def-named : Represented m s d c → NamedItems (itemPayload s (second m)) m s d c
       def-named (e, l, μ, R) =
           let N = named R 1 (second m) (omega arith) q in
           (e, l, μ, N .text, N .slot, R)
 
-      module _ {r : Machine} {d′ c₁ : List ℕ} (B : BindsItem (getD s (2 * second m + 1) 0) 0 m r s d d′ c c₁) where
+      module _ {r : Machine} {d′ c₁ : List ℕ} (B : BindsItem (itemPayload s (second m)) 0 m r s d d′ c c₁) where
         pub def-bound : Represented m s d c → Somewhere r s c₁
         def-bound (e, l, μ, R) =
             let N = named R 1 (second m) (omega arith) q in
@@ -72,23 +74,23 @@ module _ {m : Machine} {s d c : List ℕ} where
   load-short h = fails (λ e l μ R. load-under μ (omega (arith, stack-depth R)))
 
   module _ (one : 1 ≤ m .depth) where
-    pub load-mistyped : (getD s (2 * topmost m) 0 ≡ 5 → ⊥) → DoesDictionary (perform (bytes "load")) m s s d d c c (Fail TypeCheck)
+    pub load-mistyped : (itemTag s (topmost m) ≡ 5 → ⊥) → DoesDictionary (perform (bytes "load")) m s s d d c c (Fail TypeCheck)
     load-mistyped q = fails (λ e l μ R. load-typed R (topmost m) (omega arith) q)
 
-    module _ (q : getD s (2 * topmost m) 0 ≡ 5) where
-      pub load-room : Represented m s d c → (12 * slotIn m s + 12 ≤ length d) × (length d ≤ 6155)
+    module _ (q : itemTag s (topmost m) ≡ 5) where
+      pub load-room : Represented m s d c → (12 * slotIn m s + 12 ≤ length d) × (length d ≤ dictionaryWordsMost)
       load-room (e, l, μ, R) =
           let N = named R 0 (topmost m) (omega arith) q in
-          (slot-room R (slotIn m s) (N .text) (N .slot), R .dict-few)
+          (slot-room R (slotIn m s) (N .text) (N .slot), R .rooms .dict-few)
 
-      pub load-unbound : getD d (12 * slotIn m s + 9) 0 ≡ 7 → DoesDictionary (perform (bytes "load")) m s s d d c c (Fail Undefined)
+      pub load-unbound : bindingTag d (slotIn m s) ≡ 7 → DoesDictionary (perform (bytes "load")) m s s d d c c (Fail Undefined)
       load-unbound z =
           fails
           (λ e l μ R.
           let N = named R 0 (topmost m) (omega arith) q in
           load-undefined μ (N .text) (omega (arith, stack-depth R)) (N .item) (name-unbound R (slotIn m s) (N .text) (N .slot) z))
 
-      module _ (z : getD d (12 * slotIn m s + 9) 0 ≡ 7 → ⊥) where
+      module _ (z : bindingTag d (slotIn m s) ≡ 7 → ⊥) where
         pub load-bound : Represented m s d c → BoundItems (slotIn m s) m s d c
         load-bound (e, l, μ, R) =
             let N = named R 0 (topmost m) (omega arith) q in

@@ -3,6 +3,7 @@
 ghost use mathlib.Core.Path.{_≡_};
 ghost use Prim.Native.Nat.{_≤_};
 ghost use lib.ListN.{length};
+ghost use Rattle.semantics.specs.Sizes.{nameMost};
 ghost use Rattle.semantics.specs.Text.{bytes};
 ghost use Rattle.semantics.specs.Operators.{perform};
 ghost use Rattle.elements.specs.Elements.{SomewhereThat};
@@ -10,9 +11,8 @@ ghost use Rattle.strings.specs.Strings.{HasBytes};
 ghost use Rattle.dictionary_operators.specs.Promises.{Represented, DoesDictionary};
 ghost use Rattle.dictionary_operators.specs.Binding.{HasProcedure, HasElementAt, BindsElement, BindsElements};
 ghost use Rattle.dictionary_operators.specs.Interning.{itemNamed, ReadsBytes};
-use dictionary::NAME_BYTES;
-use dictionary::SLOT;
 use machine::Did;
+use machine::ITEM_PAYLOAD;
 use machine::Machine;
 use machine::TAG_EXECUTABLE;
 use machine::TAG_LITERAL;
@@ -20,7 +20,10 @@ use machine::TAG_OPERATOR;
 use machine::TAG_PROCEDURE;
 use machine::TAG_STRING;
 use machine::TAG_UNBOUND;
+use semantics::DICTIONARY_WIDTH;
 use semantics::Error;
+use semantics::NAME_MOST;
+use semantics::STACK_WIDTH;
 
 // Ruled out: the operands taken for each other; a binding whose object is counted for the item and not for the name.
 pub fn def(m: Machine, stack: &[u32], dict: &mut [u32], cells: &mut [u32]) -> Did
@@ -30,11 +33,11 @@ pub fn def(m: Machine, stack: &[u32], dict: &mut [u32], cells: &mut [u32]) -> Di
     if m.depth < 2 {
         return Did::Fail(Error::StackUnderflow);
     }
-    let i = 2 * (m.depth - 2);
+    let i = STACK_WIDTH * (m.depth - 2);
     if stack[i] != TAG_LITERAL {
         return Did::Fail(Error::TypeCheck);
     }
-    let slot = stack[i + 1] as usize;
+    let slot = stack[i + ITEM_PAYLOAD] as usize;
     let bound = dictionary::bind_item(m, stack, dict, cells, slot, 0);
     let one = bound.drop(stack, cells);
     Did::Ok(one.drop(stack, cells))
@@ -48,11 +51,11 @@ pub fn load(m: Machine, stack: &mut [u32], dict: &[u32], cells: &mut [u32]) -> D
     if m.depth < 1 {
         return Did::Fail(Error::StackUnderflow);
     }
-    let i = 2 * (m.depth - 1);
+    let i = STACK_WIDTH * (m.depth - 1);
     if stack[i] != TAG_LITERAL {
         return Did::Fail(Error::TypeCheck);
     }
-    let slot = stack[i + 1] as usize;
+    let slot = stack[i + ITEM_PAYLOAD] as usize;
     if dictionary::binding_tag(dict, slot) == TAG_UNBOUND {
         return Did::Fail(Error::Undefined);
     }
@@ -67,7 +70,7 @@ pub fn bind(m: Machine, stack: &[u32], dict: &[u32], cells: &mut [u32]) -> Did
     if m.depth < 1 {
         return Did::Fail(Error::StackUnderflow);
     }
-    if stack[2 * (m.depth - 1)] != TAG_PROCEDURE {
+    if stack[STACK_WIDTH * (m.depth - 1)] != TAG_PROCEDURE {
         return Did::Fail(Error::TypeCheck);
     }
     Did::Ok(bind_elements(m, stack, dict, cells))
@@ -81,28 +84,28 @@ pub fn cvn(m: Machine, stack: &mut [u32], dict: &mut [u32], cells: &mut [u32]) -
     if m.depth < 1 {
         return Did::Fail(Error::StackUnderflow);
     }
-    if stack[2 * (m.depth - 1)] != TAG_STRING {
+    if stack[STACK_WIDTH * (m.depth - 1)] != TAG_STRING {
         return Did::Fail(Error::TypeCheck);
     }
     let size = strings::current_length(m, stack, cells, 0);
-    if NAME_BYTES < size as usize {
+    if NAME_MOST < size as usize {
         return Did::Fail(Error::LimitCheck);
     }
-    let mut name = [0u8; NAME_BYTES];
+    let mut name = [0u8; NAME_MOST];
     read_bytes(m, stack, cells, size, &mut name);
     name_item(m, stack, dict, cells, &name[0..size as usize])
 }
 
 // Item 0 gives way to the literal name of these bytes, which takes a slot where it has none.
 fn name_item(m: Machine, stack: &mut [u32], dict: &mut [u32], cells: &mut [u32], name: &[u8]) -> Did
-    requires { ⌜ (1 ≤ m .depth) × (length (now name) ≤ 31) × Represented m (now stack) (now dict) (now cells) ⌝ }
+    requires { ⌜ (1 ≤ m .depth) × (length (now name) ≤ nameMost) × Represented m (now stack) (now dict) (now cells) ⌝ }
     ensures { λ r. ⌜ DoesDictionary (itemNamed (now (name .entry))) m (now (stack .entry)) (now (stack .exit)) (now (dict .entry)) (now (dict .exit)) (now (cells .entry)) (now (cells .exit)) r ⌝ }
 {
     let slot = dictionary::find(m, dict, name);
     if slot < m.names {
         return Did::Ok(dictionary::put_name(m, stack, cells, slot as u32, 0));
     }
-    if dict.len() < SLOT * m.names + SLOT {
+    if dict.len() < DICTIONARY_WIDTH * m.names + DICTIONARY_WIDTH {
         return Did::Fail(Error::LimitCheck);
     }
     let r = dictionary::add(m, dict, name);
@@ -142,7 +145,7 @@ fn bind_element(m: Machine, stack: &[u32], dict: &[u32], cells: &mut [u32], q: u
     ensures { λ r. ⌜ BindsElement q m r (now (stack .entry)) (now (dict .entry)) (now (cells .entry)) (now (cells .exit)) ⌝ }
     ensures { λ r. ⌜ r .depth ≡ m .depth ⌝ }
 {
-    let h = stack[2 * (m.depth - 1) + 1];
+    let h = stack[STACK_WIDTH * (m.depth - 1) + ITEM_PAYLOAD];
     let c = heap::seek(cells, h, q);
     if heap::get(cells, c, 0) != TAG_EXECUTABLE {
         return m;

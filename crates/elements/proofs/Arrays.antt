@@ -6,7 +6,7 @@ use mathlib.Core.Bool.{Bool, true, false}
 use mathlib.Core.List.{List, map}
 use mathlib.Core.Logic.{_⊎_, inl, inr, ⊎-elim}
 use mathlib.Core.Option.{some}
-use Prim.Native.Nat.{ℕ, suc, _+_, _-_, _*_, _%_, _<_}
+use Prim.Native.Nat.{ℕ, suc, _+_, _-_, _%_, _<_}
 use native.Mathlib.Omega.{arith}
 use lib.ListN.{length, getD, getElem?}
 use Rattle.semantics.specs.Values.{Value, null, array, Object, elements}
@@ -21,6 +21,7 @@ use Rattle.store.specs.Rep.{isText, Stands, an-array, a-procedure, by-array, ob
 use Rattle.store.proofs.Standing.{stands-names, is-array, is-procedure, kind-at, array-is}
 use Rattle.store.proofs.Sorts.{array-word}
 use Rattle.store.proofs.Elements.{element-read, body-alives}
+use Rattle.machine.specs.Words.{itemTag, itemPayload}
 use Rattle.machine.specs.Places.{keys, texts}
 use Rattle.machine.specs.Rep.{Rep, World, Stored, Is, IsIn}
 use Rattle.machine.specs.declared.Machine.{Machine}
@@ -75,14 +76,14 @@ array-at {w} {store = store} H {id = id} {p = p} I =
 module _ {m : Machine} {st e d c l : List ℕ} {μ : Floo.Machine} (R : Rep m st e d c l μ) (i k : ℕ) (h : m .depth ≡ k + suc i) where
   array-words : {x : Bool} {id : ℕ}
       → getD (μ .stack) i null ≡ array x id
-      → IsIn (R .world) μ (array x id) (getD st (2 * k) 0) (getD st (2 * k + 1) 0)
-  array-words q = subst (λ v. IsIn (R .world) μ v (getD st (2 * k) 0) (getD st (2 * k + 1) 0)) q (word-of R i k h)
+      → IsIn (R .world) μ (array x id) (itemTag st k) (itemPayload st k)
+  array-words q = subst (λ v. IsIn (R .world) μ v (itemTag st k) (itemPayload st k)) q (word-of R i k h)
 
-  pub array-item : {x : Bool} {id : ℕ} → getD (μ .stack) i null ≡ array x id → ArrayAt (R .world) c (μ .store) (getD st (2 * k + 1) 0) id
+  pub array-item : {x : Bool} {id : ℕ} → getD (μ .stack) i null ≡ array x id → ArrayAt (R .world) c (μ .store) (itemPayload st k) id
   array-item q = array-at (R .stored) (array-words q)
 
   -- The lower part of word 1 of the header is the number of elements.
-  pub size-read : {x : Bool} {id : ℕ} → getD (μ .stack) i null ≡ array x id → word c (getD st (2 * k + 1) 0) 1 % sizeUnit ≡ length (elementsOf (object μ id))
+  pub size-read : {x : Bool} {id : ℕ} → getD (μ .stack) i null ≡ array x id → word c (itemPayload st k) 1 % sizeUnit ≡ length (elementsOf (object μ id))
   unfolding object
   size-read q =
       let A = array-item q in
@@ -112,27 +113,27 @@ module _ {m : Machine} {st e d c l : List ℕ} {μ : Floo.Machine} (R : Rep m st
       let a = array-too R i k h R′ (b .array) in
       record { array = a; inside = omega (arith, b .inside, size-read R i k h (b .array .item), size-read R′ i k h (a .item)) }
 
-  pub here : ArrayAt (R .world) c (μ .store) (getD st (2 * k + 1) 0) (itemId i μ)
+  pub here : ArrayAt (R .world) c (μ .store) (itemPayload st k) (itemId i μ)
   here =
-      subst (λ id. ArrayAt (R .world) c (μ .store) (getD st (2 * k + 1) 0) id) (sym (item-id (b .array))) (array-item R i k h (b .array .item))
+      subst (λ id. ArrayAt (R .world) c (μ .store) (itemPayload st k) id) (sym (item-id (b .array))) (array-item R i k h (b .array .item))
 
-  pub before : q < R .world .ghost .size (getD st (2 * k + 1) 0 + 2)
+  pub before : q < R .world .ghost .size (itemPayload st k + 2)
   before = omega (arith, b .inside, size-read R i k h (b .array .item), here .size)
 
   -- How many cells come after the element's.
   abbrev pub rank : ℕ
-  rank = R .world .ghost .size (getD st (2 * k + 1) 0 + 2) - suc q
+  rank = R .world .ghost .size (itemPayload st k + 2) - suc q
 
-  pub split : R .world .ghost .size (getD st (2 * k + 1) 0 + 2) ≡ q + suc rank
+  pub split : R .world .ghost .size (itemPayload st k + 2) ≡ q + suc rank
   split = omega (arith, before)
 
-  pub sought : (g : Ghost) × (n : ℕ) × Shape g n c × (g .own (getD st (2 * k + 1) 0) ≡ live) × (q < g .size (getD st (2 * k + 1) 0 + 2))
+  pub sought : (g : Ghost) × (n : ℕ) × Shape g n c × (g .own (itemPayload st k) ≡ live) × (q < g .size (itemPayload st k + 2))
   sought = (R .world .ghost, m .lists .edge, R .stored .full .heap .shape, here .lives, before)
 
   -- Its cell, as `seek` finds it.
   module _ (cell : ℕ)
-      (found : Found c (getD st (2 * k + 1) 0) q cell) where
-    pub at-cell : R .world .ghost .own cell ≡ on (getD st (2 * k + 1) 0 + 2) rank
+      (found : Found c (itemPayload st k) q cell) where
+    pub at-cell : R .world .ghost .own cell ≡ on (itemPayload st k + 2) rank
     at-cell = found (R .world .ghost) (m .lists .edge) (R .stored .full .heap .shape) (here .lives) rank split
 
     pub element-words : IsIn (R .world) μ (getD (elementsOf (object μ (itemId i μ))) q null) (word c cell 0) (word c cell 1)
@@ -140,8 +141,8 @@ module _ {m : Machine} {st e d c l : List ℕ} {μ : Floo.Machine} (R : Rep m st
     element-words =
         record {
           stands = subst (λ id. Stands (keys μ) (texts μ) (R .world .ρ) (getD (elementsOf (objectAt (μ .store) id)) q null) (word c cell 0) (word c cell 1)) (here .stands)
-              (element-read (R .stored .objects) cell (getD st (2 * k + 1) 0) rank q _ at-cell (here .lives) (here .whole) split);
-          alive = body-alives (R .stored .full .heap .shape) (R .stored .full .counts) cell (getD st (2 * k + 1) 0) rank at-cell (here .kind);
+              (element-read (R .stored .objects) cell (itemPayload st k) rank q _ at-cell (here .lives) (here .whole) split);
+          alive = body-alives (R .stored .full .heap .shape) (R .stored .full .counts) cell (itemPayload st k) rank at-cell (here .kind);
         }
 
     pub element-value : (t p : ℕ)

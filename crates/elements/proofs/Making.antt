@@ -27,6 +27,7 @@ use Rattle.store.specs.Rep.{isText, Stands, Names, objectAt}
 use Rattle.store.proofs.Standing.{names-stands, kind-at}
 use Rattle.store.proofs.Rooting.{root-placed, rep-alike}
 use Rattle.store.proofs.Fresh.{Adds, rep-array, rep-string, stands-made, new-array, new-string}
+use Rattle.machine.specs.Words.{itemTag, itemPayload}
 use Rattle.machine.specs.Places.{Nameless, rootCount, roots, keys}
 use Rattle.machine.specs.Rep.{Rep, World, Stored, Is, IsIn, Items, bottom, item, MovesHeap}
 use Rattle.machine.specs.declared.Machine.{Machine}
@@ -51,9 +52,9 @@ plain-tag : {m : Machine} {st e d c l : List ℕ} {μ : Floo.Machine} → Rep m 
     → (i k : ℕ)
     → m .depth ≡ k + suc i
     → Nameless (getD (μ .stack) i null)
-    → getD st (2 * k) 0 < 8
+    → itemTag st k < 8
 plain-tag {st = st} R i k h p =
-    ⊎-elim (λ l. l) (λ l. absurd (nameless p (names-stands (word-of R i k h .stands) l))) (lt-or-le (getD st (2 * k) 0) 8)
+    ⊎-elim (λ l. l) (λ l. absurd (nameless p (names-stands (word-of R i k h .stands) l))) (lt-or-le (itemTag st k) 8)
 
 -- The cells of a new object are free no more.
 pub cells-used : {m : Machine} {st e d c l : List ℕ} {μ : Floo.Machine} → Rep m st e d c l μ
@@ -89,7 +90,7 @@ module _ {m : Machine} {st e d c l : List ℕ} {μ : Floo.Machine} (R : Rep m st
       ap (λ y. length (elementsOf y)) (List·getD-append (μ .store) (o ∷ []) (elements []) j (kind-at (μ .store) j false (array-tags (h .stands) .0) .0))
 
 -- Object o is made with header x, and the value v, of tag t, names it.
-module _ {m : Machine} {st e d c l : List ℕ} {μ : Floo.Machine} (R : Rep m st e d c l μ) (i k : ℕ) (h : m .depth ≡ k + suc i) (plain : getD st (2 * k) 0 < 8)
+module _ {m : Machine} {st e d c l : List ℕ} {μ : Floo.Machine} (R : Rep m st e d c l μ) (i k : ℕ) (h : m .depth ≡ k + suc i) (plain : itemTag st k < 8)
     {s : Lists} {c′ : List ℕ} (x : ℕ) (o : Object)
     (A : Adds (keys μ) rootCount (R .world .ρ) (R .world .ghost) (cells c + rootCount) s c c′ (μ .store) (roots μ) x o)
     (fresh : R .world .ghost .own x ≡ live → ⊥) (z : s .dead ≡ 0)
@@ -116,7 +117,7 @@ module _ {m : Machine} {st e d c l : List ℕ} {μ : Floo.Machine} (R : Rep m st
   named-none : A .ghost .aim (cells c′ + 4 * k) ≡ 0
   named-none =
       A .grows .aims (cells c′ + 4 * k) ∙ ap (λ n. R .world .ghost .aim (n + 4 * k)) same-cells ∙ Worlds.holds (R .stored) (4 * k) inside (held R i k h)
-      ∙ parts.no-object 0 (getD st (2 * k) 0) (getD st (2 * k + 1) 0) refl plain
+      ∙ parts.no-object 0 (itemTag st k) (itemPayload st k) refl plain
 
   placed : Full (world .ghost) (cells c + rootCount) (A .ghost .aim (cells c′ + 4 * k)) s c′
       × Store.Rep (keys μ) rootCount (world .ρ) (world .ghost) c′ store (upd (roots μ) (4 * k) v)
@@ -146,12 +147,12 @@ module _ {m : Machine} {st e d c l : List ℕ} {μ : Floo.Machine} (R : Rep m st
   pub made-rep : Rep (withDepth (m .depth) s m) (set (set st (2 * k) t) (2 * k + 1) x) e d c′ l (withStack stack (withStore store μ))
   made-rep =
       let st′ = set (set st (2 * k) t) (2 * k + 1) x in
-      let room : 2 * k + 2 ≤ length st = omega (arith, R .stack-room) in
+      let room : 2 * k + 2 ≤ length st = omega (arith, R .rooms .stack-fits) in
       let here : Is world (keys μ) (map isText store) v t x = record { stands = new; alive = λ _. A .lives } in
-      let words : Is world (keys μ) (map isText store) v (getD st′ (2 * k) 0) (getD st′ (2 * k + 1) 0) = rw (two-first st k t x room, two-second st k t x room) here in
+      let words : Is world (keys μ) (map isText store) v (itemTag st′ k) (itemPayload st′ k) = rw (two-first st k t x room, two-second st k t x room) here in
       rehoused R world stack store stored (λ v t p _ h. carry v t p h) (long-added R x o A fresh) (λ i t p a r _ _ own. A .grows .keeps a p r own .0) st′ (m .depth)
       (two-length st k t x room)
-      (R .stack-room)
+      (R .rooms .stack-fits)
       (items-set (items-lift carry (R .items)) i k h words (two-others st k t x room))
 
 -- ---- an array, and a string

@@ -4,8 +4,8 @@
 use mathlib.Core.Path.{_≡_, refl, sym, ap, _∙_, subst}
 use mathlib.Core.Bool.{true}
 use mathlib.Core.List.{List, [], map}
-use Prim.Native.Nat.{ℕ, suc, _+_, _*_, _/_}
-use lib.ListN.{length, getD, set, length-set}
+use Prim.Native.Nat.{ℕ, suc, _+_, _/_}
+use lib.ListN.{length, set, length-set}
 use lib.Seq.{map-set-same}
 use Rattle.semantics.specs.Values.{Value, array, Object, elements}
 use Rattle.semantics.specs.Machine as Floo
@@ -23,6 +23,7 @@ use Rattle.store.proofs.Deaths.{rep-since}
 use Rattle.store.proofs.Rooting.{rep-alike}
 use Rattle.store.proofs.Changes.{at-set}
 use Rattle.store.proofs.Elements.{rep-assign}
+use Rattle.machine.specs.Words.{itemTag, itemPayload}
 use Rattle.machine.specs.Places.{rootCount, roots, keys}
 use Rattle.machine.specs.Rep.{Rep, World, Stored, Is, IsIn, MovesHeap}
 use Rattle.machine.specs.declared.Machine.{Machine}
@@ -34,10 +35,10 @@ use Rattle.elements.proofs.Arrays.{Found, here, rank, split, at-cell, e
 use Rattle.machine.proofs.Rehousing.{roots-store, restored}
 
 module _ {m : Machine} {st e d c l : List ℕ} {μ : Floo.Machine} (R : Rep m st e d c l μ) (i k q : ℕ) (h : m .depth ≡ k + suc i) (b : HasElement i q μ) (cell : ℕ)
-    (found : Found c (getD st (2 * k + 1) 0) q cell)
+    (found : Found c (itemPayload st k) q cell)
     {v : Value} {tag pay : ℕ} (new : IsIn (R .world) μ v tag pay) where
   abbrev head : ℕ
-  head = getD st (2 * k + 1) 0
+  head = itemPayload st k
 
   -- What `assign` asks.
   pub value-target : Target cell tag pay (m .lists) c
@@ -137,13 +138,13 @@ module _ {m : Machine} {st e d c l : List ℕ} {μ : Floo.Machine} (R : Rep m st
 
 -- The value is a copy of item j.
 module _ {m : Machine} {st e d c l : List ℕ} {μ : Floo.Machine} (R : Rep m st e d c l μ) (i k q : ℕ) (h : m .depth ≡ k + suc i) (b : HasElement i q μ) (cell : ℕ)
-    (found : Found c (getD st (2 * k + 1) 0) q cell)
+    (found : Found c (itemPayload st k) q cell)
     (j o : ℕ) (g : m .depth ≡ o + suc j) where
-  pub target-of : Target cell (getD st (2 * o) 0) (getD st (2 * o + 1) 0) (m .lists) c
+  pub target-of : Target cell (itemTag st o) (itemPayload st o) (m .lists) c
   target-of = value-target R i k q h b cell found (word-of R j o g)
 
   put-rep : {s : Lists} {c′ : List ℕ}
-      → Assigned cell (getD st (2 * o) 0) (getD st (2 * o + 1) 0) (m .lists) c s c′
+      → Assigned cell (itemTag st o) (itemPayload st o) (m .lists) c s c′
       → s .dead ≡ 0
       → Rep (withDepth (m .depth) s m) st e d c′ l (elementPut i q j μ)
   unfolding elementPut
@@ -152,11 +153,11 @@ module _ {m : Machine} {st e d c l : List ℕ} {μ : Floo.Machine} (R : Rep m st
 pub put-moves : {m : Machine} {st e d c l : List ℕ} {μ : Floo.Machine} (R : Rep m st e d c l μ) (i k q : ℕ) (h : m .depth ≡ k + suc i)
     → HasElement i q μ
     → (cell : ℕ)
-    → Found c (getD st (2 * k + 1) 0) q cell
+    → Found c (itemPayload st k) q cell
     → (j o : ℕ)
     → m .depth ≡ o + suc j
     → {s : Lists} {c′ : List ℕ}
-    → Assigned cell (getD st (2 * o) 0) (getD st (2 * o + 1) 0) (m .lists) c s c′
+    → Assigned cell (itemTag st o) (itemPayload st o) (m .lists) c s c′
     → s .dead ≡ 0
     → MovesHeap (elementPut i q j) m (withDepth (m .depth) s m) st st c c′
 put-moves R i k q h b cell found j o g A z =

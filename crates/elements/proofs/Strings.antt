@@ -22,6 +22,7 @@ use Rattle.store.proofs.Sorts.{text-word, word-text}
 use Rattle.store.proofs.Changes.{at-set}
 use Rattle.store.proofs.Rooting.{rep-alike}
 use Rattle.store.proofs.Bytes.{word-full, byte-read, byte-set}
+use Rattle.machine.specs.Words.{itemTag, itemPayload}
 use Rattle.machine.specs.Places.{rootCount, roots, keys}
 use Rattle.machine.specs.Rep.{Rep, World, Stored, Is, IsIn, MovesHeap}
 use Rattle.machine.specs.declared.Machine.{Machine}
@@ -61,19 +62,19 @@ string-at {w} {store = store} H {id = id} {p = p} I =
     record { lives = lives; stands = y .1; kind = kind; whole = whole; size = word-text (H .objects) p lives _ kind .2 }
 
 module _ {m : Machine} {st e d c l : List ℕ} {μ : Floo.Machine} (R : Rep m st e d c l μ) (i k : ℕ) (h : m .depth ≡ k + suc i) where
-  string-words : {id : ℕ} → getD (μ .stack) i null ≡ string id → IsIn (R .world) μ (string id) (getD st (2 * k) 0) (getD st (2 * k + 1) 0)
-  string-words q = subst (λ v. IsIn (R .world) μ v (getD st (2 * k) 0) (getD st (2 * k + 1) 0)) q (word-of R i k h)
+  string-words : {id : ℕ} → getD (μ .stack) i null ≡ string id → IsIn (R .world) μ (string id) (itemTag st k) (itemPayload st k)
+  string-words q = subst (λ v. IsIn (R .world) μ v (itemTag st k) (itemPayload st k)) q (word-of R i k h)
 
-  pub string-item : {id : ℕ} → getD (μ .stack) i null ≡ string id → StringAt (R .world) c (μ .store) (getD st (2 * k + 1) 0) id
+  pub string-item : {id : ℕ} → getD (μ .stack) i null ≡ string id → StringAt (R .world) c (μ .store) (itemPayload st k) id
   string-item q = string-at (R .stored) (string-words q)
 
-  pub string-is : {id : ℕ} → getD (μ .stack) i null ≡ string id → IsString (R .world) (μ .store) (getD st (2 * k + 1) 0) id
+  pub string-is : {id : ℕ} → getD (μ .stack) i null ≡ string id → IsString (R .world) (μ .store) (itemPayload st k) id
   string-is q =
       let A = string-item q in
       record { lives = A .lives; stands = A .stands; kind = ap (λ j. isText (objectAt (μ .store) j)) (sym (A .stands)) ∙ ap isText (A .whole) }
 
   -- Word 0 of the header is the maximum and 1.
-  pub maximum-read : {id : ℕ} → getD (μ .stack) i null ≡ string id → word c (getD st (2 * k + 1) 0) 0 ≡ suc (length (bytesOf (object μ id)))
+  pub maximum-read : {id : ℕ} → getD (μ .stack) i null ≡ string id → word c (itemPayload st k) 0 ≡ suc (length (bytesOf (object μ id)))
   unfolding object
   maximum-read q =
       let A = string-item q in
@@ -202,21 +203,21 @@ module _ {m : Machine} {st e d c l : List ℕ} {μ : Floo.Machine} (R : Rep m st
       record { string = a; inside = omega (arith, b .inside, maximum-read R i k h (b .string .item), maximum-read R′ i k h (a .item)) }
 
   abbrev head : ℕ
-  head = getD st (2 * k + 1) 0
+  head = itemPayload st k
 
-  here : StringAt (R .world) c (μ .store) (getD st (2 * k + 1) 0) (b .string .id)
+  here : StringAt (R .world) c (μ .store) (itemPayload st k) (b .string .id)
   here = string-item R i k h (b .string .item)
 
-  pub byte-sought : HasCell c (getD st (2 * k + 1) 0) (q / 8)
+  pub byte-sought : HasCell c (itemPayload st k) (q / 8)
   byte-sought = byte-here R head (b .string .id) q here (b .inside)
 
-  pub byte-cell : (cell : ℕ) → Found c (getD st (2 * k + 1) 0) (q / 8) cell → R .world .ghost .own cell ≡ on (getD st (2 * k + 1) 0 + 2) (R .world .ghost .size (getD st (2 * k + 1) 0 + 2) - suc (q / 8))
+  pub byte-cell : (cell : ℕ) → Found c (itemPayload st k) (q / 8) cell → R .world .ghost .own cell ≡ on (itemPayload st k + 2) (R .world .ghost .size (itemPayload st k + 2) - suc (q / 8))
   byte-cell cell found = cell-here R head (b .string .id) q here (b .inside) cell found
 
-  byte-at : (cell : ℕ) → Found c (getD st (2 * k + 1) 0) (q / 8) cell → byteOf (word c cell (q % 8 / 4)) (q % 8 % 4) ≡ getD (bytesOf (object μ (b .string .id))) q 0
+  byte-at : (cell : ℕ) → Found c (itemPayload st k) (q / 8) cell → byteOf (word c cell (q % 8 / 4)) (q % 8 % 4) ≡ getD (bytesOf (object μ (b .string .id))) q 0
   byte-at cell found = read-here R head (b .string .id) q here (b .inside) cell found
 
-  byte-rep : (v : ℕ) {c′ : List ℕ} → PutsByte (getD st (2 * k + 1) 0) q v c c′ → Rep m st e d c′ l (bytePut i q v μ)
+  byte-rep : (v : ℕ) {c′ : List ℕ} → PutsByte (itemPayload st k) q v c c′ → Rep m st e d c′ l (bytePut i q v μ)
   unfolding bytePut byteSet object
   byte-rep v {c′} P =
       subst (λ id. Rep m st e d c′ l (byteSet id q v μ)) (sym (string-id (b .string))) (P .puts R (b .string .id) (string-is R i k h (b .string .item)) (b .inside) .0)
@@ -225,7 +226,7 @@ module _ {m : Machine} {st e d c l : List ℕ} {μ : Floo.Machine} (R : Rep m st
 
 module _ {m : Machine} {st e d c l : List ℕ} {μ : Floo.Machine} (R : Rep m st e d c l μ) (i k q : ℕ) (h : m .depth ≡ k + suc i) (b : HasByte i q μ) where
   pub byte-says : (cell : ℕ)
-      → Found c (getD st (2 * k + 1) 0) (q / 8) cell
+      → Found c (itemPayload st k) (q / 8) cell
       → {e′ d′ l′ : List ℕ} {μ′ : Floo.Machine}
       → Rep m st e′ d′ c l′ μ′
       → (id : ℕ)
@@ -236,7 +237,7 @@ module _ {m : Machine} {st e d c l : List ℕ} {μ : Floo.Machine} (R : Rep m st
       byte-at R′ i k q h b′ cell found
       ∙ ap (λ j. getD (bytesOf (object μ′ j)) q 0) (sym (string-id (b′ .string)) ∙ string-id (record { id = id; item = x }))
 
-  pub byte-moves : (v : ℕ) {c′ : List ℕ} → PutsByte (getD st (2 * k + 1) 0) q v c c′ → MovesHeap (bytePut i q v) m m st st c c′
+  pub byte-moves : (v : ℕ) {c′ : List ℕ} → PutsByte (itemPayload st k) q v c c′ → MovesHeap (bytePut i q v) m m st st c c′
   byte-moves v P = record { moves = λ e d l μ R′. byte-rep R′ i k q h (byte-too R i k q h b R′) v P }
 
 -- Below the maximum there is a byte.

@@ -3,7 +3,7 @@
 use mathlib.Core.Path.{_≡_, refl, sym}
 use mathlib.Core.Bool.{Bool, true, false}
 use mathlib.Core.List.{List}
-use Prim.Native.Nat.{ℕ, suc, _+_, _*_, _≤_, _<_}
+use Prim.Native.Nat.{ℕ, suc, _+_, _≤_, _<_}
 use native.Mathlib.Omega.{arith}
 use lib.ListN.{getD}
 use Rattle.semantics.specs.Values.{Value, integer, boolean, null, mark, operator, name, string, array, fault, objectId, arrayId, stringId}
@@ -11,6 +11,7 @@ use Rattle.semantics.specs.declared.Error.the-variants.{TypeCheck}
 use Rattle.semantics.specs.Machine as Floo
 use Rattle.store.specs.Rep.{Stands, a-null, an-integer, a-boolean, a-mark, an-operator, a-literal, an-executable, a-string, an-array, a-procedure}
 use Rattle.store.proofs.Standing.{is-string, is-array, is-procedure}
+use Rattle.machine.specs.Words.{itemTag}
 use Rattle.machine.specs.Places.{Nameless}
 use Rattle.machine.specs.Rep.{Rep, Somewhere}
 use Rattle.machine.specs.declared.Machine.{Machine}
@@ -43,25 +44,25 @@ stands-tag (an-array r e) = refl
 stands-tag (a-procedure r e) = refl
 
 module _ {m : Machine} {st e d c l : List ℕ} {μ : Floo.Machine} (R : Rep m st e d c l μ) (i k : ℕ) (h : m .depth ≡ k + suc i) where
-  pub item-tag : getD st (2 * k) 0 ≡ tagOf (getD (μ .stack) i null)
+  pub item-tag : itemTag st k ≡ tagOf (getD (μ .stack) i null)
   item-tag = stands-tag (word-of R i k h .stands)
 
-  pub plain-item : getD st (2 * k) 0 < 8 → HasPlain i μ
+  pub plain-item : itemTag st k < 8 → HasPlain i μ
   plain-item low = stands-nameless (word-of R i k h .stands) low
 
-  pub string-tagged : getD st (2 * k) 0 ≡ 8 → HasString i μ
+  pub string-tagged : itemTag st k ≡ 8 → HasString i μ
   string-tagged q = let y = is-string (word-of R i k h .stands) q in record { id = y .0; item = y .1 }
 
-  pub array-is-literal : getD st (2 * k) 0 ≡ 9 → (id : ℕ) × (getD (μ .stack) i null ≡ array false id)
+  pub array-is-literal : itemTag st k ≡ 9 → (id : ℕ) × (getD (μ .stack) i null ≡ array false id)
   array-is-literal q = let y = is-array (word-of R i k h .stands) q in (y .0, y .1)
 
-  pub array-is-executable : getD st (2 * k) 0 ≡ 10 → (id : ℕ) × (getD (μ .stack) i null ≡ array true id)
+  pub array-is-executable : itemTag st k ≡ 10 → (id : ℕ) × (getD (μ .stack) i null ≡ array true id)
   array-is-executable q = let y = is-procedure (word-of R i k h .stands) q in (y .0, y .1)
 
-  pub array-tagged : getD st (2 * k) 0 ≡ 9 → HasArray i μ
+  pub array-tagged : itemTag st k ≡ 9 → HasArray i μ
   array-tagged q = let y = array-is-literal q in record { executable = false; id = y .0; item = y .1 }
 
-  pub procedure-tagged : getD st (2 * k) 0 ≡ 10 → HasArray i μ
+  pub procedure-tagged : itemTag st k ≡ 10 → HasArray i μ
   procedure-tagged q = let y = array-is-executable q in record { executable = true; id = y .0; item = y .1 }
 
 -- ---- from a value's tag to the value

@@ -8,9 +8,11 @@ ghost use Rattle.store.specs.Rep.{byteOf, withByte};
 ghost use Rattle.machine.specs.Rep.{Somewhere, MovesHeap};
 ghost use Rattle.elements.specs.Elements.{HasArray, HasElement, HasString, HasByte, HasPlain, HasCell, SomewhereThat};
 ghost use Rattle.elements.specs.Elements.{freeCells, ItemTag, ArraySize, StringSize, ByteOf, elementCopied, elementPut, bytePut, PutsByte, arrayMade, stringMade};
+use machine::ITEM_PAYLOAD;
 use machine::Machine;
 use machine::TAG_ARRAY;
 use machine::TAG_STRING;
+use semantics::STACK_WIDTH;
 
 // The tag of item i.
 // Rules out: an item counted from the bottom; the payload read for the tag.
@@ -19,7 +21,7 @@ pub fn tag_of(m: Machine, stack: &[u32], i: usize) -> u32
     ensures { λ r. ⌜ ItemTag i m (now (stack .entry)) r ⌝ }
 {
     let k = m.depth - 1 - i;
-    stack[2 * k]
+    stack[STACK_WIDTH * k]
 }
 
 // How many cells are free.
@@ -39,7 +41,7 @@ pub fn size_of(m: Machine, stack: &[u32], cells: &[u32], i: usize) -> u32
     ensures { λ r. ⌜ ArraySize i m (now (stack .entry)) (now (cells .entry)) r ⌝ }
 {
     let k = m.depth - 1 - i;
-    let h = stack[2 * k + 1];
+    let h = stack[STACK_WIDTH * k + ITEM_PAYLOAD];
     heap::size(cells, h)
 }
 
@@ -61,15 +63,15 @@ pub fn copy_element(
     let k = n - 1 - i;
     let o = n - 1 - j;
     let lists = m.lists;
-    let h = stack[2 * k + 1];
+    let h = stack[STACK_WIDTH * k + ITEM_PAYLOAD];
     let c = heap::seek(cells, h, q);
     let tag = heap::get(cells, c, 0);
     let pay = heap::get(cells, c, 1);
-    let old = stack[2 * o];
-    let was = stack[2 * o + 1];
+    let old = stack[STACK_WIDTH * o];
+    let was = stack[STACK_WIDTH * o + ITEM_PAYLOAD];
     let left = machine::recount(lists, cells, old, was, tag, pay);
-    stack[2 * o] = tag;
-    stack[2 * o + 1] = pay;
+    stack[STACK_WIDTH * o] = tag;
+    stack[STACK_WIDTH * o + ITEM_PAYLOAD] = pay;
     m.lists = left;
     m
 }
@@ -92,9 +94,9 @@ pub fn put_element(
     let k = n - 1 - i;
     let o = n - 1 - j;
     let lists = m.lists;
-    let h = stack[2 * k + 1];
-    let tag = stack[2 * o];
-    let pay = stack[2 * o + 1];
+    let h = stack[STACK_WIDTH * k + ITEM_PAYLOAD];
+    let tag = stack[STACK_WIDTH * o];
+    let pay = stack[STACK_WIDTH * o + ITEM_PAYLOAD];
     let c = heap::seek(cells, h, q);
     let left = heap::assign(lists, cells, c, tag, pay);
     m.lists = left;
@@ -108,7 +110,7 @@ pub fn maximum(m: Machine, stack: &[u32], cells: &[u32], i: usize) -> u32
     ensures { λ r. ⌜ StringSize i m (now (stack .entry)) (now (cells .entry)) r ⌝ }
 {
     let k = m.depth - 1 - i;
-    let h = stack[2 * k + 1];
+    let h = stack[STACK_WIDTH * k + ITEM_PAYLOAD];
     heap::kind(cells, h) - 1
 }
 
@@ -119,7 +121,7 @@ pub fn get_byte(m: Machine, stack: &[u32], cells: &[u32], i: usize, q: u32) -> u
     ensures { λ r. ⌜ ByteOf i q m (now (stack .entry)) (now (cells .entry)) r ⌝ }
 {
     let k = m.depth - 1 - i;
-    let h = stack[2 * k + 1];
+    let h = stack[STACK_WIDTH * k + ITEM_PAYLOAD];
     let c = heap::seek(cells, h, q / 8);
     let w = heap::get(cells, c, (q % 8 / 4) as usize);
     byte_of(w, q % 8 % 4)
@@ -132,7 +134,7 @@ pub fn put_byte(m: Machine, stack: &[u32], cells: &mut [u32], i: usize, q: u32, 
     ensures { λ _. ⌜ MovesHeap (bytePut i q b) m m (now (stack .entry)) (now (stack .entry)) (now (cells .entry)) (now (cells .exit)) ⌝ }
 {
     let k = m.depth - 1 - i;
-    let h = stack[2 * k + 1];
+    let h = stack[STACK_WIDTH * k + ITEM_PAYLOAD];
     put_byte_at(cells, h, q, b);
 }
 
@@ -168,8 +170,8 @@ pub fn new_array(mut m: Machine, stack: &mut [u32], cells: &mut [u32], i: usize,
     let lists = m.lists;
     let t = heap::allocate(lists, cells, 0, n);
     let left = t.lists;
-    stack[2 * k] = TAG_ARRAY;
-    stack[2 * k + 1] = t.cell;
+    stack[STACK_WIDTH * k] = TAG_ARRAY;
+    stack[STACK_WIDTH * k + ITEM_PAYLOAD] = t.cell;
     m.lists = left;
     m
 }
@@ -185,8 +187,8 @@ pub fn new_string(mut m: Machine, stack: &mut [u32], cells: &mut [u32], i: usize
     let lists = m.lists;
     let t = heap::allocate(lists, cells, n + 1, (n + 7) / 8);
     let left = t.lists;
-    stack[2 * k] = TAG_STRING;
-    stack[2 * k + 1] = t.cell;
+    stack[STACK_WIDTH * k] = TAG_STRING;
+    stack[STACK_WIDTH * k + ITEM_PAYLOAD] = t.cell;
     m.lists = left;
     m
 }

@@ -4,6 +4,7 @@ use mathlib.Core.Bool.{true}
 use mathlib.Core.List.{List, []}
 use Prim.Native.Nat.{ℕ, _+_, _≤_, _<_}
 use lib.ListN.{length, getD, take, drop}
+use Rattle.semantics.specs.Sizes.{operatorCount, nameMost}
 use Rattle.semantics.specs.Printing.{nameText}
 use Rattle.semantics.specs.Steps as steps
 use Rattle.store.specs.Rep.{titles}
@@ -22,9 +23,9 @@ commandText script names (Token at size) = nameText true (take size (drop at scr
 -- A command that there is: its operator, its slot or its bytes.
 abbrev pub IsCommand : List ℕ → List (List ℕ) → Command → Type 0
 IsCommand script names Nothing = Unit {0}
-IsCommand script names (Operator k) = k < 54
+IsCommand script names (Operator k) = k < operatorCount
 IsCommand script names (Name k) = k < length names
-IsCommand script names (Token at size) = (at + size ≤ length script) × (size ≤ 31)
+IsCommand script names (Token at size) = (at + size ≤ length script) × (size ≤ nameMost)
 
 unfoldable pub endingOf : List ℕ → List (List ℕ) → Ending → steps.Ending
 endingOf script names Finished = steps.finished

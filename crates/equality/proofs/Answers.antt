@@ -69,7 +69,7 @@ module _ {op : Floo.Machine → Result Floo.Machine} (f : Bool → Bool) (named 
 -- ---- the answer
 
 pub room-after : {m : Machine} {s c : List ℕ} {n : ℕ} → 2 ≤ m .depth → Somewhere m s c → n ≡ m .depth - 2 → 2 * n + 2 ≤ length s
-room-after deep (e, d, l, μ, R) h = omega (arith, deep, h, R .stack-room)
+room-after deep (e, d, l, μ, R) h = omega (arith, deep, h, R .rooms .stack-fits)
 
 pub answers : (b : Bool) {m m₁ m₂ m′ : Machine} {s s′ c c₁ c₂ : List ℕ} {p : ℕ}
     → p ≡ bit b

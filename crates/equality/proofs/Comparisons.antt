@@ -3,7 +3,7 @@
 use mathlib.Core.Path.{_≡_, refl, sym, ap, _∙_, subst}
 use mathlib.Core.Bool.{Bool, true, false}
 use mathlib.Core.List.{List, [], _∷_}
-use Prim.Native.Nat.{ℕ, zero, suc, _+_, _-_, _*_, _≤_}
+use Prim.Native.Nat.{ℕ, zero, suc, _+_, _-_, _≤_}
 use native.Mathlib.Omega.{arith}
 use borrow.Author.Tests.{ne-eqb}
 use mathlib.Core.Logic.{⊎-elim}
@@ -16,6 +16,7 @@ use Rattle.semantics.specs.Machine.{withStack, object, bytesOf}
 use Rattle.semantics.specs.NumberOperators.{key}
 use Rattle.semantics.specs.SameLaws.{heads-differ, heads-agree}
 use Rattle.heap.proofs.Upds.{same?}
+use Rattle.machine.specs.Words.{itemTag, itemPayload}
 use Rattle.machine.specs.Rep.{Rep, IsIn, Somewhere}
 use Rattle.machine.specs.Moves.{tagAs}
 use Rattle.machine.specs.declared.Machine.{Machine}
@@ -135,16 +136,16 @@ module _ {i q : ℕ} {m : Machine} {s c : List ℕ} {most : ℕ} (Z : StringSize
 -- The words of the item below the topmost one, and of the topmost one.
 module _ (m : Machine) (s : List ℕ) where
   abbrev tag : ℕ
-  tag = getD s (2 * (m .depth - 2)) 0
+  tag = itemTag s (m .depth - 2)
 
   abbrev pay : ℕ
-  pay = getD s (2 * (m .depth - 2) + 1) 0
+  pay = itemPayload s (m .depth - 2)
 
   abbrev tag′ : ℕ
-  tag′ = getD s (2 * (m .depth - 1)) 0
+  tag′ = itemTag s (m .depth - 1)
 
   abbrev pay′ : ℕ
-  pay′ = getD s (2 * (m .depth - 1) + 1) 0
+  pay′ = itemPayload s (m .depth - 1)
 
 module _ {m : Machine} {s c : List ℕ} (deep : 2 ≤ m .depth) where
   module _ {e d l : List ℕ} {μ : Floo.Machine} (R : Rep m s e d c l μ) where
@@ -201,6 +202,6 @@ module _ {m : Machine} {s c : List ℕ} (deep : 2 ≤ m .depth) where
             says = λ e d l μ R x y rest h.
                 let X = lower R h in
                 let Y = upper R h in
-                words-differ (withStack rest μ) (X .stands) (Y .stands) (sym a ∙ agree ∙ b) (R .world .ghost) (X .alive) (Y .alive) (R .distinct) (R .stored .objects .one)
+                words-differ (withStack rest μ) (X .stands) (Y .stands) (sym a ∙ agree ∙ b) (R .world .ghost) (X .alive) (Y .alive) (R .naming .distinct) (R .stored .objects .one)
                 (λ z. p (a ∙ z)) (λ z. q (a ∙ z)) (λ z. r (a ∙ z)) n;
           }

@@ -10,6 +10,7 @@ ghost use Rattle.machine.specs.Moves.{tagAs};
 ghost use Rattle.elements.specs.Elements.{HasString, ByteOf, SomewhereThat};
 ghost use Rattle.equality.specs.Comparing.{Compares, HasStrings, SameBytes, answered, nameOf, turnedBy};
 use machine::Did;
+use machine::ITEM_PAYLOAD;
 use machine::Machine;
 use machine::TAG_ARRAY;
 use machine::TAG_BOOLEAN;
@@ -20,6 +21,7 @@ use machine::TAG_NULL;
 use machine::TAG_PROCEDURE;
 use machine::TAG_STRING;
 use semantics::Error;
+use semantics::STACK_WIDTH;
 
 // eq, or ne where `negated` holds. In one, so that the comparison stands once in the code.
 // Ruled out: a literal and an executable name that differ; two strings that are equal only where they are one; an error for operands of two kinds.
@@ -39,8 +41,8 @@ fn equal(m: Machine, stack: &[u32], cells: &[u32]) -> bool
     requires { ⌜ (2 ≤ m .depth) × Somewhere m (now stack) (now cells) ⌝ }
     ensures { λ r. ⌜ Compares m (now (stack .entry)) (now (cells .entry)) r ⌝ }
 {
-    let lower = 2 * (m.depth - 2);
-    let upper = 2 * (m.depth - 1);
+    let lower = STACK_WIDTH * (m.depth - 2);
+    let upper = STACK_WIDTH * (m.depth - 1);
     let kind = kind_of(stack[lower]);
     if kind != kind_of(stack[upper]) {
         return false;
@@ -51,7 +53,7 @@ fn equal(m: Machine, stack: &[u32], cells: &[u32]) -> bool
     if kind == TAG_MARK {
         return true;
     }
-    if stack[lower + 1] == stack[upper + 1] {
+    if stack[lower + ITEM_PAYLOAD] == stack[upper + ITEM_PAYLOAD] {
         return true;
     }
     if kind == TAG_STRING {

@@ -26,6 +26,7 @@ use Rattle.store.proofs.Standing.{names-stands, stands-names, names-cast, null-
 use Rattle.store.proofs.Counting.{AsOften}
 use Rattle.store.proofs.Rooming.{lists-room}
 use Rattle.store.proofs.Exactness as Exactness
+use Rattle.machine.specs.Words.{frameTag, framePayload, bindingTag, bindingPayload}
 use Rattle.machine.specs.Places.{frameValue, bound, roots, rootCount}
 use Rattle.machine.specs.Rep.{Rep, IsIn, Frames, frame, Bound, unbound, Slots, end, slot}
 use Rattle.machine.specs.declared.Machine.{Machine}
@@ -46,17 +47,17 @@ words-at P words p q x = rw (p, q) x
 module _ {Is : Value → ℕ → ℕ → Type 0} {g : Ghost} {store : List Object} where
   -- Slot i from the top, of k + 1 + i, has the words of place k.
   frame-at : {words : List ℕ} {n : ℕ} {fs : List Floo.Frame} → Frames Is g store words n fs → (i k : ℕ) → n ≡ k + suc i
-      → Is (getD (map frameValue fs) i null) (getD words (8 * k + 1) 0) (getD words (8 * k + 2) 0)
+      → Is (getD (map frameValue fs) i null) (frameTag words k) (framePayload words k)
   frame-at Frames.bottom i k e = absurd (omega arith)
   frame-at {words} (frame {n = n} {f = f} h r) zero k e =
       let q : n ≡ k = omega arith in
-      subst (λ x. Is (frameValue f) (getD words (8 * x + 1) 0) (getD words (8 * x + 2) 0)) q (frame-value h)
+      subst (λ x. Is (frameValue f) (frameTag words x) (framePayload words x)) q (frame-value h)
   frame-at (frame h r) (suc i) k e = frame-at r i k (omega arith)
 
 -- The slots from number k on.
 binding-at : {Is : Value → ℕ → ℕ → Type 0} (P : Value → ℕ → ℕ → Type 0) → ((b : Option Value) (t p : ℕ) → Bound Is b t p → P (bound b) t p)
     → {words : List ℕ} {k : ℕ} {d : List Floo.Slot} → Slots Is words k d → (i : ℕ) → i < length d
-    → P (getD (bindings d) i null) (getD words (12 * (k + i) + 9) 0) (getD words (12 * (k + i) + 10) 0)
+    → P (getD (bindings d) i null) (bindingTag words (k + i)) (bindingPayload words (k + i))
 binding-at P f end i b = absurd (omega arith)
 binding-at P f {words} {k} (slot {s = s} S r) zero b =
     let tag : 12 * (k + 0) + 9 ≡ 12 * k + 9 = omega arith in
@@ -125,11 +126,11 @@ module _ {m : Machine} {s e d c l : List ℕ} {μ : Floo.Machine} (R : Rep m s e
       (rw (getD-reverse (map frameValue (μ .exec)) null down i (long ∙ deep)) (is-named (frame-at (R .frames) down i deep))))
 
   shown-bindings : Corresponds ρ hs d 12 9 (m .names) (bindings (μ .dictionary))
-  shown-bindings = corresponds ρ hs d 12 9 (m .names) (bindings (μ .dictionary)) (R .names ∙ sym (length-map (μ .dictionary) (λ (x : Floo.Slot). bound (x .binding)))) (λ i b.
+  shown-bindings = corresponds ρ hs d 12 9 (m .names) (bindings (μ .dictionary)) (R .naming .many ∙ sym (length-map (μ .dictionary) (λ (x : Floo.Slot). bound (x .binding)))) (λ i b.
       let tag : 12 * i + 9 ≡ 12 * (0 + i) + 9 = omega arith in
       let payload : 12 * i + 9 + 1 ≡ 12 * (0 + i) + 10 = omega arith in
       words-at (Named ρ hs (getD (bindings (μ .dictionary)) i null)) d tag payload
-      (binding-at (Named ρ hs) (λ o t p B. bound-named B) (R .slots) i (omega (arith, R .names))))
+      (binding-at (Named ρ hs) (λ o t p B. bound-named B) (R .slots) i (omega (arith, R .naming .many))))
 
   -- A cell of an array's body names a live header, if any.
   shown-elements : (h q : ℕ) → h ∈ hs → kindOf c h ≡ 0 → q < bodySize c h → NoOther hs (word c (place c h q) 0) (word c (place c h q) 1)
@@ -155,9 +156,9 @@ module _ {m : Machine} {s e d c l : List ℕ} {μ : Floo.Machine} (R : Rep m s e
       let H = R .stored in
       let E : Exact (m .lists) c = Readings.exact (H .full) (H .none-dead) (H .none-out) in
       let often : AsOften μ rootCount (roots μ) = as-often μ
-      (omega (arith, items-length (R .items), R .stack-room, R .stack-few))
-      (omega (arith, frames-length (R .frames), R .exec-room, R .exec-few))
-      (omega (arith, R .names, R .dict-room, R .dict-few)) in
+      (omega (arith, items-length (R .items), R .rooms .stack-fits, R .rooms .stack-few))
+      (omega (arith, frames-length (R .frames), R .rooms .exec-fits, R .rooms .exec-few))
+      (omega (arith, R .naming .many, R .rooms .dict-fits, R .rooms .dict-few)) in
       record {
         ρ = R .world .ρ;
         exact = E;

@@ -18,7 +18,7 @@ use Rattle.runner.specs.Promise.{Runs, AnswerIs, lentOf, theRun}
 use Rattle.runner.specs.declared.Answer.{Answer}
 use Rattle.runner.specs.declared.Answer.the-variants.{Refused, Ran}
 use Rattle.runner.specs.declared.Report.{Report}
-use Rattle.floo.specs.Sizes.{fuel, sizes}
+use Rattle.floo.specs.Sizes.{fuel, sizes, page}
 use Rattle.floo.specs.Telling.{Within, told}
 
 -- ---- a text at the start of a buffer
@@ -50,17 +50,18 @@ printed-run script g e = rw (e, printed)
 
 -- The buffers are of the program's sizes.
 abbrev pub Sized : List ℕ → List ℕ → List ℕ → List ℕ → List ℕ → List ℕ → Type 0
-Sized s e d c l o = (length s ≡ 512) × (length e ≡ 1024) × (length d ≡ 6144) × (length c ≡ 16384) × (length l ≡ 8192) × (length o ≡ 35072)
+Sized s e d c l o =
+    (length s ≡ sizes .stackWords) × (length e ≡ sizes .execWords) × (length d ≡ sizes .dictionaryWords) × (length c ≡ sizes .cellWords) × (length l ≡ sizes .logBytes) × (length o ≡ sizes .outcomeBytes)
 
 lent : (s e d c l o : List ℕ) → Sized s e d c l o → lentOf s e d c l o ≡ sizes
 lent s e d c l o (p, q, u, v, w, x) = rw (p, q, u, v, w, x)
 
 module _ {script s s′ e e′ d d′ c c′ l l′ o o′ : List ℕ} {a : Answer} (runs : Runs script fuel s s′ e e′ d d′ c c′ l l′ o o′ a) where
-  counted : (b : Answer) → AnswerIs script fuel s s′ e e′ d d′ c c′ l l′ o o′ b → length l′ + length o′ ≤ 43264 → Within b l′ o′
+  counted : (b : Answer) → AnswerIs script fuel s s′ e e′ d d′ c c′ l l′ o o′ b → length l′ + length o′ ≤ page → Within b l′ o′
   counted (Refused n) is h = tt
   counted (Ran x) is h = let p = within (is .1 .log) in let q = within (is .1 .outcome) in (p, q, omega (arith, p, q, h))
 
-  pub counts : length l′ + length o′ ≤ 43264 → Within a l′ o′
+  pub counts : length l′ + length o′ ≤ page → Within a l′ o′
   counts h = counted a (runs .answers) h
 
   defined : (b : Answer) → AnswerIs script fuel s s′ e e′ d d′ c c′ l l′ o o′ b → printed script fuel (lentOf s e d c l o) ≡ told b l′ o′
@@ -72,7 +73,7 @@ module _ {script s s′ e e′ d d′ c c′ l l′ o o′ : List ℕ} {a : Answ
 
 -- ---- an answer told
 
-pub within-run : (l o : List ℕ) {a : Answer} {x : Report} → a ≡ Ran x → Within a l o → (x .log ≤ length l) × (x .outcome ≤ length o) × (x .log + x .outcome ≤ 43264)
+pub within-run : (l o : List ℕ) {a : Answer} {x : Report} → a ≡ Ran x → Within a l o → (x .log ≤ length l) × (x .outcome ≤ length o) × (x .log + x .outcome ≤ page)
 within-run l o p h = subst (λ (b : Answer). Within b l o) p h
 
 pub parts : (l o : List ℕ) {a : Answer} {x : Report} → a ≡ Ran x → Within a l o → (length (take (x .log) l) ≡ x .log) × (length (take (x .outcome) o) ≡ x .outcome)

@@ -7,28 +7,36 @@ ghost use Rattle.floo.specs.Telling.{Within, told};
 use libc::STDIN_FILENO;
 use libc::STDOUT_FILENO;
 use runner::Answer;
-
-const FUEL: u32 = 1_000_000;
+use semantics::CELL_WIDTH;
+use semantics::DICTIONARY_MOST;
+use semantics::DICTIONARY_WIDTH;
+use semantics::EXEC_MOST;
+use semantics::EXEC_WIDTH;
+use semantics::FUEL_MOST;
+use semantics::HEAD_ROOM;
+use semantics::ITEM_ROOM;
+use semantics::SCRIPT_MOST;
+use semantics::STACK_MOST;
+use semantics::STACK_WIDTH;
 
 // The longest script and one byte more, so that a longer one is refused and not cut.
-const SCRIPT: usize = 32_769;
+const SCRIPT: usize = SCRIPT_MOST + 1;
 
-// 256, 128 and 512 slots and 4,096 cells, in words.
-const STACK: usize = 512;
+// As many slots as are accepted and 4,096 cells, in words.
+const STACK: usize = STACK_WIDTH * STACK_MOST;
 
-const EXECUTION: usize = 1024;
+const EXECUTION: usize = EXEC_WIDTH * EXEC_MOST;
 
-const DICTIONARY: usize = 6144;
+const DICTIONARY: usize = DICTIONARY_WIDTH * DICTIONARY_MOST;
 
-const CELLS: usize = 16_384;
+const CELLS: usize = CELL_WIDTH * 4096;
 
 const LOG: usize = 8192;
 
-// 256 + 136 × 256
-const OUTCOME: usize = 35_072;
+const OUTCOME: usize = HEAD_ROOM + ITEM_ROOM * STACK_MOST;
 
 // A log and an outcome.
-const PAGE: usize = 43_264;
+const PAGE: usize = LOG + OUTCOME;
 
 fn main() {
     let mut space = [0u8; SCRIPT];
@@ -51,7 +59,7 @@ fn write_page(script: &[u8], page: &mut [u8; PAGE]) -> usize
     let mut outcome = [0u8; OUTCOME];
     let answer = runner::run(
         script,
-        FUEL,
+        FUEL_MOST,
         &mut stack,
         &mut execution,
         &mut dictionary,

@@ -10,6 +10,7 @@ use Rattle.semantics.specs.Values.{Value, null}
 use Rattle.semantics.specs.Machine as Floo
 use Rattle.semantics.specs.Machine.{withStack, withExec, enter, Frame}
 use Rattle.heap.specs.Upd.{upd}
+use Rattle.machine.specs.Words.{itemTag, itemPayload, frameKind, frameTag, framePayload, frameCell, frameLeft, frameFinal}
 use Rattle.machine.specs.Places.{frameValue, roots}
 use Rattle.machine.specs.Rep.{Rep, IsIn, FrameIs, Frames, frame}
 use Rattle.machine.specs.declared.Machine.{Machine}
@@ -26,18 +27,18 @@ use Rattle.machine.proofs.Regions.{front-at, exec-at}
 pub record Put (e e′ : List ℕ) (n kind t p a b c : ℕ) : Type 0 where
   pub long : length e′ ≡ length e
   pub below : (k : ℕ) → k < 8 * n → getD e′ k 0 ≡ getD e k 0
-  pub kind-is : getD e′ (8 * n) 0 ≡ kind
-  pub tag-is : getD e′ (8 * n + 1) 0 ≡ t
-  pub pay-is : getD e′ (8 * n + 2) 0 ≡ p
-  pub a-is : getD e′ (8 * n + 3) 0 ≡ a
-  pub b-is : getD e′ (8 * n + 4) 0 ≡ b
-  pub c-is : getD e′ (8 * n + 5) 0 ≡ c
+  pub kind-is : frameKind e′ n ≡ kind
+  pub tag-is : frameTag e′ n ≡ t
+  pub pay-is : framePayload e′ n ≡ p
+  pub a-is : frameCell e′ n ≡ a
+  pub b-is : frameLeft e′ n ≡ b
+  pub c-is : frameFinal e′ n ≡ c
 
 module _ {m : Machine} {st e d cs l : List ℕ} {μ : Floo.Machine} (R : Rep m st e d cs l μ) (k : ℕ) (h : m .depth ≡ suc k) where
   module _ {f : Value → Frame} {kind a b c : ℕ} (shape : Shaped f kind a b c) (room : 8 * m .frames + 8 ≤ length e)
-      {e′ : List ℕ} (put : Put e e′ (m .frames) kind (getD st (2 * k) 0) (getD st (2 * k + 1) 0) a b c) where
+      {e′ : List ℕ} (put : Put e e′ (m .frames) kind (itemTag st k) (itemPayload st k) a b c) where
     few : m .frames < 512
-    few = omega (arith, R .exec-few)
+    few = omega (arith, R .rooms .exec-few)
 
     slots-used : length (μ .exec) ≡ m .frames
     slots-used = frames-length (R .frames)
@@ -58,7 +59,7 @@ module _ {m : Machine} {st e d cs l : List ℕ} {μ : Floo.Machine} (R : Rep m s
         ∙ rw (free, Top.held R k h) refl
 
     in-words : FrameIs (IsIn (R .world) μ) (R .world .ghost) (μ .store) (f (Top.item R k h .value))
-        (getD e′ (8 * m .frames) 0) (getD e′ (8 * m .frames + 1) 0) (getD e′ (8 * m .frames + 2) 0) (getD e′ (8 * m .frames + 3) 0) (getD e′ (8 * m .frames + 4) 0) (getD e′ (8 * m .frames + 5) 0)
+        (frameKind e′ (m .frames)) (frameTag e′ (m .frames)) (framePayload e′ (m .frames)) (frameCell e′ (m .frames)) (frameLeft e′ (m .frames)) (frameFinal e′ (m .frames))
     in-words = rw (put .kind-is, put .tag-is, put .pay-is, put .a-is, put .b-is, put .c-is) (shaped shape (Top.item R k h .words))
 
     all-frames : Frames (IsIn (R .world) μ) (R .world .ghost) (μ .store) e′ (m .frames + 1) (f (Top.item R k h .value) ∷ μ .exec)
@@ -70,7 +71,7 @@ module _ {m : Machine} {st e d cs l : List ℕ} {μ : Floo.Machine} (R : Rep m s
     unfolding entered enter withExec withStack
     enter-rep =
         let base : Rep (withDepths k (m .frames + 1) (m .lists) m) st e′ d cs l after =
-        exchange-rep R (4 * k) (4 * m .frames + 1) (omega (arith, R .stack-room, R .stack-few)) (omega (arith, R .exec-few))
+        exchange-rep R (4 * k) (4 * m .frames + 1) (omega (arith, R .rooms .stack-fits, R .rooms .stack-few)) (omega (arith, R .rooms .exec-few))
         (Top.item R k h .rest) (f (Top.item R k h .value) ∷ μ .exec) changed
-        refl (put .long) (omega (arith, R .stack-room)) (omega arith) (Top.item R k h .below) all-frames in
+        refl (put .long) (omega (arith, R .rooms .stack-fits)) (omega arith) (Top.item R k h .below) all-frames in
         subst (λ s. Rep (withDepths k (m .frames + 1) (m .lists) m) st e′ d cs l (enter (f (getD s 0 null)) (withStack (drop 1 s) μ))) (sym (Top.item R k h .split)) base

@@ -8,6 +8,7 @@ use lib.ListN.{getD}
 use Rattle.semantics.specs.Values.{Value, Object}
 use Rattle.semantics.specs.Machine.{Frame}
 use Rattle.heap.specs.Shape.{Ghost}
+use Rattle.machine.specs.Words.{frameKind, frameTag, framePayload, frameCell, frameLeft, frameFinal}
 use Rattle.machine.specs.Rep.{FrameIs, a-pending, a-looping, a-repeating, a-counting, Frames, frame}
 use Rattle.machine.specs.Places.{frameValue}
 use Rattle.frames.specs.Moves as Moves
@@ -20,7 +21,7 @@ module _ {A : Value → ℕ → ℕ → Type 0} {g : Ghost} {store : List Object
       → Frames A g store other n fs
   frames-frame f Frames.bottom = Frames.bottom
   frames-frame {other} f (frame {n = n} {f = fr} h r) =
-      let words : FrameIs A g store fr (getD other (8 * n) 0) (getD other (8 * n + 1) 0) (getD other (8 * n + 2) 0) (getD other (8 * n + 3) 0) (getD other (8 * n + 4) 0) (getD other (8 * n + 5) 0) =
+      let words : FrameIs A g store fr (frameKind other n) (frameTag other n) (framePayload other n) (frameCell other n) (frameLeft other n) (frameFinal other n) =
       rw (f (8 * n) (omega arith), f (8 * n + 1) (omega arith), f (8 * n + 2) (omega arith), f (8 * n + 3) (omega arith), f (8 * n + 4) (omega arith), f (8 * n + 5) (omega arith)) h in
       frame words (frames-frame (λ k l. f k (omega arith)) r)
 

@@ -5,11 +5,12 @@ use mathlib.Core.List.{List, _∷_}
 use Prim.Native.Nat.{ℕ, suc, _+_, _*_, _≤_, _<_}
 use native.Mathlib.Omega.{arith}
 use native.Mathlib.Numerals.{add-one}
-use lib.ListN.{length, getD}
+use lib.ListN.{length}
 use Rattle.semantics.specs.Values.{Value}
 use Rattle.semantics.specs.Machine as Floo
 use Rattle.semantics.specs.Machine.{pending, withStack, withExec, enter}
 use Rattle.heap.specs.declared.Lists.{Lists}
+use Rattle.machine.specs.Words.{frameKind, frameTag, framePayload, frameCell, frameLeft, frameFinal}
 use Rattle.machine.specs.Places.{frameValue, roots}
 use Rattle.machine.specs.Rep.{Rep, IsIn, FrameIs, a-pending, Frames, frame}
 use Rattle.machine.specs.Recount.{Placed, Recounts}
@@ -36,7 +37,7 @@ module _ {m : Machine} {st e d c l : List ℕ} {μ : Floo.Machine} (R : Rep m st
       nothing
 
   above : 4 * m .frames + 1 < 2048
-  above = omega (arith, R .exec-few)
+  above = omega (arith, R .rooms .exec-few)
 
   pub pend-placed : Placed (m .lists) c 0 0 t p
   pend-placed = placed R (4 * m .frames + 1) above free named
@@ -48,22 +49,22 @@ module _ {m : Machine} {st e d c l : List ℕ} {μ : Floo.Machine} (R : Rep m st
   unfolding enter withExec withStack
   pend-rep {s′} {c′} {e′} K put =
       let n = m .frames in
-      let at-top : FrameIs (IsIn (R .world) μ) (R .world .ghost) (μ .store) (pending v) (getD e′ (8 * n) 0) (getD e′ (8 * n + 1) 0) (getD e′ (8 * n + 2) 0) (getD e′ (8 * n + 3) 0) (getD e′ (8 * n + 4) 0) (getD e′ (8 * n + 5) 0) =
+      let at-top : FrameIs (IsIn (R .world) μ) (R .world .ghost) (μ .store) (pending v) (frameKind e′ n) (frameTag e′ n) (framePayload e′ n) (frameCell e′ n) (frameLeft e′ n) (frameFinal e′ n) =
       rw (put .kind-is, put .tag-is, put .pay-is, put .a-is, put .b-is, put .c-is) (a-pending named) in
       let frames = subst (λ x. Frames (IsIn (R .world) μ) (R .world .ghost) (μ .store) e′ x (pending v ∷ μ .exec)) (sym (add-one n)) (frame at-top (frames-frame (put .below) (R .frames))) in
       rerooted R (4 * n + 1) above free named K (μ .stack) (pending v ∷ μ .exec)
       (exec-at μ (withExec (pending v ∷ μ .exec) μ) refl n v refl (front-at frameValue (pending v) (μ .exec) n v used refl))
-      refl (put .long) (R .stack-room) (omega arith) (R .items) frames
+      refl (put .long) (R .rooms .stack-fits) (omega arith) (R .items) frames
 
 -- ---- a copy of the topmost slot's value
 
 module _ {m : Machine} {st e d c l : List ℕ} {μ : Floo.Machine} (R : Rep m st e d c l μ) (k : ℕ) (h : m .frames ≡ suc k) (room : 8 * m .frames + 8 ≤ length e) where
-  pub body-placed : Placed (m .lists) c 0 0 (getD e (8 * k + 1) 0) (getD e (8 * k + 2) 0)
+  pub body-placed : Placed (m .lists) c 0 0 (frameTag e k) (framePayload e k)
   body-placed = pend-placed R (words R k h) room
 
   pub body-rep : {s′ : Lists} {c′ e′ : List ℕ} {x y z : ℕ}
-      → Recounts (m .lists) c 0 0 (getD e (8 * k + 1) 0) (getD e (8 * k + 2) 0) s′ c′
-      → Put e e′ (m .frames) 0 (getD e (8 * k + 1) 0) (getD e (8 * k + 2) 0) x y z
+      → Recounts (m .lists) c 0 0 (frameTag e k) (framePayload e k) s′ c′
+      → Put e e′ (m .frames) 0 (frameTag e k) (framePayload e k) x y z
       → Rep (withDepths (m .depth) (m .frames + 1) s′ m) st e′ d c′ l (bodyPended μ)
   unfolding bodyPended
   body-rep {s′} {c′} {e′} K put =

@@ -2,14 +2,15 @@
 -- Assumes nothing.
 use mathlib.Core.Path.{_≡_, refl, sym, ap, _∙_, subst}
 use mathlib.Core.List.{List, _∷_}
-use Prim.Native.Nat.{ℕ, zero, suc, _+_, _*_, _/_, _%_}
+use Prim.Native.Nat.{ℕ, zero, suc, _/_, _%_}
 use native.Mathlib.Omega.{arith}
-use lib.ListN.{length, getD, drop}
+use lib.ListN.{length, drop}
 use Rattle.semantics.specs.Machine as Floo
 use Rattle.semantics.specs.Machine.{Frame, withExec}
 use Rattle.store.specs.Rep.{Names}
 use Rattle.store.proofs.Rooting.{rep-alike}
 use Rattle.heap.specs.Upd.{upd}
+use Rattle.machine.specs.Words.{frameKind, frameTag, framePayload, frameCell, frameLeft, frameFinal}
 use Rattle.machine.specs.Places.{fromEnd, frameValue, rootIn, roots}
 use Rattle.machine.specs.Rep.{Rep, IsIn, FrameIs, Frames, frame}
 use Rattle.machine.specs.declared.Machine.{Machine}
@@ -38,12 +39,12 @@ module _ {m : Machine} {st e d c l : List ℕ} {μ : Floo.Machine} (R : Rep m st
       ∙ ap (λ fs. fromEnd frameValue fs i) (sym (slot R k h .split))
 
   pub reset-rep : {e′ : List ℕ} {kind a b : ℕ}
-      → Put e e′ k kind (getD e (8 * k + 1) 0) (getD e (8 * k + 2) 0) a b (getD e (8 * k + 5) 0)
-      → FrameIs (IsIn (R .world) μ) (R .world .ghost) (μ .store) f kind (getD e (8 * k + 1) 0) (getD e (8 * k + 2) 0) a b (getD e (8 * k + 5) 0)
+      → Put e e′ k kind (frameTag e k) (framePayload e k) a b (frameFinal e k)
+      → FrameIs (IsIn (R .world) μ) (R .world .ghost) (μ .store) f kind (frameTag e k) (framePayload e k) a b (frameFinal e k)
       → Rep m st e′ d c l (resetTop f μ)
   unfolding resetTop withExec
   reset-rep {e′} put words =
-      let top : FrameIs (IsIn (R .world) μ) (R .world .ghost) (μ .store) f (getD e′ (8 * k) 0) (getD e′ (8 * k + 1) 0) (getD e′ (8 * k + 2) 0) (getD e′ (8 * k + 3) 0) (getD e′ (8 * k + 4) 0) (getD e′ (8 * k + 5) 0) =
+      let top : FrameIs (IsIn (R .world) μ) (R .world .ghost) (μ .store) f (frameKind e′ k) (frameTag e′ k) (framePayload e′ k) (frameCell e′ k) (frameLeft e′ k) (frameFinal e′ k) =
       rw (put .kind-is, put .tag-is, put .pay-is, put .a-is, put .b-is, put .c-is) words in
       let changed = exec-alike μ (f ∷ slot R k h .rest) same in
       let base : Rep m st e′ d c l (withExec (f ∷ slot R k h .rest) μ) = record {
@@ -58,17 +59,16 @@ module _ {m : Machine} {st e d c l : List ℕ} {μ : Floo.Machine} (R : Rep m st
         frames = subst (λ n. Frames (IsIn (R .world) μ) (R .world .ghost) (μ .store) e′ n (f ∷ slot R k h .rest)) (sym h)
             (frame top (frames-frame (put .below) (slot R k h .below)));
         slots = R .slots;
-        names = R .names;
-        titled = R .titled;
-        distinct = R .distinct;
-        logged = R .logged;
+        naming = R .naming;
+        logging = R .logging;
         stopped = R .stopped;
-        stack-room = R .stack-room;
-        exec-room = omega (arith, R .exec-room, put .long);
-        dict-room = R .dict-room;
-        log-room = R .log-room;
-        stack-few = R .stack-few;
-        exec-few = omega (arith, R .exec-few, put .long);
-        dict-few = R .dict-few;
+        rooms = record {
+          stack-fits = R .rooms .stack-fits;
+          exec-fits = omega (arith, R .rooms .exec-fits, put .long);
+          dict-fits = R .rooms .dict-fits;
+          stack-few = R .rooms .stack-few;
+          exec-few = omega (arith, R .rooms .exec-few, put .long);
+          dict-few = R .rooms .dict-few;
+        };
       } in
       subst (λ fs. Rep m st e′ d c l (withExec (f ∷ drop 1 fs) μ)) (sym (slot R k h .split)) base

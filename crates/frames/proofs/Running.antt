@@ -17,6 +17,7 @@ use Rattle.store.specs.Rep.{objectAt, element, Stands, a-procedure, by-array}
 use Rattle.store.proofs.Elements.{body-alives}
 use Rattle.store.proofs.Sorts.{array-length, procedure-tag}
 use Rattle.store.proofs.Standing.{stands-names}
+use Rattle.machine.specs.Words.{frameKind, frameTag, framePayload, frameCell, frameLeft, frameFinal}
 use Rattle.machine.specs.Places.{frameValue, keys, texts}
 use Rattle.machine.specs.Rep.{Rep, IsIn, FrameIs, a-pending, a-running, a-looping, a-repeating, a-counting}
 use Rattle.machine.specs.declared.Machine.{Machine}
@@ -54,10 +55,10 @@ module _ {A : Value → ℕ → ℕ → Type 0} {g : Ghost} {store : List Object
 
 module _ {m : Machine} {st e d c l : List ℕ} {μ : Floo.Machine} (R : Rep m st e d c l μ) (k : ℕ) (h : m .frames ≡ suc k) where
   abbrev tag : ℕ
-  tag = getD e (8 * k + 1) 0
+  tag = frameTag e k
 
   abbrev header : ℕ
-  header = getD e (8 * k + 2) 0
+  header = framePayload e k
 
   pub shape : Shape (R .world .ghost) (m .lists .edge) c
   shape = R .stored .full .heap .shape
@@ -90,23 +91,23 @@ module _ {m : Machine} {st e d c l : List ℕ} {μ : Floo.Machine} (R : Rep m st
 
   -- ---- a procedure that runs
 
-  pub run-at : getD e (8 * k) 0 ≡ 1 → (i : ℕ) × (j : ℕ) × (topFrame μ ≡ running i j)
+  pub run-at : frameKind e k ≡ 1 → (i : ℕ) × (j : ℕ) × (topFrame μ ≡ running i j)
   run-at q =
       let x = kind-runs q (slot R k h .words) in
       (x .0, x .1, ap (λ fs. getD fs 0 (pending null)) (slot R k h .split) ∙ x .2)
 
   module _ (i j : ℕ) (is : topFrame μ ≡ running i j) where
-    pub top-runs : Runs (IsIn (R .world) μ) (R .world .ghost) (μ .store) i j tag header (getD e (8 * k + 3) 0) (getD e (8 * k + 4) 0)
+    pub top-runs : Runs (IsIn (R .world) μ) (R .world .ghost) (μ .store) i j tag header (frameCell e k) (frameLeft e k)
     top-runs = runs i j (sym (ap (λ fs. getD fs 0 (pending null)) (slot R k h .split)) ∙ is) (slot R k h .words)
 
-    module _ (some-left : 1 ≤ getD e (8 * k + 4) 0) where
+    module _ (some-left : 1 ≤ frameLeft e k) where
       abbrev cell : ℕ
-      cell = getD e (8 * k + 3) 0
+      cell = frameCell e k
 
       abbrev r : ℕ
-      r = getD e (8 * k + 4) 0 - 1
+      r = frameLeft e k - 1
 
-      more : getD e (8 * k + 4) 0 ≡ suc r
+      more : frameLeft e k ≡ suc r
       more = omega arith
 
       pub cell-owned : R .world .ghost .own cell ≡ on (header + 2) r
@@ -116,9 +117,9 @@ module _ {m : Machine} {st e d c l : List ℕ} {μ : Floo.Machine} (R : Rep m st
       cell-room = room shape cell cell-owned refl
 
       -- The slot's words once it has gone on.
-      pub advanced : (z : ℕ) → FrameIs (IsIn (R .world) μ) (R .world .ghost) (μ .store) (running i (suc j)) 1 tag header (word c cell 2) (getD e (8 * k + 4) 0 - 1) z
+      pub advanced : (z : ℕ) → FrameIs (IsIn (R .world) μ) (R .world .ghost) (μ .store) (running i (suc j)) 1 tag header (word c cell 2) (frameLeft e k - 1) z
       advanced z =
-          a-running {k = suc j} {b = getD e (8 * k + 4) 0 - 1} (top-runs .procedure) (omega (arith, more, top-runs .left))
+          a-running {k = suc j} {b = frameLeft e k - 1} (top-runs .procedure) (omega (arith, more, top-runs .left))
           (λ x q. shape .chains .link cell (header + 2) x (subst (λ y. R .world .ghost .own cell ≡ on (header + 2) y) (omega (arith, more, q)) cell-owned))
 
       tag-ten : tag ≡ 10
@@ -158,10 +159,10 @@ module _ {m : Machine} {st e d c l : List ℕ} {μ : Floo.Machine} (R : Rep m st
 
 module _ {m : Machine} (e c : List ℕ) {e′ : List ℕ} (some : 1 ≤ m .frames) where
   -- The first cell is that of the first element, if there is one.
-  pub starts : getD e (8 * (m .frames - 1) + 1) 0 ≡ 10
+  pub starts : frameTag e (m .frames - 1) ≡ 10
       → (a b : ℕ)
-      → b ≡ word c (getD e (8 * (m .frames - 1) + 2) 0) 1 % sizeUnit
-      → ((g : Ghost) (x : ℕ) → Shape g x c → g .own (getD e (8 * (m .frames - 1) + 2) 0) ≡ live → (r : ℕ) → b ≡ suc r → g .size (getD e (8 * (m .frames - 1) + 2) 0 + 2) ≡ 0 + suc r → g .own a ≡ on (getD e (8 * (m .frames - 1) + 2) 0 + 2) r)
+      → b ≡ word c (framePayload e (m .frames - 1)) 1 % sizeUnit
+      → ((g : Ghost) (x : ℕ) → Shape g x c → g .own (framePayload e (m .frames - 1)) ≡ live → (r : ℕ) → b ≡ suc r → g .size (framePayload e (m .frames - 1) + 2) ≡ 0 + suc r → g .own a ≡ on (framePayload e (m .frames - 1) + 2) r)
       → Resets 1 a b m e e′
       → Starts m e e′ c
   starts is a b n first reset =
@@ -173,9 +174,9 @@ module _ {m : Machine} (e c : List ℕ) {e′ : List ℕ} (some : 1 ≤ m .frame
       }
 
   pub advances : {next : ℕ}
-      → 1 ≤ getD e (8 * (m .frames - 1) + 4) 0
-      → next ≡ word c (getD e (8 * (m .frames - 1) + 3) 0) 2
-      → Resets 1 next (getD e (8 * (m .frames - 1) + 4) 0 - 1) m e e′
+      → 1 ≤ frameLeft e (m .frames - 1)
+      → next ≡ word c (frameCell e (m .frames - 1)) 2
+      → Resets 1 next (frameLeft e (m .frames - 1) - 1) m e e′
       → Advances m e e′ c
   unfolding topValue
   advances {next} left is reset =
@@ -183,6 +184,6 @@ module _ {m : Machine} (e c : List ℕ) {e′ : List ℕ} (some : 1 ≤ m .frame
         moves = λ s d l μ R i j q.
             let h : m .frames ≡ suc (m .frames - 1) = omega (arith, some) in
             reset .moves s d c l μ R (running i (suc j)) (ap frameValue (sym q))
-            (subst (λ y. FrameIs (IsIn (R .world) μ) (R .world .ghost) (μ .store) (running i (suc j)) 1 (getD e (8 * (m .frames - 1) + 1) 0) (getD e (8 * (m .frames - 1) + 2) 0) y (getD e (8 * (m .frames - 1) + 4) 0 - 1) (getD e (8 * (m .frames - 1) + 5) 0)) (sym is)
-            (advanced R (m .frames - 1) h i j q left (getD e (8 * (m .frames - 1) + 5) 0)));
+            (subst (λ y. FrameIs (IsIn (R .world) μ) (R .world .ghost) (μ .store) (running i (suc j)) 1 (frameTag e (m .frames - 1)) (framePayload e (m .frames - 1)) y (frameLeft e (m .frames - 1) - 1) (frameFinal e (m .frames - 1))) (sym is)
+            (advanced R (m .frames - 1) h i j q left (frameFinal e (m .frames - 1))));
       }

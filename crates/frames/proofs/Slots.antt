@@ -6,6 +6,7 @@ use Prim.Native.Nat.{ℕ, _+_, _*_, _≤_, _<_}
 use native.Mathlib.Omega.{arith}
 use lib.ListN.{length, getD, set, length-set}
 use lib.Seq.{getD-set-same, getD-set-other}
+use Rattle.machine.specs.Words.{frameKind, frameTag, framePayload, frameCell, frameLeft, frameFinal}
 use Rattle.frames.proofs.Entering.{Put}
 
 module _ (e : List ℕ) (n : ℕ) (fits : 8 * n + 8 ≤ length e) where
@@ -23,7 +24,7 @@ module _ (e : List ℕ) (n : ℕ) (fits : 8 * n + 8 ≤ length e) where
         ∙ getD-set-other (set e (8 * n) x) (8 * n + i) k y 0 b
         ∙ getD-set-other e (8 * n) k x 0 a
 
-    triple-first : getD triple (8 * n) 0 ≡ x
+    triple-first : frameKind triple n ≡ x
     triple-first =
         getD-set-other (set (set e (8 * n) x) (8 * n + i) y) (8 * n + j) (8 * n) z 0 (λ q. omega arith)
         ∙ getD-set-other (set e (8 * n) x) (8 * n + i) (8 * n) y 0 (λ q. omega arith)
@@ -47,7 +48,7 @@ module _ (e : List ℕ) (n : ℕ) (fits : 8 * n + 8 ≤ length e) where
     three-else : (k : ℕ) → (k ≡ 8 * n → ⊥) → (k ≡ 8 * n + 1 → ⊥) → (k ≡ 8 * n + 2 → ⊥) → getD three k 0 ≡ getD e k 0
     three-else = triple-else kind 1 t 2 p (omega arith) (omega arith) (omega arith)
 
-    pub put-three : Put e three n kind t p (getD e (8 * n + 3) 0) (getD e (8 * n + 4) 0) (getD e (8 * n + 5) 0)
+    pub put-three : Put e three n kind t p (frameCell e n) (frameLeft e n) (frameFinal e n)
     put-three =
         record {
           long = triple-long kind 1 t 2 p (omega arith) (omega arith) (omega arith);
@@ -61,7 +62,7 @@ module _ (e : List ℕ) (n : ℕ) (fits : 8 * n + 8 ≤ length e) where
         }
 
   pub put-numbers : (kind a b : ℕ)
-      → Put e (set (set (set e (8 * n) kind) (8 * n + 3) a) (8 * n + 4) b) n kind (getD e (8 * n + 1) 0) (getD e (8 * n + 2) 0) a b (getD e (8 * n + 5) 0)
+      → Put e (set (set (set e (8 * n) kind) (8 * n + 3) a) (8 * n + 4) b) n kind (frameTag e n) (framePayload e n) a b (frameFinal e n)
   put-numbers kind a b =
       let others = triple-else kind 3 a 4 b (omega arith) (omega arith) (omega arith) in
       record {

@@ -6,6 +6,7 @@ use Prim.Native.Nat.{ℕ, _+_, _-_, _*_}
 use native.Mathlib.Omega.{arith}
 use lib.ListN.{getD, set}
 use lib.Seq.{set-set, set-comm, set-getD}
+use Rattle.machine.specs.Words.{frameKind, frameCell, frameLeft}
 use Rattle.machine.specs.declared.Machine.{Machine}
 use Rattle.frames.specs.Moves.{resetWords}
 
@@ -27,8 +28,8 @@ thrice e i a b =
     ∙ (set-set e (i + 4) b (getD e (i + 4) 0) ∙ set-getD e (i + 4) 0)
 
 pub undone : (m : Machine) (e : List ℕ) (a b : ℕ)
-    → getD e (8 * (m .frames - 1)) 0 ≡ 1
-    → resetWords 1 (getD e (8 * (m .frames - 1) + 3) 0) (getD e (8 * (m .frames - 1) + 4) 0) m (resetWords 1 a b m e) ≡ e
+    → frameKind e (m .frames - 1) ≡ 1
+    → resetWords 1 (frameCell e (m .frames - 1)) (frameLeft e (m .frames - 1)) m (resetWords 1 a b m e) ≡ e
 undone m e a b k =
     let i = 8 * (m .frames - 1) in
     ap (λ x. set (set (set (resetWords 1 a b m e) i x) (i + 3) (getD e (i + 3) 0)) (i + 4) (getD e (i + 4) 0)) (sym k) ∙ thrice e i a b

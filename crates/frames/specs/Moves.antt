@@ -9,6 +9,7 @@ use Rattle.semantics.specs.Values.{Value, null, array}
 use Rattle.store.specs.Rep.{element}
 use Rattle.semantics.specs.Machine as Floo
 use Rattle.semantics.specs.Machine.{Frame, pending, running, looping, repeating, counting, withStack, withExec, push, enter}
+use Rattle.machine.specs.Words.{frameTag, framePayload, frameFinal}
 use Rattle.machine.specs.Places.{frameValue}
 use Rattle.machine.specs.Rep.{Rep, IsIn, FrameIs}
 use Rattle.machine.specs.FrameMoves.{topFrame, topValue}
@@ -53,7 +54,7 @@ SomewhereAll m s e c = (d : List ℕ) × (l : List ℕ) × (μ : Floo.Machine) �
 pub record Resets (kind a b : ℕ) (m : Machine) (e e′ : List ℕ) : Type 0 where
   pub moves : (s d c l : List ℕ) (μ : Floo.Machine) (R : Rep m s e d c l μ) (f : Frame)
       → frameValue f ≡ topValue μ
-      → FrameIs (IsIn (R .world) μ) (R .world .ghost) (μ .store) f kind (getD e (8 * (m .frames - 1) + 1) 0) (getD e (8 * (m .frames - 1) + 2) 0) a b (getD e (8 * (m .frames - 1) + 5) 0)
+      → FrameIs (IsIn (R .world) μ) (R .world .ghost) (μ .store) f kind (frameTag e (m .frames - 1)) (framePayload e (m .frames - 1)) a b (frameFinal e (m .frames - 1))
       → Rep m s e′ d c l (resetTop f μ)
 
 -- Its words then.

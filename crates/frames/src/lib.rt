@@ -2,11 +2,20 @@
 // names.
 ghost use mathlib.Core.Path.{_≡_};
 ghost use Prim.Native.Nat.{_+_, _*_, _-_, _≤_};
-ghost use lib.ListN.{length, getD};
+ghost use lib.ListN.{length};
+ghost use Rattle.machine.specs.Words.{frameKind, frameTag, frameCell, frameLeft, frameFinal};
 ghost use Rattle.machine.specs.FrameMoves.{Somewhere, MovesFrames};
 ghost use Rattle.frames.specs.Moves.{Enters, Resets, SomewhereAll, Starts, Advances, PushesElement, bodyPended, resetWords, Turned};
+use machine::FRAME_CELL;
+use machine::FRAME_FINAL;
+use machine::FRAME_LEFT;
+use machine::FRAME_PAYLOAD;
+use machine::FRAME_TAG;
+use machine::ITEM_PAYLOAD;
 use machine::Machine;
 use machine::TAG_NULL;
+use semantics::EXEC_WIDTH;
+use semantics::STACK_WIDTH;
 
 // Kinds of execution slots.
 pub const PENDING: u32 = 0;
@@ -22,14 +31,14 @@ pub const FOR: u32 = 4;
 // The topmost item becomes pending.
 pub fn pend_top(m: Machine, stack: &[u32], exec: &mut [u32]) -> Machine
     requires { ⌜ (1 ≤ m .depth) × (2 * m .depth ≤ length (now stack)) × (8 * m .frames + 8 ≤ length (now exec)) ⌝ }
-    ensures { λ r. ⌜ Enters 0 (getD (now (exec .entry)) (8 * m .frames + 3) 0) (getD (now (exec .entry)) (8 * m .frames + 4) 0) (getD (now (exec .entry)) (8 * m .frames + 5) 0) m r (now (stack .entry)) (now (exec .entry)) (now (exec .exit)) ⌝ }
+    ensures { λ r. ⌜ Enters 0 (frameCell (now (exec .entry)) (m .frames)) (frameLeft (now (exec .entry)) (m .frames)) (frameFinal (now (exec .entry)) (m .frames)) m r (now (stack .entry)) (now (exec .entry)) (now (exec .exit)) ⌝ }
     ensures { λ r. ⌜ (r .depth ≡ m .depth - 1) × (r .frames ≡ m .frames + 1) ⌝ }
 {
     let k = m.depth - 1;
     let n = m.frames;
-    exec[8 * n] = PENDING;
-    exec[8 * n + 1] = stack[2 * k];
-    exec[8 * n + 2] = stack[2 * k + 1];
+    exec[EXEC_WIDTH * n] = PENDING;
+    exec[EXEC_WIDTH * n + FRAME_TAG] = stack[STACK_WIDTH * k];
+    exec[EXEC_WIDTH * n + FRAME_PAYLOAD] = stack[STACK_WIDTH * k + ITEM_PAYLOAD];
     let mut r = m;
     r.depth = k;
     r.frames = n + 1;
@@ -52,12 +61,12 @@ pub fn enter_loop(
 {
     let k = m.depth - 1;
     let n = m.frames;
-    exec[8 * n] = kind;
-    exec[8 * n + 1] = stack[2 * k];
-    exec[8 * n + 2] = stack[2 * k + 1];
-    exec[8 * n + 3] = a;
-    exec[8 * n + 4] = b;
-    exec[8 * n + 5] = c;
+    exec[EXEC_WIDTH * n] = kind;
+    exec[EXEC_WIDTH * n + FRAME_TAG] = stack[STACK_WIDTH * k];
+    exec[EXEC_WIDTH * n + FRAME_PAYLOAD] = stack[STACK_WIDTH * k + ITEM_PAYLOAD];
+    exec[EXEC_WIDTH * n + FRAME_CELL] = a;
+    exec[EXEC_WIDTH * n + FRAME_LEFT] = b;
+    exec[EXEC_WIDTH * n + FRAME_FINAL] = c;
     let mut r = m;
     r.depth = k;
     r.frames = n + 1;
@@ -72,13 +81,13 @@ pub fn pend_body(m: Machine, exec: &mut [u32], cells: &mut [u32]) -> Machine
 {
     let n = m.frames;
     let k = n - 1;
-    let tag = exec[8 * k + 1];
-    let pay = exec[8 * k + 2];
+    let tag = exec[EXEC_WIDTH * k + FRAME_TAG];
+    let pay = exec[EXEC_WIDTH * k + FRAME_PAYLOAD];
     let lists = m.lists;
     let counted = machine::recount(lists, cells, TAG_NULL, 0, tag, pay);
-    exec[8 * n] = PENDING;
-    exec[8 * n + 1] = tag;
-    exec[8 * n + 2] = pay;
+    exec[EXEC_WIDTH * n] = PENDING;
+    exec[EXEC_WIDTH * n + FRAME_TAG] = tag;
+    exec[EXEC_WIDTH * n + FRAME_PAYLOAD] = pay;
     let mut r = m;
     r.frames = n + 1;
     r.lists = counted;
@@ -92,18 +101,18 @@ pub fn reset_top(m: Machine, exec: &mut [u32], kind: u32, a: u32, b: u32)
     ensures { λ _. ⌜ now (exec .exit) ≡ resetWords kind a b m (now (exec .entry)) ⌝ }
 {
     let k = m.frames - 1;
-    exec[8 * k] = kind;
-    exec[8 * k + 3] = a;
-    exec[8 * k + 4] = b;
+    exec[EXEC_WIDTH * k] = kind;
+    exec[EXEC_WIDTH * k + FRAME_CELL] = a;
+    exec[EXEC_WIDTH * k + FRAME_LEFT] = b;
 }
 
 // The procedure in the topmost slot starts to run: its next element is the first, and all are left.
 pub fn run_top(m: Machine, exec: &mut [u32], cells: &[u32])
-    requires { ⌜ (1 ≤ m .frames) × (getD (now exec) (8 * (m .frames - 1) + 1) 0 ≡ 10) × Somewhere m (now exec) (now cells) ⌝ }
+    requires { ⌜ (1 ≤ m .frames) × (frameTag (now exec) (m .frames - 1) ≡ 10) × Somewhere m (now exec) (now cells) ⌝ }
     ensures { λ _. ⌜ Starts m (now (exec .entry)) (now (exec .exit)) (now (cells .entry)) ⌝ }
 {
     let k = m.frames - 1;
-    let h = exec[8 * k + 2];
+    let h = exec[EXEC_WIDTH * k + FRAME_PAYLOAD];
     let n = heap::size(cells, h);
     if n == 0 {
         reset_top(m, exec, RUNNING, 0, 0);
@@ -115,32 +124,32 @@ pub fn run_top(m: Machine, exec: &mut [u32], cells: &[u32])
 
 // The procedure that runs in the topmost slot goes on to the element after, by the next link.
 pub fn advance(m: Machine, exec: &mut [u32], cells: &[u32])
-    requires { ⌜ (1 ≤ m .frames) × (getD (now exec) (8 * (m .frames - 1)) 0 ≡ 1) × (1 ≤ getD (now exec) (8 * (m .frames - 1) + 4) 0) × Somewhere m (now exec) (now cells) ⌝ }
+    requires { ⌜ (1 ≤ m .frames) × (frameKind (now exec) (m .frames - 1) ≡ 1) × (1 ≤ frameLeft (now exec) (m .frames - 1)) × Somewhere m (now exec) (now cells) ⌝ }
     ensures { λ _. ⌜ Advances m (now (exec .entry)) (now (exec .exit)) (now (cells .entry)) ⌝ }
     ensures { λ _. ⌜ Turned m (now (exec .entry)) (now (exec .exit)) ⌝ }
 {
     let k = m.frames - 1;
-    let c = exec[8 * k + 3];
-    let left = exec[8 * k + 4];
+    let c = exec[EXEC_WIDTH * k + FRAME_CELL];
+    let left = exec[EXEC_WIDTH * k + FRAME_LEFT];
     let next = heap::next(cells, c);
     reset_top(m, exec, RUNNING, next, left - 1);
 }
 
 // The next element of the procedure that runs in the topmost slot is pushed.
 pub fn push_element(m: Machine, stack: &mut [u32], exec: &[u32], cells: &mut [u32]) -> Machine
-    requires { ⌜ (1 ≤ m .frames) × (getD (now exec) (8 * (m .frames - 1)) 0 ≡ 1) × (1 ≤ getD (now exec) (8 * (m .frames - 1) + 4) 0) × (2 * m .depth + 2 ≤ length (now stack)) × SomewhereAll m (now stack) (now exec) (now cells) ⌝ }
+    requires { ⌜ (1 ≤ m .frames) × (frameKind (now exec) (m .frames - 1) ≡ 1) × (1 ≤ frameLeft (now exec) (m .frames - 1)) × (2 * m .depth + 2 ≤ length (now stack)) × SomewhereAll m (now stack) (now exec) (now cells) ⌝ }
     ensures { λ r. ⌜ PushesElement m r (now (stack .entry)) (now (stack .exit)) (now (exec .entry)) (now (cells .entry)) (now (cells .exit)) ⌝ }
     ensures { λ r. ⌜ (r .depth ≡ m .depth + 1) × (r .frames ≡ m .frames) ⌝ }
 {
     let n = m.depth;
     let k = m.frames - 1;
-    let c = exec[8 * k + 3];
+    let c = exec[EXEC_WIDTH * k + FRAME_CELL];
     let tag = heap::get(cells, c, 0);
     let pay = heap::get(cells, c, 1);
     let lists = m.lists;
     let left = machine::recount(lists, cells, TAG_NULL, 0, tag, pay);
-    stack[2 * n] = tag;
-    stack[2 * n + 1] = pay;
+    stack[STACK_WIDTH * n] = tag;
+    stack[STACK_WIDTH * n + ITEM_PAYLOAD] = pay;
     let mut r = m;
     r.depth = n + 1;
     r.lists = left;

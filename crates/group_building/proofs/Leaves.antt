@@ -7,6 +7,7 @@ use mathlib.Core.Option.{some}
 use Prim.Native.Nat.{ℕ, _+_, _-_, _*_, _/_, _≤_, _<_}
 use native.Mathlib.Omega.{arith}
 use lib.ListN.{length, getElem?, take, drop, replicate, length-replicate, length-take}
+use Rattle.semantics.specs.Sizes.{nameMost}
 use Rattle.semantics.specs.Tokens.{Token}
 use Rattle.semantics.specs.Text.{same}
 use Rattle.semantics.specs.Values.{integer, name, string, text, Object, cells}
@@ -115,7 +116,7 @@ module _ {d script : List ℕ} {u : scanned.Token} {m : Machine} {cs : List ℕ}
     pub puts-literal : u ≡ read.LiteralName from size → PutsName d (take (from + size - from) (drop from script)) 5 m cs c cs′ → PutsLeaf d script u m cs c m cs′
     puts-literal g P = named false P refl (λ t L. subst (λ u. LeafIs script u t) g L .0 ∙ ap (λ n. Token.name false n) (part-is script from size))
 
-short : (script : List ℕ) (from size : ℕ) → size ≤ 31 → length (take (from + size - from) (drop from script)) ≤ 31
+short : (script : List ℕ) (from size : ℕ) → size ≤ nameMost → length (take (from + size - from) (drop from script)) ≤ nameMost
 short script from size few = omega (arith, few, length-take (from + size - from) (drop from script))
 
 -- What a name asks for.
@@ -127,10 +128,10 @@ module _ (script : List ℕ) (u : scanned.Token) {s e d l : List ℕ} {m : Machi
   pub literal-inside : u ≡ read.LiteralName from size → from + size ≤ length script
   literal-inside g = subst (λ u. LeafIs script u t) g L .1
 
-  pub executable-short : u ≡ read.ExecutableName from size → length (take (from + size - from) (drop from script)) ≤ 31
+  pub executable-short : u ≡ read.ExecutableName from size → length (take (from + size - from) (drop from script)) ≤ nameMost
   executable-short g = short script from size (subst (λ u. LeafIs script u t) g L .2)
 
-  pub literal-short : u ≡ read.LiteralName from size → length (take (from + size - from) (drop from script)) ≤ 31
+  pub literal-short : u ≡ read.LiteralName from size → length (take (from + size - from) (drop from script)) ≤ nameMost
   literal-short g = short script from size (subst (λ u. LeafIs script u t) g L .2)
 
   pub executable-at : u ≡ read.ExecutableName from size → LeafAt s e d l m cs c h k id q μ (Token.name true (take (from + size - from) (drop from script)))

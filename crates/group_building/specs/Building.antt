@@ -5,6 +5,7 @@ use mathlib.Core.Bool.{Bool, true, false}
 use mathlib.Core.List.{List}
 use Prim.Native.Nat.{ℕ, suc, _+_, _-_, _≤_, _<_}
 use lib.ListN.{length, take, drop}
+use Rattle.semantics.specs.Sizes.{nameMost}
 use Rattle.semantics.specs.Tokens.{Token}
 use Rattle.semantics.specs.Values.{integer, null, name, string, array, cells}
 use Rattle.semantics.specs.Machine as Floo
@@ -88,8 +89,8 @@ Readable script at = (depth : ℕ) × (ns : Nodes) × (after : ℕ) × Parsed sc
 abbrev pub LeafIs : List ℕ → scanned.Token → Token → Type 0
 LeafIs script (read.Integer w) t = t ≡ Token.integer w
 LeafIs script (read.String at size) t = (bs : List ℕ) × (next : ℕ) × (t ≡ Token.string bs) × StringAt script at bs next × (length bs ≡ size)
-LeafIs script (read.ExecutableName at size) t = (t ≡ Token.name true (take size (drop at script))) × (at + size ≤ length script) × (size ≤ 31)
-LeafIs script (read.LiteralName at size) t = (t ≡ Token.name false (take size (drop at script))) × (at + size ≤ length script) × (size ≤ 31)
+LeafIs script (read.ExecutableName at size) t = (t ≡ Token.name true (take size (drop at script))) × (at + size ≤ length script) × (size ≤ nameMost)
+LeafIs script (read.LiteralName at size) t = (t ≡ Token.name false (take size (drop at script))) × (at + size ≤ length script) × (size ≤ nameMost)
 LeafIs script read.OpenBrace t = ⊥
 LeafIs script read.CloseBrace t = ⊥
 LeafIs script read.End t = ⊥
@@ -130,7 +131,7 @@ nameTag false = 5
 abbrev pub ReadyName : List ℕ → List ℕ → ℕ → Machine → List ℕ → ℕ → Type 0
 ReadyName d n tag m cs c =
     (s : List ℕ) × (e : List ℕ) × (l : List ℕ) × (h : ℕ) × (k : ℕ) × (id : ℕ) × (q : ℕ) × (μ : Floo.Machine) × (x : Bool)
-    × LeafAt s e d l m cs c h k id q μ (Token.name x n) × (tag ≡ nameTag x) × (length n ≤ 31)
+    × LeafAt s e d l m cs c h k id q μ (Token.name x n) × (tag ≡ nameTag x) × (length n ≤ nameMost)
 
 pub record PutsName (d n : List ℕ) (tag : ℕ) (m : Machine) (cs : List ℕ) (c : ℕ) (cs′ : List ℕ) : Type 0 where
   pub puts : {s e l : List ℕ} {h k id q : ℕ} {μ : Floo.Machine} {x : Bool}

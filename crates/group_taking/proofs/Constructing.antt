@@ -13,6 +13,7 @@ use Rattle.semantics.specs.Machine as Floo
 use Rattle.semantics.specs.Machine.{withStack, withStore, push, make, made, elementsOf}
 use Rattle.semantics.specs.TextOperators.{asExecutable}
 use Rattle.store.specs.Rep.{objectAt}
+use Rattle.machine.specs.Words.{itemTag}
 use Rattle.machine.specs.Rep.{Rep, MovesHeap}
 use Rattle.machine.specs.Moves.{retagged, tagAs}
 use Rattle.machine.specs.declared.Machine.{Machine}
@@ -79,7 +80,7 @@ module _ {m : Machine} {s c : List ℕ} (room : 2 * m .depth + 2 ≤ length s) {
   unfolding tagAs arrayMade push made make withStack withStore
   blank-rep {e} {d} {l} {μ} R =
       let R₂ = A .moves e d l (push null μ) (null-words room W R) in
-      let tag : 10 ≡ tagAs true (getD s₂ (2 * m .depth) 0) =
+      let tag : 10 ≡ tagAs true (itemTag s₂ (m .depth)) =
       ⊎-elim (λ x. ap (tagAs true) (sym x)) (λ x. ap (tagAs true) (sym x)) (array-tags {x = false} {i = made μ} (word-of R₂ 0 (m .depth) depth-is .stands) .1) in
       retag-rep R₂ true (m .depth) depth-is tag
 

@@ -5,6 +5,7 @@ use mathlib.Core.Bool.{true}
 use mathlib.Core.List.{List, []}
 use Prim.Native.Nat.{ℕ, _+_, _*_, _≤_}
 use lib.ListN.{length, replicate}
+use Rattle.semantics.specs.Sizes.{scriptMost}
 use Rattle.semantics.specs.Values.{Result, ok, fault, _>>=_, null, array, elements}
 use Rattle.semantics.specs.Machine as Floo
 use Rattle.semantics.specs.Machine.{push, make, made}
@@ -31,7 +32,7 @@ groupTaken limits script from μ = tokenMove (groupRead script from μ) .result 
 -- From `from` on, past a brace, the script may have a group, and the words stand for some machine.
 abbrev pub Opened : List ℕ → ℕ → Machine → List ℕ → List ℕ → List ℕ → Type 0
 Opened script from m s d c =
-    (1 ≤ from) × (from ≤ length script) × (length script ≤ 32768) × ((e : List ℕ) × (l : List ℕ) × (μ : Floo.Machine) × Rep m s e d c l μ)
+    (1 ≤ from) × (from ≤ length script) × (length script ≤ scriptMost) × ((e : List ℕ) × (l : List ℕ) × (μ : Floo.Machine) × Rep m s e d c l μ)
 
 -- The machine after the group, and the offset after it; or the error, where the words stand for what they stood for.
 abbrev pub GroupedAs : List ℕ → ℕ → Machine → List ℕ → List ℕ → List ℕ → List ℕ → List ℕ → List ℕ → List ℕ → List ℕ → Floo.Machine → Grouped → Type 0

@@ -2,10 +2,12 @@
 // nothing has changed but words of the dictionary past its names.
 ghost use Rattle.group_taking.specs.Taking.{Opened, TakesGroup, ReadyGroup, ConstructsGroup};
 use groups::Judged;
+use machine::ITEM_PAYLOAD;
 use machine::Machine;
 use machine::TAG_NULL;
 use machine::TAG_PROCEDURE;
 use semantics::Error;
+use semantics::STACK_WIDTH;
 use taking::Named;
 
 // What taking a group came to: the machine and the offset after the group, or the error.
@@ -35,7 +37,7 @@ pub fn take_group(
     let Named::Done(with) = named else {
         return Grouped::Fail(taking::fault_of(named));
     };
-    if stack.len() < 2 * m.depth + 2 {
+    if stack.len() < STACK_WIDTH * m.depth + STACK_WIDTH {
         return Grouped::Fail(Error::StackOverflow);
     }
     if (elements::free_cells(m, cells) as usize) < size + 1 + wants {
@@ -63,8 +65,8 @@ fn construct(
     let n = m.depth;
     let deeper = taking::push_words(m, stack, TAG_NULL, 0);
     let made = elements::new_array(deeper, stack, cells, 0, size as u32);
-    stack[2 * n] = TAG_PROCEDURE;
-    let first = group_building::first_cell(cells, stack[2 * n + 1], size);
+    stack[STACK_WIDTH * n] = TAG_PROCEDURE;
+    let first = group_building::first_cell(cells, stack[STACK_WIDTH * n + ITEM_PAYLOAD], size);
     let built = group_building::build(made, dict, cells, script, from, first, 15);
     built.machine
 }

@@ -3,12 +3,12 @@
 use mathlib.Core.Path.{_≡_, refl}
 use mathlib.Core.Bool.{Bool}
 use mathlib.Core.List.{List}
-use Prim.Native.Nat.{ℕ, _+_, _-_, _*_, _<_}
+use Prim.Native.Nat.{ℕ, _-_, _<_}
 use native.Mathlib.Omega.{arith}
-use lib.ListN.{getD}
 use mathlib.Core.Path.{subst}
 use Rattle.semantics.specs.Values.{integer}
 use Rattle.store.specs.Rep.{Stands, an-integer}
+use Rattle.machine.specs.Words.{itemTag, itemPayload}
 use Rattle.machine.specs.Rep.{IsIn, MovesStack, MovesHeap}
 use Rattle.machine.specs.Moves.{dropped, swapped}
 use Rattle.machine.specs.declared.Machine.{Machine}
@@ -19,12 +19,12 @@ use Rattle.interval_operators.specs.Intervals.{ItemInteger, threeDropped
 stands-integer : {keys : List (List ℕ)} {texts : List Bool} {ρ : ℕ → ℕ} {w t p : ℕ} → Stands keys texts ρ (integer w) t p → p ≡ w
 stands-integer an-integer = refl
 
-pub integer-read : (i : ℕ) (m : Machine) (s : List ℕ) → i < m .depth → ItemInteger i m s (getD s (2 * (m .depth - 1 - i) + 1) 0)
+pub integer-read : (i : ℕ) (m : Machine) (s : List ℕ) → i < m .depth → ItemInteger i m s (itemPayload s (m .depth - 1 - i))
 integer-read i m s h =
     record {
       says = λ e d c l μ R w q.
           let I = word-of R i (m .depth - 1 - i) (omega (arith, h)) in
-          stands-integer (subst (λ v. IsIn (R .world) μ v (getD s (2 * (m .depth - 1 - i)) 0) (getD s (2 * (m .depth - 1 - i) + 1) 0)) q I .stands);
+          stands-integer (subst (λ v. IsIn (R .world) μ v (itemTag s (m .depth - 1 - i)) (itemPayload s (m .depth - 1 - i))) q I .stands);
     }
 
 pub three-gone : {m m₁ m₂ m₃ : Machine} {s c c₁ c₂ c₃ : List ℕ}

@@ -4,7 +4,7 @@ use mathlib.Core.Path.{_≡_, refl, sym, ap, _∙_, subst}
 use mathlib.Core.Bool.{Bool}
 use mathlib.Core.List.{List, []}
 use mathlib.Core.Logic.{_⊎_, ⊎-elim}
-use Prim.Native.Nat.{ℕ, suc, _+_, _-_, _*_, _≤_, _<_}
+use Prim.Native.Nat.{ℕ, suc, _+_, _-_, _≤_, _<_}
 use native.Mathlib.Omega.{arith}
 use native.Mathlib.Numerals.{add-one}
 use lib.ListN.{length, getD, set}
@@ -16,6 +16,7 @@ use Rattle.heap.proofs.Shapes.{list-le}
 use Rattle.heap.proofs.Upds.{same?}
 use Rattle.store.specs.Rep.{objectAt}
 use Rattle.store.proofs.Changes.{at-set}
+use Rattle.machine.specs.Words.{itemPayload}
 use Rattle.machine.specs.Rep.{Rep, MovesHeap}
 use Rattle.machine.specs.declared.Machine.{Machine}
 use Rattle.machine.proofs.Outcomes.{stack-depth}
@@ -46,8 +47,8 @@ part {m} {st = st} {c = c} {μ = μ} R i q n deep b =
     let k = m .depth - suc i in
     let h : m .depth ≡ k + suc i = omega (arith, deep) in
     let same = sym (item-id (b .array)) in
-    let A = subst (λ id. ArrayAt (R .world) c (μ .store) (getD st (2 * k + 1) 0) id) same (array-item R i k h (b .array .item)) in
-    let head = getD st (2 * k + 1) 0 in
+    let A = subst (λ id. ArrayAt (R .world) c (μ .store) (itemPayload st k) id) same (array-item R i k h (b .array .item)) in
+    let head = itemPayload st k in
     let shape = R .stored .full .heap .shape in
     record {
       executable = b .array .executable;

@@ -4,7 +4,7 @@ use mathlib.Core.Path.{_≡_, refl, sym, ap, _∙_, subst}
 use mathlib.Core.Bool.{Bool, true, false}
 use mathlib.Core.List.{List, [], _∷_}
 use mathlib.Core.Logic.{⊎-elim}
-use Prim.Native.Nat.{ℕ, suc, _+_, _-_, _*_, _≤_, _<_}
+use Prim.Native.Nat.{ℕ, suc, _+_, _-_, _≤_, _<_}
 use native.Mathlib.Omega.{arith}
 use lib.ListN.{length, getD}
 use lib.Dec.{leb}
@@ -17,6 +17,7 @@ use Rattle.semantics.specs.Operators.{perform, find, table, _is_}
 use Rattle.semantics.specs.declared.Error.the-variants.{StackUnderflow, TypeCheck, RangeCheck}
 use Rattle.heap.proofs.Since.{lt-or-le}
 use Rattle.store.specs.Rep.{objectAt}
+use Rattle.machine.specs.Words.{itemPayload}
 use Rattle.machine.specs.Rep.{Rep}
 use Rattle.machine.specs.declared.Machine.{Machine}
 use Rattle.machine.proofs.Outcomes.{stack-depth}
@@ -120,7 +121,7 @@ module _ {m : Machine} {s e d c l : List ℕ} {μ : Floo.Machine} (R : Rep m s e
       let h : m .depth ≡ k + suc i = omega (arith, deep) in
       let A = string-item R i k h q in (
         subst (λ j. objectAt (μ .store) j ≡ text (bytesOf (objectAt (μ .store) j))) (A .stands) (A .whole),
-        subst (λ j. j < length (μ .store)) (A .stands) (R .stored .objects .id (getD s (2 * k + 1) 0) (A .lives)),
+        subst (λ j. j < length (μ .store)) (A .stands) (R .stored .objects .id (itemPayload s k) (A .lives)),
       )
 
   pub array-of : {x : Bool} → getD (μ .stack) i null ≡ array x id → (object μ id ≡ elements (elementsOf (object μ id))) × (id < length (μ .store))
@@ -130,7 +131,7 @@ module _ {m : Machine} {s e d c l : List ℕ} {μ : Floo.Machine} (R : Rep m s e
       let h : m .depth ≡ k + suc i = omega (arith, deep) in
       let A = array-item R i k h q in (
         subst (λ j. objectAt (μ .store) j ≡ elements (elementsOf (objectAt (μ .store) j))) (A .stands) (A .whole),
-        subst (λ j. j < length (μ .store)) (A .stands) (R .stored .objects .id (getD s (2 * k + 1) 0) (A .lives)),
+        subst (λ j. j < length (μ .store)) (A .stands) (R .stored .objects .id (itemPayload s k) (A .lives)),
       )
 
 pub text-size : {o : Object} → o ≡ text (bytesOf o) → size o ≡ length (bytesOf o)

@@ -11,15 +11,15 @@ ghost use Rattle.machine.specs.Room.{DoesHeap};
 ghost use Rattle.elements.specs.Elements.{ItemTag, ArraySize, SomewhereThat};
 ghost use Rattle.interval_operators.specs.Intervals.{ArrayItem, Integers, ItemInteger, CopiesElements, elementsCopied, threeDropped, resultLeft};
 use machine::Did;
+use machine::ITEM_PAYLOAD;
 use machine::Machine;
 use machine::TAG_INTEGER;
 use machine::TAG_PROCEDURE;
 use machine::TAG_STRING;
 use machine::TwoInts;
 use semantics::Error;
-
-// The sign bit: from here on a word is a negative integer.
-const SIGN: u32 = 0x8000_0000;
+use semantics::STACK_WIDTH;
+use word::SIGN;
 
 // Ruled out: a new array that is literal where the old one was a procedure, and VMerror where the new object just fits.
 pub fn getinterval(m: Machine, stack: &mut [u32], cells: &mut [u32]) -> Did
@@ -188,7 +188,7 @@ fn integer_at(m: Machine, stack: &[u32], i: usize) -> u32
     ensures { λ r. ⌜ ItemInteger i m (now (stack .entry)) r ⌝ }
 {
     let k = m.depth - 1 - i;
-    stack[2 * k + 1]
+    stack[STACK_WIDTH * k + ITEM_PAYLOAD]
 }
 
 // The three operands go.

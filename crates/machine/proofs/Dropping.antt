@@ -3,14 +3,15 @@
 use mathlib.Core.Path.{_≡_, refl, sym, ap, _∙_, subst}
 use mathlib.Core.Bool.{Bool}
 use mathlib.Core.List.{List, _∷_}
-use Prim.Native.Nat.{ℕ, suc, _+_, _*_, _<_}
+use Prim.Native.Nat.{ℕ, suc, _*_, _<_}
 use native.Mathlib.Omega.{arith}
-use lib.ListN.{length, getD, drop}
+use lib.ListN.{length, drop}
 use Rattle.semantics.specs.Values.{null}
 use Rattle.semantics.specs.Machine as Floo
 use Rattle.semantics.specs.Machine.{withStack}
 use Rattle.heap.specs.declared.Lists.{Lists}
 use Rattle.store.specs.Rep.{a-null}
+use Rattle.machine.specs.Words.{itemTag, itemPayload}
 use Rattle.machine.specs.Places.{fromEnd, roots}
 use Rattle.machine.specs.Rep.{Rep, World, Is, IsIn}
 use Rattle.machine.specs.Recount.{Placed, Recounts}
@@ -32,7 +33,7 @@ module _ {m : Machine} {st e d c l : List ℕ} {μ : Floo.Machine} (R : Rep m st
   below = items-length (item .below)
 
   pub few : k < 512
-  few = omega (arith, R .stack-room, R .stack-few)
+  few = omega (arith, R .rooms .stack-fits, R .rooms .stack-few)
 
   -- The item's root place holds it.
   pub held : roots μ (4 * k) ≡ item .value
@@ -42,8 +43,8 @@ module _ {m : Machine} {st e d c l : List ℕ} {μ : Floo.Machine} (R : Rep m st
       ∙ ap (fromEnd (λ x. x) (item .value ∷ item .rest)) (sym below)
       ∙ at-front (λ x. x) (item .value) (item .rest)
 
-  pub old : IsIn (R .world) μ (roots μ (4 * k)) (getD st (2 * k) 0) (getD st (2 * k + 1) 0)
-  old = subst (λ v. IsIn (R .world) μ v (getD st (2 * k) 0) (getD st (2 * k + 1) 0)) (sym held) (item .words)
+  pub old : IsIn (R .world) μ (roots μ (4 * k)) (itemTag st k) (itemPayload st k)
+  old = subst (λ v. IsIn (R .world) μ v (itemTag st k) (itemPayload st k)) (sym held) (item .words)
 
   -- The rest has nothing at the item's place, and the same elsewhere.
   pub others : (j : ℕ) → (j ≡ k → ⊥) → fromEnd (λ x. x) (item .rest) j ≡ fromEnd (λ x. x) (μ .stack) j
@@ -52,13 +53,13 @@ module _ {m : Machine} {st e d c l : List ℕ} {μ : Floo.Machine} (R : Rep m st
   pub here : fromEnd (λ x. x) (item .rest) k ≡ null
   here = at-end (λ x. x) (item .rest) k (omega (arith, below))
 
-  pub drop-placed : Placed (m .lists) c (getD st (2 * k) 0) (getD st (2 * k + 1) 0) 0 0
+  pub drop-placed : Placed (m .lists) c (itemTag st k) (itemPayload st k) 0 0
   drop-placed = placed R k few old nothing
 
   pub drop-rep : {s′ : Lists} {c′ : List ℕ}
-      → Recounts (m .lists) c (getD st (2 * k) 0) (getD st (2 * k + 1) 0) 0 0 s′ c′
+      → Recounts (m .lists) c (itemTag st k) (itemPayload st k) 0 0 s′ c′
       → Rep (withDepth k s′ m) st e d c′ l (dropped μ)
   unfolding dropped
   drop-rep {s′} {c′} K =
       subst (λ s. Rep (withDepth k s′ m) st e d c′ l (withStack s μ)) (ap (drop 1) (sym (item .split)))
-      (restacked R k few old nothing K (item .rest) st k others here refl (omega (arith, R .stack-room)) (item .below))
+      (restacked R k few old nothing K (item .rest) st k others here refl (omega (arith, R .rooms .stack-fits)) (item .below))

@@ -59,16 +59,15 @@ module _ {m : Machine} {st e d c l : List ℕ} {μ : Floo.Machine} (R : Rep m st
         items = items-map carry (all-reached (λ v. v) stack) items;
         frames = frames-map carry (λ i t p w. refl) (λ i t p a r q w s. s) (all-reached frameValue exec) frames;
         slots = slots-map carry (all-reached (λ (s : Slot). bound (s .binding)) (μ .dictionary)) (R .slots);
-        names = R .names;
-        titled = R .titled;
-        distinct = R .distinct;
-        logged = R .logged;
+        naming = R .naming;
+        logging = R .logging;
         stopped = R .stopped;
-        stack-room = omega arith;
-        exec-room = omega arith;
-        dict-room = R .dict-room;
-        log-room = R .log-room;
-        stack-few = omega (arith, R .stack-few);
-        exec-few = omega (arith, R .exec-few);
-        dict-few = R .dict-few;
+        rooms = record {
+          stack-fits = omega arith;
+          exec-fits = omega arith;
+          dict-fits = R .rooms .dict-fits;
+          stack-few = omega (arith, R .rooms .stack-few);
+          exec-few = omega (arith, R .rooms .exec-few);
+          dict-few = R .rooms .dict-few;
+        };
       }

@@ -6,6 +6,7 @@ use Prim.Native.Nat.{ℕ, zero, suc, _+_, _*_, _<_}
 use native.Mathlib.Omega.{arith}
 use lib.ListN.{length, getD, set}
 use Rattle.semantics.specs.Values.{Value, null}
+use Rattle.machine.specs.Words.{itemTag, itemPayload}
 use Rattle.machine.specs.Rep.{Items, bottom, item}
 
 module _ {Is : Value → ℕ → ℕ → Type 0} where
@@ -20,7 +21,7 @@ module _ {Is : Value → ℕ → ℕ → Type 0} where
       → Items Is other n s
   items-frame f bottom = bottom
   items-frame {other} f (item {n = n} {v = v} h i) =
-      let both : Is v (getD other (2 * n) 0) (getD other (2 * n + 1) 0) = rw (f (2 * n) (omega arith), f (2 * n + 1) (omega arith)) h in
+      let both : Is v (itemTag other n) (itemPayload other n) = rw (f (2 * n) (omega arith), f (2 * n + 1) (omega arith)) h in
       item both (items-frame (λ k l. f k (omega arith)) i)
 
   -- What lies below the front items.
@@ -31,11 +32,11 @@ module _ {Is : Value → ℕ → ℕ → Type 0} where
   items-below (v ∷ front) k e (item h i) = items-below front k (omega arith) i
 
   -- Item i from the top, of k + 1 + i, has the words of place k.
-  pub item-at : {words : List ℕ} {n : ℕ} {s : List Value} → Items Is words n s → (i k : ℕ) → n ≡ k + suc i → Is (getD s i null) (getD words (2 * k) 0) (getD words (2 * k + 1) 0)
+  pub item-at : {words : List ℕ} {n : ℕ} {s : List Value} → Items Is words n s → (i k : ℕ) → n ≡ k + suc i → Is (getD s i null) (itemTag words k) (itemPayload words k)
   item-at bottom i k e = absurd (omega arith)
   item-at {words} (item {n = n} {v = v} {s = s} h r) zero k e =
       let q : n ≡ k = omega arith in
-      subst (λ x. Is v (getD words (2 * x) 0) (getD words (2 * x + 1) 0)) q h
+      subst (λ x. Is v (itemTag words x) (itemPayload words x)) q h
   item-at (item h r) (suc i) k e = item-at r i k (omega arith)
 
   -- The words of place k change, and so does item i.
@@ -43,15 +44,15 @@ module _ {Is : Value → ℕ → ℕ → Type 0} where
       → Items Is words n s
       → (i k : ℕ) {v : Value}
       → n ≡ k + suc i
-      → Is v (getD other (2 * k) 0) (getD other (2 * k + 1) 0)
+      → Is v (itemTag other k) (itemPayload other k)
       → ((j : ℕ) → (j ≡ 2 * k → ⊥) → (j ≡ 2 * k + 1 → ⊥) → getD other j 0 ≡ getD words j 0)
       → Items Is other n (set s i v)
   items-set bottom i k e h f = absurd (omega arith)
   items-set {other} (item {n = n} {s = s} h r) zero k {v} e new f =
       let q : k ≡ n = omega arith in
-      let words : Is v (getD other (2 * n) 0) (getD other (2 * n + 1) 0) = subst (λ x. Is v (getD other (2 * x) 0) (getD other (2 * x + 1) 0)) q new in
+      let words : Is v (itemTag other n) (itemPayload other n) = subst (λ x. Is v (itemTag other x) (itemPayload other x)) q new in
       item words (items-frame (λ j l. f j (λ x. omega arith) (λ x. omega arith)) r)
   items-set {other} (item {n = n} {v = u} h r) (suc i) k e new f =
-      let words : Is u (getD other (2 * n) 0) (getD other (2 * n + 1) 0) =
+      let words : Is u (itemTag other n) (itemPayload other n) =
       rw (f (2 * n) (λ x. omega arith) (λ x. omega arith), f (2 * n + 1) (λ x. omega arith) (λ x. omega arith)) h in
       item words (items-set r i k (omega arith) new f)

@@ -3,8 +3,7 @@
 use mathlib.Core.Path.{_≡_, refl, ap, _∙_}
 use mathlib.Core.Bool.{Bool}
 use mathlib.Core.List.{List, _∷_}
-use Prim.Native.Nat.{ℕ, suc, _+_, _*_, _<_}
-use lib.ListN.{getD}
+use Prim.Native.Nat.{ℕ, suc, _<_}
 use native.Mathlib.Omega.{arith}
 use Rattle.semantics.specs.Values.{Value, boolean, fault, _>>=_}
 use Rattle.semantics.specs.Machine as Floo
@@ -12,6 +11,7 @@ use Rattle.semantics.specs.NumberOperators.{bits, truth, neither, logical, logi
 use Rattle.semantics.specs.declared.Error.the-variants.{StackUnderflow, TypeCheck}
 use Rattle.store.specs.Rep.{bit, Stands, a-null, an-integer, a-boolean, a-mark, an-operator, a-literal, an-executable, a-string, an-array, a-procedure}
 use Rattle.store.proofs.Standing.{is-boolean}
+use Rattle.machine.specs.Words.{itemTag, itemPayload}
 use Rattle.machine.specs.Rep.{Rep}
 use Rattle.machine.specs.declared.Machine.{Machine}
 use Rattle.machine.proofs.Operands.{top, pop1-some, pop2-some, upper, lower, both, pop1-under, pop2-under}
@@ -85,7 +85,7 @@ module _ {m : Machine} {st e d c l : List ℕ} {μ : Floo.Machine} (R : Rep m st
   unfolding negation _>>=_
   negation-under h = rw (pop1-under μ (omega (arith, items-length (R .items), h)))
 
-  pub negation-neither : (k : ℕ) → m .depth ≡ suc k → (getD st (2 * k) 0 ≡ 1 → ⊥) → (getD st (2 * k) 0 ≡ 2 → ⊥) → negation μ ≡ fault TypeCheck
+  pub negation-neither : (k : ℕ) → m .depth ≡ suc k → (itemTag st k ≡ 1 → ⊥) → (itemTag st k ≡ 2 → ⊥) → negation μ ≡ fault TypeCheck
   unfolding negation negated _>>=_
   negation-neither k h n o =
       let x = top (R .items) k h in
@@ -93,8 +93,8 @@ module _ {m : Machine} {st e d c l : List ℕ} {μ : Floo.Machine} (R : Rep m st
 
   pub one-truth : (k : ℕ)
       → m .depth ≡ suc k
-      → getD st (2 * k) 0 ≡ 2
-      → (a : Bool) × (rest : List Value) × (μ .stack ≡ boolean a ∷ rest) × (getD st (2 * k + 1) 0 ≡ bit a)
+      → itemTag st k ≡ 2
+      → (a : Bool) × (rest : List Value) × (μ .stack ≡ boolean a ∷ rest) × (itemPayload st k ≡ bit a)
   one-truth k h i =
       let x = top (R .items) k h in
       let b = is-boolean (x .words .stands) i in
@@ -106,26 +106,26 @@ module _ {m : Machine} {st e d c l : List ℕ} {μ : Floo.Machine} (R : Rep m st
 
   -- The upper operand is item u, the lower one item k.
   module _ (k u : ℕ) (h : m .depth ≡ suc u) (next : u ≡ suc k) where
-    pub connective-apart : (getD st (2 * u) 0 ≡ getD st (2 * k) 0 → ⊥) → (f : ℕ → ℕ → ℕ) (g : Bool → Bool → Bool) → connective f g μ ≡ fault TypeCheck
+    pub connective-apart : (itemTag st u ≡ itemTag st k → ⊥) → (f : ℕ → ℕ → ℕ) (g : Bool → Bool → Bool) → connective f g μ ≡ fault TypeCheck
     unfolding connective _>>=_
     connective-apart n f g =
         rw (pop2-some μ (both R k u h next), stands-apart f g (lower R k u h next .words .stands) (upper R k u h next .words .stands) n)
 
-    pub connective-neither : (getD st (2 * k) 0 ≡ 1 → ⊥)
-        → (getD st (2 * k) 0 ≡ 2 → ⊥)
+    pub connective-neither : (itemTag st k ≡ 1 → ⊥)
+        → (itemTag st k ≡ 2 → ⊥)
         → (f : ℕ → ℕ → ℕ) (g : Bool → Bool → Bool)
         → connective f g μ ≡ fault TypeCheck
     unfolding connective logical2 _>>=_
     connective-neither n o f g = rw (pop2-some μ (both R k u h next), stands-neither (lower R k u h next .words .stands) n o)
 
-    pub two-truths : getD st (2 * k) 0 ≡ 2
-        → getD st (2 * u) 0 ≡ 2
+    pub two-truths : itemTag st k ≡ 2
+        → itemTag st u ≡ 2
         → (a : Bool)
         × (b : Bool)
         × (rest : List Value)
         × (μ .stack ≡ boolean b ∷ boolean a ∷ rest)
-        × (getD st (2 * k + 1) 0 ≡ bit a)
-        × (getD st (2 * u + 1) 0 ≡ bit b)
+        × (itemPayload st k ≡ bit a)
+        × (itemPayload st u ≡ bit b)
     two-truths i j =
         let x = lower R k u h next in
         let y = upper R k u h next in

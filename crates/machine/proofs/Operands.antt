@@ -15,6 +15,7 @@ use Rattle.semantics.specs.ListLaws.{All, nil, cons}
 use Rattle.semantics.specs.declared.Error.the-variants.{StackUnderflow, TypeCheck}
 use Rattle.store.specs.Rep.{Stands, a-null, an-integer, a-boolean, a-mark, an-operator, a-literal, an-executable, a-string, an-array, a-procedure}
 use Rattle.store.proofs.Standing.{is-integer}
+use Rattle.machine.specs.Words.{itemTag, itemPayload}
 use Rattle.machine.specs.Places.{Nameless}
 use Rattle.machine.specs.Operands as Operands
 use Rattle.machine.specs.Operands.{Scalar, oneInt, twoInts}
@@ -49,7 +50,7 @@ pub record Top (Is : Value → ℕ → ℕ → Type 0) (st : List ℕ) (k : ℕ)
   pub value : Value
   pub rest : List Value
   pub split : s ≡ value ∷ rest
-  pub words : Is value (getD st (2 * k) 0) (getD st (2 * k + 1) 0)
+  pub words : Is value (itemTag st k) (itemPayload st k)
   pub below : Items Is st k rest
 
 module _ {Is : Value → ℕ → ℕ → Type 0} {st : List ℕ} where
@@ -108,13 +109,13 @@ module _ {m : Machine} {st e d c l : List ℕ} {μ : Floo.Machine} (R : Rep m st
   unfolding oneInt _>>=_
   one-under h = rw (pop1-under μ (omega (arith, items-length (R .items), h)))
 
-  pub one-bad : (k : ℕ) → m .depth ≡ suc k → (getD st (2 * k) 0 ≡ 1 → ⊥) → oneInt μ ≡ fault TypeCheck
+  pub one-bad : (k : ℕ) → m .depth ≡ suc k → (itemTag st k ≡ 1 → ⊥) → oneInt μ ≡ fault TypeCheck
   unfolding oneInt _>>=_
   one-bad k h n =
       let x = top (R .items) k h in
       rw (pop1-some μ (x .split), stands-no-integer (x .words .stands) n)
 
-  pub one-got : (k : ℕ) → m .depth ≡ suc k → getD st (2 * k) 0 ≡ 1 → (rest : List Value) × (μ .stack ≡ integer (getD st (2 * k + 1) 0) ∷ rest)
+  pub one-got : (k : ℕ) → m .depth ≡ suc k → itemTag st k ≡ 1 → (rest : List Value) × (μ .stack ≡ integer (itemPayload st k) ∷ rest)
   one-got k h i =
       let x = top (R .items) k h in
       (x .rest, x .split ∙ ap (λ v. v ∷ x .rest) (is-integer (x .words .stands) i))
@@ -134,21 +135,21 @@ module _ {m : Machine} {st e d c l : List ℕ} {μ : Floo.Machine} (R : Rep m st
     pub both : μ .stack ≡ upper .value ∷ lower .value ∷ lower .rest
     both = upper .split ∙ ap (λ r. upper .value ∷ r) (lower .split)
 
-    pub two-first-bad : (getD st (2 * k) 0 ≡ 1 → ⊥) → twoInts μ ≡ fault TypeCheck
+    pub two-first-bad : (itemTag st k ≡ 1 → ⊥) → twoInts μ ≡ fault TypeCheck
     unfolding twoInts _>>=_
     two-first-bad n = rw (pop2-some μ both, stands-no-integer (lower .words .stands) n)
 
-    pub two-second-bad : getD st (2 * k) 0 ≡ 1 → (getD st (2 * u) 0 ≡ 1 → ⊥) → twoInts μ ≡ fault TypeCheck
+    pub two-second-bad : itemTag st k ≡ 1 → (itemTag st u ≡ 1 → ⊥) → twoInts μ ≡ fault TypeCheck
     unfolding twoInts _>>=_ int
     two-second-bad i n = rw (pop2-some μ both, is-integer (lower .words .stands) i, stands-no-integer (upper .words .stands) n)
 
-    pub two-got : getD st (2 * k) 0 ≡ 1
-        → getD st (2 * u) 0 ≡ 1
-        → (rest : List Value) × (μ .stack ≡ integer (getD st (2 * u + 1) 0) ∷ integer (getD st (2 * k + 1) 0) ∷ rest)
+    pub two-got : itemTag st k ≡ 1
+        → itemTag st u ≡ 1
+        → (rest : List Value) × (μ .stack ≡ integer (itemPayload st u) ∷ integer (itemPayload st k) ∷ rest)
     two-got i j = (
       lower .rest,
       both ∙ ap (λ v. v ∷ lower .value ∷ lower .rest) (is-integer (upper .words .stands) j)
-          ∙ ap (λ v. integer (getD st (2 * u + 1) 0) ∷ v ∷ lower .rest) (is-integer (lower .words .stands) i),
+          ∙ ap (λ v. integer (itemPayload st u) ∷ v ∷ lower .rest) (is-integer (lower .words .stands) i),
     )
 
 -- ---- a value that needs no heap
@@ -217,7 +218,7 @@ pub replaced : {m : Machine} {st e d c l : List ℕ} {μ : Floo.Machine}
     → μ .stack ≡ old ++ rest
     → Rep (atDepth (k + 1) m) (set (set st (2 * k) t) (2 * k + 1) p) e d c l (withStack (v ∷ rest) μ)
 replaced {st = st} R k n t p z few sc old rest len nameless s =
-    let fits : 2 * k + 2 ≤ length st = omega (arith, R .stack-room) in
+    let fits : 2 * k + 2 ≤ length st = omega (arith, R .rooms .stack-fits) in
     put-above R k t p fits sc old rest (omega arith) nameless s
 
 -- A value is pushed.

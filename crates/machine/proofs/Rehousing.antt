@@ -75,18 +75,17 @@ module _ {m : Machine} {st e d c l : List ℕ} {μ : Floo.Machine} (R : Rep m st
       items = items;
       frames = frames-map carry long stays frames-reached (R .frames);
       slots = slots-map carry slots-reached (R .slots);
-      names = R .names;
-      titled = R .titled;
-      distinct = R .distinct;
-      logged = R .logged;
+      naming = R .naming;
+      logging = R .logging;
       stopped = R .stopped;
-      stack-room = omega arith;
-      exec-room = R .exec-room;
-      dict-room = R .dict-room;
-      log-room = R .log-room;
-      stack-few = omega (arith, R .stack-few);
-      exec-few = R .exec-few;
-      dict-few = R .dict-few;
+      rooms = record {
+        stack-fits = omega arith;
+        exec-fits = R .rooms .exec-fits;
+        dict-fits = R .rooms .dict-fits;
+        stack-few = omega (arith, R .rooms .stack-few);
+        exec-few = R .rooms .exec-few;
+        dict-few = R .rooms .dict-few;
+      };
     },
     refl,
   )
@@ -111,7 +110,7 @@ module _ {m : Machine} {st e d c l : List ℕ} {μ : Floo.Machine} (R : Rep m st
   pub restored-in : (R′ : Rep (withDepth (m .depth) s m) st e d c′ l (withStore store μ)) × (R′ .world ≡ w)
   unfolding withStack withStore
   restored-in =
-      rehoused-in R w (μ .stack) store H carry long stays st (m .depth) refl (R .stack-room)
+      rehoused-in R w (μ .stack) store H carry long stays st (m .depth) refl (R .rooms .stack-fits)
       (items-map carry (items-reached R w (μ .stack) store H carry long stays) (R .items))
 
   pub restored : Rep (withDepth (m .depth) s m) st e d c′ l (withStore store μ)

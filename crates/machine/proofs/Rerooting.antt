@@ -6,6 +6,7 @@ use mathlib.Core.List.{List, map}
 use Prim.Native.Nat.{ℕ, _+_, _*_, _≤_, _<_}
 use native.Mathlib.Omega.{arith}
 use lib.ListN.{length, take, length-map}
+use Rattle.semantics.specs.Sizes.{operatorCount}
 use Rattle.semantics.specs.Values.{Value}
 use Rattle.semantics.specs.Machine as Floo
 use Rattle.semantics.specs.Machine.{Frame, Slot, withStack, withExec, withDictionary}
@@ -95,18 +96,21 @@ module _ {m : Machine} {st e d c l : List ℕ} {μ : Floo.Machine} (R : Rep m st
           frames = subst (λ ks. Frames (Now ks) (world .ghost) (μ .store) e′ k exec) back
               (frames-map carry (λ i t p w. refl) (Worlds.stays (R .stored) r inside old new K) frames-reached frames);
           slots = subst (λ ks. Slots (Now ks) d′ 0 dictionary) back (slots-map carry slots-reached slots);
-          names = R .names ∙ same-count (μ .dictionary) dictionary (sym named);
-          titled = ap (take 54) named ∙ R .titled;
-          distinct = subst Distinct back (R .distinct);
-          logged = R .logged;
+          naming = record {
+            many = R .naming .many ∙ same-count (μ .dictionary) dictionary (sym named);
+            titled = ap (take operatorCount) named ∙ R .naming .titled;
+            distinct = subst Distinct back (R .naming .distinct);
+          };
+          logging = R .logging;
           stopped = R .stopped;
-          stack-room = omega arith;
-          exec-room = omega arith;
-          dict-room = omega (arith, R .dict-room);
-          log-room = R .log-room;
-          stack-few = omega (arith, R .stack-few);
-          exec-few = omega (arith, R .exec-few);
-          dict-few = omega (arith, R .dict-few);
+          rooms = record {
+            stack-fits = omega arith;
+            exec-fits = omega arith;
+            dict-fits = omega (arith, R .rooms .dict-fits);
+            stack-few = omega (arith, R .rooms .stack-few);
+            exec-few = omega (arith, R .rooms .exec-few);
+            dict-few = omega (arith, R .rooms .dict-few);
+          };
         }
 
   -- Other stacks.

@@ -37,4 +37,4 @@ module _ {m : Machine} {st e d c l : List ℕ} {μ : Floo.Machine} (R : Rep m st
       → Rep (withDepth n s′ m) st′ e d c′ l (withStack stack μ)
   unfolding withExec withStack
   restacked K stack st′ n others here long fits items =
-      Rerooting.rerooted R (4 * k) (omega arith) old new K stack (μ .exec) (roots-at μ stack k v others here) long refl fits (R .exec-room) items (R .frames)
+      Rerooting.rerooted R (4 * k) (omega arith) old new K stack (μ .exec) (roots-at μ stack k v others here) long refl fits (R .rooms .exec-fits) items (R .frames)

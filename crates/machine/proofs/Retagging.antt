@@ -16,6 +16,7 @@ use Rattle.heap.specs.Assign.{Alives}
 use Rattle.heap.proofs.Upds.{same?, upd-at, upd-other}
 use Rattle.store.specs.Rep.{Stands, a-null, an-integer, a-boolean, a-mark, an-operator, a-literal, an-executable, a-string, an-array, a-procedure, Names, by-string, by-array}
 use Rattle.store.proofs.Rooting.{rep-alike}
+use Rattle.machine.specs.Words.{itemTag, itemPayload}
 use Rattle.machine.specs.Places.{roots}
 use Rattle.machine.specs.Rep.{Rep, World, Is, IsIn}
 use Rattle.machine.specs.Moves.{retagged, tagAs}
@@ -96,14 +97,14 @@ module _ {m : Machine} {st e d c l : List ℕ} {μ : Floo.Machine} (R : Rep m st
       (λ n. subst (λ v. Names v i) (sym is) n, λ n. subst (λ v. Names v i) is n))
       (same? r (4 * k))
 
-  pub retag-rep : {t : ℕ} → t ≡ tagAs x (getD st (2 * k) 0) → Rep m (set st (2 * k) t) e d c l (retagged x μ)
+  pub retag-rep : {t : ℕ} → t ≡ tagAs x (itemTag st k) → Rep m (set st (2 * k) t) e d c l (retagged x μ)
   unfolding retagged withStack
   retag-rep {t} tag =
       let st′ = set st (2 * k) t in
       let long : length st′ ≡ length st = length-set st (2 * k) t in
       let word = item-at (R .items) 0 k h in
-      let words : IsIn (R .world) μ (asExecutable x old) (getD st′ (2 * k) 0) (getD st′ (2 * k + 1) 0) =
-      rw (getD-set-same st (2 * k) t 0 (omega (arith, R .stack-room)), getD-set-other st (2 * k) (2 * k + 1) t 0 (λ q. omega arith), tag)
+      let words : IsIn (R .world) μ (asExecutable x old) (itemTag st′ k) (itemPayload st′ k) =
+      rw (getD-set-same st (2 * k) t 0 (omega (arith, R .rooms .stack-fits)), getD-set-other st (2 * k) (2 * k + 1) t 0 (λ q. omega arith), tag)
       (is-retagged x (word .stands) (word .alive)) in
       record {
         world = R .world;
@@ -116,16 +117,15 @@ module _ {m : Machine} {st e d c l : List ℕ} {μ : Floo.Machine} (R : Rep m st
         items = items-set (R .items) 0 k h words (λ j a b. getD-set-other st (2 * k) j t 0 a);
         frames = R .frames;
         slots = R .slots;
-        names = R .names;
-        titled = R .titled;
-        distinct = R .distinct;
-        logged = R .logged;
+        naming = R .naming;
+        logging = R .logging;
         stopped = R .stopped;
-        stack-room = omega (arith, R .stack-room);
-        exec-room = R .exec-room;
-        dict-room = R .dict-room;
-        log-room = R .log-room;
-        stack-few = omega (arith, R .stack-few);
-        exec-few = R .exec-few;
-        dict-few = R .dict-few;
+        rooms = record {
+          stack-fits = omega (arith, R .rooms .stack-fits);
+          exec-fits = R .rooms .exec-fits;
+          dict-fits = R .rooms .dict-fits;
+          stack-few = omega (arith, R .rooms .stack-few);
+          exec-few = R .rooms .exec-few;
+          dict-few = R .rooms .dict-few;
+        };
       }

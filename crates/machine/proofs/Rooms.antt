@@ -30,19 +30,19 @@ frames-length (frame h i) = ap suc (frames-length i)
 
 module _ {m : Machine} {s e d c l : List ℕ} {μ : Floo.Machine} (R : Rep m s e d c l μ) where
   pub stack-fits : length (μ .stack) ≤ length s / 2
-  stack-fits = omega (arith, items-length (R .items), R .stack-room)
+  stack-fits = omega (arith, items-length (R .items), R .rooms .stack-fits)
 
   pub exec-fits : length (μ .exec) ≤ length e / 8
-  exec-fits = omega (arith, frames-length (R .frames), R .exec-room)
+  exec-fits = omega (arith, frames-length (R .frames), R .rooms .exec-fits)
 
   pub dictionary-fits : length (μ .dictionary) ≤ length d / 12
-  dictionary-fits = omega (arith, R .names, R .dict-room)
+  dictionary-fits = omega (arith, R .naming .many, R .rooms .dict-fits)
 
   pub logged-length : length (μ .log) ≡ m .written
-  logged-length = ap length (sym (R .logged)) ∙ length-take-le (m .written) l (R .log-room)
+  logged-length = ap length (sym (R .logging .logged)) ∙ length-take-le (m .written) l (R .logging .fits)
 
   pub log-fits : length (μ .log) ≤ length l
-  log-fits = omega (arith, logged-length, R .log-room)
+  log-fits = omega (arith, logged-length, R .logging .fits)
 
 -- ---- the test
 

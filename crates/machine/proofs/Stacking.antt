@@ -41,16 +41,15 @@ module _ {m : Machine} {st e d c l : List ℕ} {μ : Floo.Machine} (R : Rep m st
         items = items;
         frames = R .frames;
         slots = R .slots;
-        names = R .names;
-        titled = R .titled;
-        distinct = R .distinct;
-        logged = R .logged;
+        naming = R .naming;
+        logging = R .logging;
         stopped = R .stopped;
-        stack-room = omega arith;
-        exec-room = R .exec-room;
-        dict-room = R .dict-room;
-        log-room = R .log-room;
-        stack-few = omega (arith, R .stack-few);
-        exec-few = R .exec-few;
-        dict-few = R .dict-few;
+        rooms = record {
+          stack-fits = omega arith;
+          exec-fits = R .rooms .exec-fits;
+          dict-fits = R .rooms .dict-fits;
+          stack-few = omega (arith, R .rooms .stack-few);
+          exec-few = R .rooms .exec-few;
+          dict-few = R .rooms .dict-few;
+        };
       }

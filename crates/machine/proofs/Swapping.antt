@@ -9,6 +9,7 @@ use Rattle.semantics.specs.Values.{null}
 use Rattle.semantics.specs.Machine as Floo
 use Rattle.semantics.specs.Machine.{withStack, withExec}
 use Rattle.heap.specs.Upd.{upd}
+use Rattle.machine.specs.Words.{itemTag, itemPayload}
 use Rattle.machine.specs.Places.{roots}
 use Rattle.machine.specs.Rep.{Rep, IsIn, Items}
 use Rattle.machine.specs.Moves.{swapped}
@@ -44,25 +45,25 @@ module _ {m : Machine} {st e d c l : List ℕ} {μ : Floo.Machine} (R : Rep m st
       ∙ rw (at-k, at-o) refl
 
   pub swap-rep : Rep m
-      (set (set (set (set st (2 * k) (getD st (2 * o) 0)) (2 * k + 1) (getD st (2 * o + 1) 0)) (2 * o) (getD st (2 * k) 0)) (2 * o + 1) (getD st (2 * k + 1) 0))
+      (set (set (set (set st (2 * k) (itemTag st o)) (2 * k + 1) (itemPayload st o)) (2 * o) (itemTag st k)) (2 * o + 1) (itemPayload st k))
       e d c l (swapped i j μ)
   unfolding swapped withExec withStack
   swap-rep =
-      let t = getD st (2 * k) 0 in
-      let p = getD st (2 * k + 1) 0 in
-      let u = getD st (2 * o) 0 in
-      let q = getD st (2 * o + 1) 0 in
+      let t = itemTag st k in
+      let p = itemPayload st k in
+      let u = itemTag st o in
+      let q = itemPayload st o in
       let st₁ = set (set st (2 * k) u) (2 * k + 1) q in
       let st₂ = set (set st₁ (2 * o) t) (2 * o + 1) p in
-      let room₁ : 2 * k + 2 ≤ length st = omega (arith, R .stack-room) in
+      let room₁ : 2 * k + 2 ≤ length st = omega (arith, R .rooms .stack-fits) in
       let long₁ : length st₁ ≡ length st = two-length st k u q room₁ in
-      let room₂ : 2 * o + 2 ≤ length st₁ = omega (arith, R .stack-room) in
+      let room₂ : 2 * o + 2 ≤ length st₁ = omega (arith, R .rooms .stack-fits) in
       let long₂ : length st₂ ≡ length st₁ = two-length st₁ o t p room₂ in
       let a = getD (μ .stack) i null in
       let b = getD (μ .stack) j null in
-      let words₁ : IsIn (R .world) μ b (getD st₁ (2 * k) 0) (getD st₁ (2 * k + 1) 0) = rw (two-first st k u q room₁, two-second st k u q room₁) (word-of R j o g) in
-      let words₂ : IsIn (R .world) μ a (getD st₂ (2 * o) 0) (getD st₂ (2 * o + 1) 0) = rw (two-first st₁ o t p room₂, two-second st₁ o t p room₂) (word-of R i k h) in
+      let words₁ : IsIn (R .world) μ b (itemTag st₁ k) (itemPayload st₁ k) = rw (two-first st k u q room₁, two-second st k u q room₁) (word-of R j o g) in
+      let words₂ : IsIn (R .world) μ a (itemTag st₂ o) (itemPayload st₂ o) = rw (two-first st₁ o t p room₂, two-second st₁ o t p room₂) (word-of R i k h) in
       let first : Items (IsIn (R .world) μ) st₁ (m .depth) (set (μ .stack) i b) = items-set (R .items) i k h words₁ (two-others st k u q room₁) in
       let items : Items (IsIn (R .world) μ) st₂ (m .depth) (set (set (μ .stack) i b) j a) = items-set first j o g words₂ (two-others st₁ o t p room₂) in
-      exchange-rep R (4 * k) (4 * o) (omega (arith, R .stack-room, R .stack-few)) (omega (arith, R .stack-room, R .stack-few))
-      (set (set (μ .stack) i b) j a) (μ .exec) changed (long₂ ∙ long₁) refl (R .stack-room) (R .exec-room) items (R .frames)
+      exchange-rep R (4 * k) (4 * o) (omega (arith, R .rooms .stack-fits, R .rooms .stack-few)) (omega (arith, R .rooms .stack-fits, R .rooms .stack-few))
+      (set (set (μ .stack) i b) j a) (μ .exec) changed (long₂ ∙ long₁) refl (R .rooms .stack-fits) (R .rooms .exec-fits) items (R .frames)

@@ -12,6 +12,7 @@ use Rattle.semantics.specs.Machine.{Frame, pending, withStack, withExec, push}
 use Rattle.heap.specs.Shape.{Ghost}
 use Rattle.heap.specs.Upd.{upd}
 use Rattle.heap.specs.declared.Lists.{Lists}
+use Rattle.machine.specs.Words.{itemTag, itemPayload, frameKind, frameTag, framePayload, frameCell, frameLeft, frameFinal}
 use Rattle.machine.specs.Places.{fromEnd, frameValue, roots}
 use Rattle.machine.specs.Rep.{Rep, IsIn, Items, item, FrameIs, a-pending, a-running, a-looping, a-repeating, a-counting, Frames, frame}
 use Rattle.machine.specs.Recount.{Placed, Recounts}
@@ -31,7 +32,7 @@ pub record TopFrame (A : Value → ℕ → ℕ → Type 0) (g : Ghost) (store : 
   pub top : Frame
   pub rest : List Frame
   pub split : fs ≡ top ∷ rest
-  pub words : FrameIs A g store top (getD e (8 * k) 0) (getD e (8 * k + 1) 0) (getD e (8 * k + 2) 0) (getD e (8 * k + 3) 0) (getD e (8 * k + 4) 0) (getD e (8 * k + 5) 0)
+  pub words : FrameIs A g store top (frameKind e k) (frameTag e k) (framePayload e k) (frameCell e k) (frameLeft e k) (frameFinal e k)
   pub below : Frames A g store e k rest
 
 module _ {A : Value → ℕ → ℕ → Type 0} {g : Ghost} {store : List Object} where
@@ -60,9 +61,9 @@ module _ {m : Machine} {st e d c l : List ℕ} {μ : Floo.Machine} (R : Rep m st
   below = frames-length (slot .below)
 
   inside : 4 * k + 1 < 2048
-  inside = omega (arith, R .exec-room, R .exec-few)
+  inside = omega (arith, R .rooms .exec-fits, R .rooms .exec-few)
 
-  pub words : IsIn (R .world) μ value (getD e (8 * k + 1) 0) (getD e (8 * k + 2) 0)
+  pub words : IsIn (R .world) μ value (frameTag e k) (framePayload e k)
   words = frame-value (slot .words)
 
   -- The slot's root place holds its value.
@@ -73,8 +74,8 @@ module _ {m : Machine} {st e d c l : List ℕ} {μ : Floo.Machine} (R : Rep m st
       ∙ ap (fromEnd frameValue (slot .top ∷ slot .rest)) (sym below)
       ∙ at-front frameValue (slot .top) (slot .rest)
 
-  old : IsIn (R .world) μ (roots μ (4 * k + 1)) (getD e (8 * k + 1) 0) (getD e (8 * k + 2) 0)
-  old = subst (λ v. IsIn (R .world) μ v (getD e (8 * k + 1) 0) (getD e (8 * k + 2) 0)) (sym held) words
+  old : IsIn (R .world) μ (roots μ (4 * k + 1)) (frameTag e k) (framePayload e k)
+  old = subst (λ v. IsIn (R .world) μ v (frameTag e k) (framePayload e k)) (sym held) words
 
   without : (y : ℕ) → fromEnd frameValue (slot .rest) y ≡ upd (fromEnd frameValue (μ .exec)) k null y
   without y = rest-at frameValue (slot .top) (slot .rest) k below y ∙ ap (λ fs. upd (fromEnd frameValue fs) k null y) (sym (slot .split))
@@ -85,18 +86,18 @@ module _ {m : Machine} {st e d c l : List ℕ} {μ : Floo.Machine} (R : Rep m st
 
   -- ---- the slot goes
 
-  pub drop-placed : Placed (m .lists) c (getD e (8 * k + 1) 0) (getD e (8 * k + 2) 0) 0 0
+  pub drop-placed : Placed (m .lists) c (frameTag e k) (framePayload e k) 0 0
   drop-placed = placed R (4 * k + 1) inside old nothing
 
   pub drop-rep : {s′ : Lists} {c′ : List ℕ}
-      → Recounts (m .lists) c (getD e (8 * k + 1) 0) (getD e (8 * k + 2) 0) 0 0 s′ c′
+      → Recounts (m .lists) c (frameTag e k) (framePayload e k) 0 0 s′ c′
       → Rep (withDepths (m .depth) k s′ m) st e d c′ l (frameDropped μ)
   unfolding frameDropped withExec withStack
   drop-rep {s′} {c′} K =
       subst (λ fs. Rep (withDepths (m .depth) k s′ m) st e d c′ l (withExec (drop 1 fs) μ)) (sym (slot .split))
       (rerooted R (4 * k + 1) inside old nothing K (μ .stack) (slot .rest)
       (exec-at μ (withExec (slot .rest) μ) refl k null refl without)
-      refl refl (R .stack-room) (omega (arith, R .exec-room)) (R .items) (slot .below))
+      refl refl (R .rooms .stack-fits) (omega (arith, R .rooms .exec-fits)) (R .items) (slot .below))
 
   -- ---- its value goes to the stack
 
@@ -117,16 +118,16 @@ module _ {m : Machine} {st e d c l : List ℕ} {μ : Floo.Machine} (R : Rep m st
         ∙ rw (free, held) refl
 
     pub return-rep : Rep (withDepths (m .depth + 1) k (m .lists) m)
-        (set (set st (2 * m .depth) (getD e (8 * k + 1) 0)) (2 * m .depth + 1) (getD e (8 * k + 2) 0)) e d c l (returned μ)
+        (set (set st (2 * m .depth) (frameTag e k)) (2 * m .depth + 1) (framePayload e k)) e d c l (returned μ)
     unfolding returned frameDropped push withExec withStack
     return-rep =
         let n = m .depth in
-        let t = getD e (8 * k + 1) 0 in
-        let p = getD e (8 * k + 2) 0 in
+        let t = frameTag e k in
+        let p = framePayload e k in
         let st′ = set (set st (2 * n) t) (2 * n + 1) p in
-        let at-top : IsIn (R .world) μ value (getD st′ (2 * n) 0) (getD st′ (2 * n + 1) 0) = rw (two-first st n t p room, two-second st n t p room) words in
+        let at-top : IsIn (R .world) μ value (itemTag st′ n) (itemPayload st′ n) = rw (two-first st n t p room, two-second st n t p room) words in
         let items = subst (λ x. Items (IsIn (R .world) μ) st′ x (value ∷ μ .stack)) (sym (add-one n)) (item at-top (items-frame (two-below st n t p room) (R .items))) in
-        let base = exchange-rep R (4 * n) (4 * k + 1) (omega (arith, R .stack-few)) inside (value ∷ μ .stack) (slot .rest) changed
-        (two-length st n t p room) refl (omega arith) (omega (arith, R .exec-room)) items (slot .below) in
+        let base = exchange-rep R (4 * n) (4 * k + 1) (omega (arith, R .rooms .stack-few)) inside (value ∷ μ .stack) (slot .rest) changed
+        (two-length st n t p room) refl (omega arith) (omega (arith, R .rooms .exec-fits)) items (slot .below) in
         subst (λ v. Rep (withDepths (n + 1) k (m .lists) m) st′ e d c l (push v (withExec (drop 1 (μ .exec)) μ))) (sym top-value)
         (subst (λ fs. Rep (withDepths (n + 1) k (m .lists) m) st′ e d c l (push value (withExec (drop 1 fs) μ))) (sym (slot .split)) base)

@@ -1,11 +1,12 @@
 -- What takes the topmost execution slot away does to a machine of the definition.
 -- Assumes nothing.
 use mathlib.Core.List.{List}
-use Prim.Native.Nat.{ℕ, _+_, _-_, _*_, _<_}
+use Prim.Native.Nat.{ℕ, _-_, _<_}
 use lib.ListN.{getD, drop}
 use Rattle.semantics.specs.Values.{Value, null}
 use Rattle.semantics.specs.Machine as Floo
 use Rattle.semantics.specs.Machine.{Frame, pending, withExec, push}
+use Rattle.machine.specs.Words.{frameTag}
 use Rattle.machine.specs.Places.{frameValue}
 use Rattle.machine.specs.Rep.{Rep}
 use Rattle.machine.specs.declared.Machine.{Machine}
@@ -41,5 +42,5 @@ pub record MovesItems (f : Floo.Machine → Floo.Machine) (m r : Machine) (s s�
 pub record ForgetsFrame (m r : Machine) : Type 0 where
   pub moves : (s e d c l : List ℕ) (μ : Floo.Machine)
       → Rep m s e d c l μ
-      → getD e (8 * (m .frames - 1) + 1) 0 < 8
+      → frameTag e (m .frames - 1) < 8
       → Rep r s e d c l (frameDropped μ)

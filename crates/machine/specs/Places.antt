@@ -65,8 +65,11 @@ roots σ r = rootIn σ (r % 4) (r / 4)
 abbrev pub rootCount : ℕ
 rootCount = 2048
 
+abbrev pub keysOf : List Slot → List (List ℕ)
+keysOf dictionary = map (λ (s : Slot). s .key) dictionary
+
 abbrev pub keys : Machine → List (List ℕ)
-keys σ = map (λ (s : Slot). s .key) (σ .dictionary)
+keys σ = keysOf (σ .dictionary)
 
 abbrev pub texts : Machine → List Bool
 texts σ = map isText (σ .store)

@@ -7,6 +7,7 @@ use mathlib.Core.List.{List, [], _∷_}
 use mathlib.Core.Option.{Option, none, some}
 use Prim.Native.Nat.{ℕ, suc, _+_, _*_, _/_, _%_, _≤_, _<_}
 use lib.ListN.{length, getD, take}
+use Rattle.semantics.specs.Sizes.{operatorCount, nameMost, stackWidth, execWidth, dictionaryWidth, stackWordsMost, execWordsMost, dictionaryWordsMost}
 use Rattle.semantics.specs.Values.{Value, array, Object, Result, ok, fault}
 use Rattle.semantics.specs.Machine as Floo
 use Rattle.semantics.specs.Machine.{Frame, pending, running, looping, repeating, counting, Slot, elementsOf}
@@ -16,7 +17,8 @@ use Rattle.heap.specs.Assign.{Alives}
 use Rattle.heap.specs.declared.Lists.{Lists}
 use Rattle.store.specs.Rep as Store
 use Rattle.store.specs.Rep.{Stands, byteOf, titles}
-use Rattle.machine.specs.Places.{roots, rootCount, keys, texts, Distinct}
+use Rattle.machine.specs.Words.{itemTag, itemPayload, frameKind, frameTag, framePayload, frameCell, frameLeft, frameFinal, bindingTag, bindingPayload}
+use Rattle.machine.specs.Places.{roots, rootCount, keysOf, keys, texts, Distinct}
 use Rattle.machine.specs.declared.Machine.{Machine}
 use Rattle.machine.specs.declared.Did.{Did}
 use Rattle.machine.specs.declared.Did.the-variants.{Ok, Fail}
@@ -25,7 +27,7 @@ use Rattle.machine.specs.declared.Did.the-variants.{Ok, Fail}
 pub data Items (IsValue : Value → ℕ → ℕ → Type 0) (words : List ℕ) : ℕ → List Value → Type 0 where
   bottom : Items IsValue words 0 []
   item : {n : ℕ} {v : Value} {s : List Value}
-      → IsValue v (getD words (2 * n) 0) (getD words (2 * n + 1) 0)
+      → IsValue v (itemTag words n) (itemPayload words n)
       → Items IsValue words n s
       → Items IsValue words (suc n) (v ∷ s)
 
@@ -46,7 +48,7 @@ pub data FrameIs (IsValue : Value → ℕ → ℕ → Type 0) (g : Ghost) (store
 pub data Frames (IsValue : Value → ℕ → ℕ → Type 0) (g : Ghost) (store : List Object) (words : List ℕ) : ℕ → List Frame → Type 0 where
   bottom : Frames IsValue g store words 0 []
   frame : {n : ℕ} {f : Frame} {fs : List Frame}
-      → FrameIs IsValue g store f (getD words (8 * n) 0) (getD words (8 * n + 1) 0) (getD words (8 * n + 2) 0) (getD words (8 * n + 3) 0) (getD words (8 * n + 4) 0) (getD words (8 * n + 5) 0)
+      → FrameIs IsValue g store f (frameKind words n) (frameTag words n) (framePayload words n) (frameCell words n) (frameLeft words n) (frameFinal words n)
       → Frames IsValue g store words n fs
       → Frames IsValue g store words (suc n) (f ∷ fs)
 
@@ -58,9 +60,9 @@ pub data Bound (IsValue : Value → ℕ → ℕ → Type 0) : Option Value → �
 -- The words of dictionary slot d: the name's length, its bytes, four to a word and zeros after them, and the binding.
 pub record SlotIs (IsValue : Value → ℕ → ℕ → Type 0) (words : List ℕ) (d : ℕ) (s : Slot) : Type 0 where
   pub size : getD words (12 * d) 0 ≡ length (s .key)
-  pub short : length (s .key) ≤ 31
+  pub short : length (s .key) ≤ nameMost
   pub spelt : (j : ℕ) → j < 32 → byteOf (getD words (12 * d + 1 + j / 4) 0) (j % 4) ≡ getD (s .key) j 0
-  pub binding : Bound IsValue (s .binding) (getD words (12 * d + 9) 0) (getD words (12 * d + 10) 0)
+  pub binding : Bound IsValue (s .binding) (bindingTag words d) (bindingPayload words d)
 
 -- The words of the dictionary's slots from slot d on.
 pub data Slots (IsValue : Value → ℕ → ℕ → Type 0) (words : List ℕ) : ℕ → List Slot → Type 0 where
@@ -87,24 +89,37 @@ pub record Is (w : World) (names : List (List ℕ)) (strings : List Bool) (v : V
 abbrev pub IsIn : World → Floo.Machine → Value → ℕ → ℕ → Type 0
 IsIn w μ = Is w (keys μ) (texts μ)
 
+-- The slots in use lie within the words, of which there are no more than setup accepts.
+pub record Rooms (depth frames names : ℕ) (s e d : List ℕ) : Type 0 where
+  pub stack-fits : stackWidth * depth ≤ length s
+  pub exec-fits : execWidth * frames ≤ length e
+  pub dict-fits : dictionaryWidth * names ≤ length d
+  pub stack-few : length s ≤ stackWordsMost
+  pub exec-few : length e ≤ execWordsMost
+  pub dict-few : length d ≤ dictionaryWordsMost
+
+-- The names by their slots: as many as are counted, the operators' first, in the operators' order, and none twice.
+pub record Naming (count : ℕ) (dictionary : List Slot) : Type 0 where
+  pub many : count ≡ length dictionary
+  pub titled : take operatorCount (keysOf dictionary) ≡ titles
+  pub distinct : Distinct (keysOf dictionary)
+
+-- The log's bytes that are written.
+pub record Logging (written : ℕ) (log text : List ℕ) : Type 0 where
+  pub logged : take written log ≡ text
+  pub fits : written ≤ length log
+
+-- (What is smallest comes first: a search through what is known goes by this order.)
 pub record Rep (m : Machine) (stack exec dict cs log : List ℕ) (μ : Floo.Machine) : Type 0 where
+  pub rooms : Rooms (m .depth) (m .frames) (m .names) stack exec dict
+  pub naming : Naming (m .names) (μ .dictionary)
+  pub logging : Logging (m .written) log (μ .log)
+  pub stopped : m .stopped ≡ μ .stopped
   pub world : World
   pub stored : Stored world (m .lists) cs (keys μ) (μ .store) (roots μ)
   pub items : Items (IsIn world μ) stack (m .depth) (μ .stack)
   pub frames : Frames (IsIn world μ) (world .ghost) (μ .store) exec (m .frames) (μ .exec)
   pub slots : Slots (IsIn world μ) dict 0 (μ .dictionary)
-  pub names : m .names ≡ length (μ .dictionary)
-  pub titled : take 54 (keys μ) ≡ titles  -- the operators' names have the first slots, in the operators' order
-  pub distinct : Distinct (keys μ)
-  pub logged : take (m .written) log ≡ μ .log
-  pub stopped : m .stopped ≡ μ .stopped
-  pub stack-room : 2 * m .depth ≤ length stack
-  pub exec-room : 8 * m .frames ≤ length exec
-  pub dict-room : 12 * m .names ≤ length dict
-  pub log-room : m .written ≤ length log
-  pub stack-few : length stack ≤ 513
-  pub exec-few : length exec ≤ 1031
-  pub dict-few : length dict ≤ 6155
 
 -- ---- promises
 

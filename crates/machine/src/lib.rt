@@ -10,7 +10,34 @@ ghost use Rattle.machine.specs.Recount.{Placed, Recounts};
 ghost use Rattle.machine.specs.Operands.{FetchesOne, FetchesTwo, oneLow, twoLow, FetchesOneLogical, FetchesTwoLogical, oneLogicalLow, twoLogicalLow, Replaces, Pushes};
 use heap::FIRST_OBJECT;
 use heap::Lists;
+use semantics::EXEC_WIDTH;
 use semantics::Error;
+use semantics::STACK_WIDTH;
+
+// The words of slots, as specs/Words and specs/Rep have them: a stack item's payload after its tag; an execution slot's value after its kind, and the numbers after that, of a
+// running procedure or of a loop.
+pub const ITEM_PAYLOAD: usize = 1;
+
+pub const FRAME_TAG: usize = 1;
+
+pub const FRAME_PAYLOAD: usize = 2;
+
+pub const FRAME_CELL: usize = 3;
+
+pub const FRAME_LEFT: usize = 4;
+
+pub const FRAME_NEXT: usize = 3;
+
+pub const FRAME_INCREMENT: usize = 4;
+
+pub const FRAME_FINAL: usize = 5;
+
+// A dictionary slot's bytes of its name, four to a word, after its length, and its binding.
+pub const SPELLING: usize = 1;
+
+pub const BINDING_TAG: usize = 9;
+
+pub const BINDING_PAYLOAD: usize = 10;
 
 // A value is two words.
 pub const TAG_NULL: u32 = 0;
@@ -88,11 +115,11 @@ impl Machine {
         if n < 1 {
             return OneInt::Bad(Error::StackUnderflow);
         }
-        let i = 2 * (n - 1);
+        let i = STACK_WIDTH * (n - 1);
         if stack[i] != TAG_INTEGER {
             return OneInt::Bad(Error::TypeCheck);
         }
-        OneInt::Got(stack[i + 1])
+        OneInt::Got(stack[i + ITEM_PAYLOAD])
     }
 
     pub fn two_ints(self, stack: &[u32]) -> TwoInts
@@ -104,15 +131,15 @@ impl Machine {
         if n < 2 {
             return TwoInts::Bad(Error::StackUnderflow);
         }
-        let i = 2 * (n - 2);
-        let j = 2 * (n - 1);
+        let i = STACK_WIDTH * (n - 2);
+        let j = STACK_WIDTH * (n - 1);
         if stack[i] != TAG_INTEGER {
             return TwoInts::Bad(Error::TypeCheck);
         }
         if stack[j] != TAG_INTEGER {
             return TwoInts::Bad(Error::TypeCheck);
         }
-        TwoInts::Got(stack[i + 1], stack[j + 1])
+        TwoInts::Got(stack[i + ITEM_PAYLOAD], stack[j + ITEM_PAYLOAD])
     }
 
     pub fn one_logical(self, stack: &[u32]) -> OneLogical
@@ -124,13 +151,13 @@ impl Machine {
         if n < 1 {
             return OneLogical::Bad(Error::StackUnderflow);
         }
-        let i = 2 * (n - 1);
+        let i = STACK_WIDTH * (n - 1);
         let tag = stack[i];
         if tag == TAG_INTEGER {
-            return OneLogical::Word(stack[i + 1]);
+            return OneLogical::Word(stack[i + ITEM_PAYLOAD]);
         }
         if tag == TAG_BOOLEAN {
-            return OneLogical::Truth(stack[i + 1]);
+            return OneLogical::Truth(stack[i + ITEM_PAYLOAD]);
         }
         OneLogical::Bad(Error::TypeCheck)
     }
@@ -144,17 +171,17 @@ impl Machine {
         if n < 2 {
             return TwoLogical::Bad(Error::StackUnderflow);
         }
-        let i = 2 * (n - 2);
-        let j = 2 * (n - 1);
+        let i = STACK_WIDTH * (n - 2);
+        let j = STACK_WIDTH * (n - 1);
         let tag = stack[i];
         if stack[j] != tag {
             return TwoLogical::Bad(Error::TypeCheck);
         }
         if tag == TAG_INTEGER {
-            return TwoLogical::Words(stack[i + 1], stack[j + 1]);
+            return TwoLogical::Words(stack[i + ITEM_PAYLOAD], stack[j + ITEM_PAYLOAD]);
         }
         if tag == TAG_BOOLEAN {
-            return TwoLogical::Truths(stack[i + 1], stack[j + 1]);
+            return TwoLogical::Truths(stack[i + ITEM_PAYLOAD], stack[j + ITEM_PAYLOAD]);
         }
         TwoLogical::Bad(Error::TypeCheck)
     }
@@ -164,9 +191,9 @@ impl Machine {
         requires { ⌜ (2 * self .depth ≤ length (now stack)) × (1 ≤ n) × (n ≤ self .depth) ⌝ }
         ensures { λ r. ⌜ Replaces n tag payload self r (now (stack .entry)) (now (stack .exit)) ⌝ }
     {
-        let i = 2 * (self.depth - n);
+        let i = STACK_WIDTH * (self.depth - n);
         stack[i] = tag;
-        stack[i + 1] = payload;
+        stack[i + ITEM_PAYLOAD] = payload;
         self.depth = self.depth - n + 1;
         self
     }
@@ -178,8 +205,8 @@ impl Machine {
         ensures { λ r. ⌜ r .depth ≡ self .depth + 1 ⌝ }
     {
         let n = self.depth;
-        stack[2 * n] = tag;
-        stack[2 * n + 1] = payload;
+        stack[STACK_WIDTH * n] = tag;
+        stack[STACK_WIDTH * n + ITEM_PAYLOAD] = payload;
         self.depth = n + 1;
         self
     }
@@ -190,7 +217,7 @@ impl Machine {
         ensures { λ r. ⌜ MovesStack (retagged executable) self r (now (stack .entry)) (now (stack .exit)) ⌝ }
         ensures { λ r. ⌜ r .depth ≡ self .depth ⌝ }
     {
-        let i = 2 * (self.depth - 1);
+        let i = STACK_WIDTH * (self.depth - 1);
         let tag = tag_as(stack[i], executable);
         stack[i] = tag;
         self
@@ -204,8 +231,8 @@ impl Machine {
     {
         let k = self.depth - 1;
         let lists = self.lists;
-        let old = stack[2 * k];
-        let was = stack[2 * k + 1];
+        let old = stack[STACK_WIDTH * k];
+        let was = stack[STACK_WIDTH * k + ITEM_PAYLOAD];
         let left = recount(lists, cells, old, was, TAG_NULL, 0);
         self.depth = k;
         self.lists = left;
@@ -221,11 +248,11 @@ impl Machine {
         let n = self.depth;
         let k = n - 1 - i;
         let lists = self.lists;
-        let tag = stack[2 * k];
-        let pay = stack[2 * k + 1];
+        let tag = stack[STACK_WIDTH * k];
+        let pay = stack[STACK_WIDTH * k + ITEM_PAYLOAD];
         let left = recount(lists, cells, TAG_NULL, 0, tag, pay);
-        stack[2 * n] = tag;
-        stack[2 * n + 1] = pay;
+        stack[STACK_WIDTH * n] = tag;
+        stack[STACK_WIDTH * n + ITEM_PAYLOAD] = pay;
         self.depth = n + 1;
         self.lists = left;
         self
@@ -241,13 +268,13 @@ impl Machine {
         let k = n - 1 - i;
         let o = n - 1 - j;
         let lists = self.lists;
-        let old = stack[2 * k];
-        let was = stack[2 * k + 1];
-        let tag = stack[2 * o];
-        let pay = stack[2 * o + 1];
+        let old = stack[STACK_WIDTH * k];
+        let was = stack[STACK_WIDTH * k + ITEM_PAYLOAD];
+        let tag = stack[STACK_WIDTH * o];
+        let pay = stack[STACK_WIDTH * o + ITEM_PAYLOAD];
         let left = recount(lists, cells, old, was, tag, pay);
-        stack[2 * k] = tag;
-        stack[2 * k + 1] = pay;
+        stack[STACK_WIDTH * k] = tag;
+        stack[STACK_WIDTH * k + ITEM_PAYLOAD] = pay;
         self.lists = left;
         self
     }
@@ -261,14 +288,14 @@ impl Machine {
         let n = self.depth;
         let k = n - 1 - i;
         let o = n - 1 - j;
-        let t = stack[2 * k];
-        let p = stack[2 * k + 1];
-        let u = stack[2 * o];
-        let q = stack[2 * o + 1];
-        stack[2 * k] = u;
-        stack[2 * k + 1] = q;
-        stack[2 * o] = t;
-        stack[2 * o + 1] = p;
+        let t = stack[STACK_WIDTH * k];
+        let p = stack[STACK_WIDTH * k + ITEM_PAYLOAD];
+        let u = stack[STACK_WIDTH * o];
+        let q = stack[STACK_WIDTH * o + ITEM_PAYLOAD];
+        stack[STACK_WIDTH * k] = u;
+        stack[STACK_WIDTH * k + ITEM_PAYLOAD] = q;
+        stack[STACK_WIDTH * o] = t;
+        stack[STACK_WIDTH * o + ITEM_PAYLOAD] = p;
         self
     }
 
@@ -280,8 +307,8 @@ impl Machine {
         ensures { λ r. ⌜ (r .depth ≡ self .depth) × (r .frames ≡ self .frames - 1) ⌝ }
     {
         let k = self.frames - 1;
-        let old = exec[8 * k + 1];
-        let was = exec[8 * k + 2];
+        let old = exec[EXEC_WIDTH * k + FRAME_TAG];
+        let was = exec[EXEC_WIDTH * k + FRAME_PAYLOAD];
         let lists = self.lists;
         let left = recount(lists, cells, old, was, TAG_NULL, 0);
         self.frames = k;
@@ -307,8 +334,8 @@ impl Machine {
     {
         let n = self.depth;
         let k = self.frames - 1;
-        stack[2 * n] = exec[8 * k + 1];
-        stack[2 * n + 1] = exec[8 * k + 2];
+        stack[STACK_WIDTH * n] = exec[EXEC_WIDTH * k + FRAME_TAG];
+        stack[STACK_WIDTH * n + ITEM_PAYLOAD] = exec[EXEC_WIDTH * k + FRAME_PAYLOAD];
         self.depth = n + 1;
         self.frames = k;
         self

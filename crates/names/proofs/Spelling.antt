@@ -6,6 +6,7 @@ use mathlib.Core.Option.{some}
 use Prim.Native.Nat.{ℕ, zero, suc, _+_, _*_, _/_, _%_, _≤_, _<_}
 use native.Mathlib.Omega.{arith}
 use lib.ListN.{length, getD, getElem?, drop, take-append-drop, length-map}
+use Rattle.semantics.specs.Sizes.{operatorCount, nameMost}
 use Rattle.semantics.specs.Values.{Value}
 use Rattle.semantics.specs.Machine as Floo
 use Rattle.semantics.specs.Machine.{Slot}
@@ -38,20 +39,20 @@ module _ {m : Machine} {s e d c l : List ℕ} {μ : Floo.Machine} (R : Rep m s e
   -- The operators' names have the first slots.
   pub title-slot : (k : ℕ) (o : List ℕ) → getElem? titles k ≡ some o → getElem? (keys μ) k ≡ some o
   title-slot k o q =
-      let parts : titles ++ drop 54 (keys μ) ≡ keys μ = ap (λ (t : List (List ℕ)). t ++ drop 54 (keys μ)) (sym (R .titled)) ∙ take-append-drop 54 (keys μ) in
-      subst (λ t. getElem? t k ≡ some o) parts (getElem?-append titles (drop 54 (keys μ)) k o q)
+      let parts : titles ++ drop operatorCount (keys μ) ≡ keys μ = ap (λ (t : List (List ℕ)). t ++ drop operatorCount (keys μ)) (sym (R .naming .titled)) ∙ take-append-drop operatorCount (keys μ) in
+      subst (λ t. getElem? t k ≡ some o) parts (getElem?-append titles (drop operatorCount (keys μ)) k o q)
 
   module _ (k : ℕ) (n : List ℕ) (q : getElem? (keys μ) k ≡ some n) where
     -- A name's slot lies within the words.
     pub slot-inside : 12 * k + 12 ≤ length d
-    slot-inside = omega (arith, inside-list (keys μ) k q, length-map (μ .dictionary) (λ (s : Slot). s .key), R .names, R .dict-room)
+    slot-inside = omega (arith, inside-list (keys μ) k q, length-map (μ .dictionary) (λ (s : Slot). s .key), R .naming .many, R .rooms .dict-fits)
 
     here : Keyed (IsIn (R .world) μ) d k n
     here =
         let same : 0 + k ≡ k = omega arith in
         subst (λ k. Keyed (IsIn (R .world) μ) d k n) same (keyed (R .slots) k n q)
 
-    pub size-is : (getD d (12 * k) 0 ≡ length n) × (getD d (12 * k) 0 ≤ 31)
+    pub size-is : (getD d (12 * k) 0 ≡ length n) × (getD d (12 * k) 0 ≤ nameMost)
     size-is =
         let K = here in
         let long = ap length (K .key) in

@@ -5,6 +5,7 @@ use mathlib.Core.List.{List}
 use mathlib.Core.Option.{some}
 use Prim.Native.Nat.{ℕ, _≤_}
 use lib.ListN.{length, getD, getElem?}
+use Rattle.semantics.specs.Sizes.{nameMost}
 use Rattle.semantics.specs.Machine as Floo
 use Rattle.machine.specs.Places.{keys}
 use Rattle.machine.specs.Rep.{Rep}
@@ -28,7 +29,7 @@ pub record NameSize (k : ℕ) (d : List ℕ) (r : ℕ) : Type 0 where
       → Rep m s e d c l μ
       → (n : List ℕ)
       → getElem? (keys μ) k ≡ some n
-      → (r ≡ length n) × (r ≤ 31)
+      → (r ≡ length n) × (r ≤ nameMost)
 
 -- Its byte j, 0 past its end.
 pub record NameByte (k j : ℕ) (d : List ℕ) (r : ℕ) : Type 0 where

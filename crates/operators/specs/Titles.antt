@@ -37,10 +37,3 @@ EverywhereButLog m s e d c = (l : List ℕ) × Everywhere m s e d c l
 -- An operator that does not touch the log.
 pub record DoesButLog (f : Floo.Machine → Result Floo.Machine) (m : Machine) (s s′ e e′ d d′ c c′ : List ℕ) (r : Did) : Type 0 where
   pub all : (l : List ℕ) → DoesAll f m s s′ e e′ d d′ c c′ l l r
-
-abbrev pub EverywhereButSlots : Machine → List ℕ → List ℕ → List ℕ → List ℕ → Type 0
-EverywhereButSlots m s d c l = (e : List ℕ) × Everywhere m s e d c l
-
--- One that does not touch the execution slots.
-pub record DoesButSlots (f : Floo.Machine → Result Floo.Machine) (m : Machine) (s s′ d d′ c c′ l l′ : List ℕ) (r : Did) : Type 0 where
-  pub all : (e : List ℕ) → DoesAll f m s s′ e e d d′ c c′ l l′ r

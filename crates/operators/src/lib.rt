@@ -1,8 +1,9 @@
-// The 54 operators by their numbers, which are their places in the definition's table: `frequent` those below getinterval, `rare` the rest. Each family is lent
-// only what its operators touch.
+// The operators by their numbers, which are their places in the definition's table: `frequent` those below getinterval, `rare` the rest. Each family is lent
+// only what its operators touch; `rare` is lent everything, so that any operator can be added there.
 ghost use mathlib.Core.Path.{_≡_};
 ghost use Prim.Native.Nat.{_*_, _≤_, _<_};
 ghost use lib.ListN.{length};
+ghost use Rattle.semantics.specs.Sizes.{operatorCount};
 ghost use Rattle.machine.specs.Rep.{Somewhere as StackSomewhere};
 ghost use Rattle.machine.specs.Room.{DoesStack, DoesHeap};
 ghost use Rattle.machine.specs.FrameMoves.{Somewhere};
@@ -10,7 +11,7 @@ ghost use Rattle.frames.specs.Moves.{SomewhereAll};
 ghost use Rattle.control_operators.specs.Promises.{DoesFrames, DoesCells};
 ghost use Rattle.dictionary_operators.specs.Promises.{Represented, DoesDictionary};
 ghost use Rattle.output_operators.specs.Output.{SomewhereLog, DoesLog};
-ghost use Rattle.operators.specs.Titles.{performAt, EverywhereButLog, DoesButLog, EverywhereButSlots, DoesButSlots};
+ghost use Rattle.operators.specs.Titles.{performAt, Everywhere, DoesAll, EverywhereButLog, DoesButLog};
 use machine::Did;
 use machine::Machine;
 
@@ -183,7 +184,7 @@ fn outputs(
     cells: &mut [u32],
     log: &mut [u8],
 ) -> Did
-    requires { ⌜ (51 ≤ k) × (k < 54) × SomewhereLog m (now stack) (now dict) (now cells) (now log) ⌝ }
+    requires { ⌜ (51 ≤ k) × (k < operatorCount) × SomewhereLog m (now stack) (now dict) (now cells) (now log) ⌝ }
     ensures { λ r. ⌜ DoesLog (performAt k) m (now (stack .entry)) (now (dict .entry)) (now (cells .entry)) (now (cells .exit)) (now (log .entry)) (now (log .exit)) r ⌝ }
 {
     match k {
@@ -245,12 +246,13 @@ pub fn rare(
     k: u32,
     m: Machine,
     stack: &mut [u32],
+    exec: &mut [u32],
     dict: &mut [u32],
     cells: &mut [u32],
     log: &mut [u8],
 ) -> Did
-    requires { ⌜ (42 ≤ k) × (k < 54) × EverywhereButSlots m (now stack) (now dict) (now cells) (now log) ⌝ }
-    ensures { λ r. ⌜ DoesButSlots (performAt k) m (now (stack .entry)) (now (stack .exit)) (now (dict .entry)) (now (dict .exit)) (now (cells .entry)) (now (cells .exit)) (now (log .entry)) (now (log .exit)) r ⌝ }
+    requires { ⌜ (42 ≤ k) × (k < operatorCount) × Everywhere m (now stack) (now exec) (now dict) (now cells) (now log) ⌝ }
+    ensures { λ r. ⌜ DoesAll (performAt k) m (now (stack .entry)) (now (stack .exit)) (now (exec .entry)) (now (exec .exit)) (now (dict .entry)) (now (dict .exit)) (now (cells .entry)) (now (cells .exit)) (now (log .entry)) (now (log .exit)) r ⌝ }
 {
     if k < 47 {
         return intervals(k, m, stack, cells);

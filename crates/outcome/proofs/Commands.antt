@@ -7,6 +7,7 @@ use mathlib.Core.Option.{some}
 use Prim.Native.Nat.{ℕ, _+_, _-_, _≤_, _<_}
 use native.Mathlib.Omega.{arith}
 use lib.ListN.{length, getD, getElem?, set, take, drop, length-take}
+use Rattle.semantics.specs.Sizes.{operatorCount, nameMost}
 use Rattle.semantics.specs.Text.{bytes}
 use Rattle.semantics.specs.Values.{name}
 use Rattle.semantics.specs.Machine as Floo
@@ -37,7 +38,7 @@ use Rattle.outcome.proofs.Beginnings.{title-plain}
 
 -- ---- a name by its slot
 
-title-there : (k : ℕ) → k < 54 → getElem? titles k ≡ some (getD titles k [])
+pub title-there : (k : ℕ) → k < operatorCount → getElem? titles k ≡ some (getD titles k [])
 title-there k h = an-element titles k [] (omega (arith, h, titles-count))
 
 module _ {m : Machine} {s e d c l : List ℕ} {μ : Floo.Machine} (R : Rep m s e d c l μ) (k : ℕ) {n : List ℕ} (q : getElem? (keys μ) k ≡ some n) where
@@ -68,7 +69,7 @@ module _ {script d c : List ℕ} {command : Command} {k : ℕ} where
   operator-slot : command ≡ Operator k → Slotting script d c command k
   unfolding commandText echoedTo shown
   operator-slot q m s e l μ R h =
-      let few : k < 54 = subst (λ x. IsCommand script (keys μ) x) q h in
+      let few : k < operatorCount = subst (λ x. IsCommand script (keys μ) x) q h in
       let title = title-there k few in
       record {
         text = getD titles k [];
@@ -120,7 +121,7 @@ nothing-written {script} {at = at} {out = out} q =
 -- A name of the script.
 module _ {script d c : List ℕ} {command : Command} (start size : ℕ) (q : command ≡ Token start size) where
   module _ {at : ℕ} {out : List ℕ} (N : CommandRoom script d c command at out) where
-    pub token-inside : (start + size ≤ length script) × (size ≤ 31)
+    pub token-inside : (start + size ≤ length script) × (size ≤ nameMost)
     token-inside = subst (λ x. IsCommand script (keys (N .known .machine)) x) q (N .known .holds)
 
     pub token-room : at + length (nameText true (take (start + size - start) (drop start script))) ≤ length out

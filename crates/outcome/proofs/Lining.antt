@@ -6,6 +6,7 @@ use Prim.Native.Nat.{ℕ, suc, _+_, _-_, _*_, _≤_, _<_}
 use native.Mathlib.Omega.{arith}
 use lib.ListN.{length, getD, set, drop, drop-of-length-le}
 use lib.Seq.{drop-cons}
+use Rattle.semantics.specs.Sizes.{itemRoom}
 use Rattle.semantics.specs.Text.{bytes}
 use Rattle.semantics.specs.Values.{Value, null}
 use Rattle.semantics.specs.Machine as Floo
@@ -22,7 +23,7 @@ use Rattle.outcome.proofs.Valuing.{item-few}
 
 -- ---- a line
 
-module _ {i : ℕ} {m : Machine} {s d c : List ℕ} (N : ItemRoom i m s d c) {at : ℕ} {out : List ℕ} (room : at + 136 ≤ length out)
+module _ {i : ℕ} {m : Machine} {s d c : List ℕ} (N : ItemRoom i m s d c) {at : ℕ} {out : List ℕ} (room : at + itemRoom ≤ length out)
     {mid : List ℕ} {next : ℕ} (K : Written at (bytes "item=") out mid next) (same : length mid ≡ length out) where
   pub value-room : next + 130 ≤ length mid
   unfolding bytes
@@ -60,7 +61,7 @@ items-more μ l j h =
 -- The items from place i from the top on.
 pub record Listed (m : Machine) (s d c : List ℕ) (i at : ℕ) (old new : List ℕ) (r : ℕ) : Type 0 where
   pub long : length new ≡ length old
-  pub near : r + 136 * i ≤ at + 136 * m .depth
+  pub near : r + itemRoom * i ≤ at + itemRoom * m .depth
   pub says : (e l : List ℕ) (μ : Floo.Machine) → Rep m s e d c l μ → Written at (items μ (reverse (drop i (μ .stack)))) old new r
 
 module _ {m : Machine} {s d c : List ℕ} {at : ℕ} {old : List ℕ} where
@@ -80,7 +81,7 @@ module _ {m : Machine} {s d c : List ℕ} {at : ℕ} {old : List ℕ} where
   listed-ends z T = record { says = λ e l μ R. respelt (ap (λ n. items μ (reverse (drop n (μ .stack)))) (sym z)) (T .says e l μ R) }
 
   module _ (N : ItemsRoom m s d c at old) {i : ℕ} {mid : List ℕ} {r : ℕ} (T : Listed m s d c i at old mid r) (some : 0 < i) (few : i ≤ m .depth) where
-    pub item-room : (r + 136 ≤ length mid) × ItemRoom (i - 1) m s d c
+    pub item-room : (r + itemRoom ≤ length mid) × ItemRoom (i - 1) m s d c
     item-room = (
       omega (arith, N .fits, T .near, T .long, some),
       record { exec = N .exec; log = N .log; machine = N .machine; rep = N .rep; inside = omega (arith, some, few) },

@@ -54,7 +54,7 @@ module _ {m : Machine} {at : ℕ} {c : List ℕ} {next : ℕ} {out : List ℕ} (
   free-few = omega (arith, held-room (N .rep))
 
   pub depth-few : m .depth ≤ 256
-  depth-few = omega (arith, N .rep .stack-room, N .rep .stack-few)
+  depth-few = omega (arith, N .rep .rooms .stack-fits, N .rep .rooms .stack-few)
 
 -- A line of a number is short.
 pub count-length : (key : List ℕ) (n : ℕ) → length (line key (decimal n)) ≤ length key + 12

@@ -26,7 +26,7 @@ use Rattle.outcome.proofs.Numbers.{count-length}
 -- ---- the ending is one in every machine that the words stand for: as many names have slots in each
 
 names-count : {m : Machine} {s e d c l : List ℕ} {μ : Floo.Machine} → Rep m s e d c l μ → length (keys μ) ≡ m .names
-names-count {μ = μ} R = length-map (μ .dictionary) (λ (s : Slot). s .key) ∙ sym (R .names)
+names-count {μ = μ} R = length-map (μ .dictionary) (λ (s : Slot). s .key) ∙ sym (R .naming .many)
 
 command-moves : (script : List ℕ) (a b : List (List ℕ)) (command : Command) → length b ≡ length a → IsCommand script a command → IsCommand script b command
 command-moves script a b Nothing q h = tt
@@ -109,7 +109,7 @@ module _ {script : List ℕ} {m : Machine} {ending : Ending} {at : ℕ} {s d c o
               k₂,
               C .says s (N .exec) d (N .log) μ (N .rep) .end,
               counts-length at steps (length (μ .stack)) (heldCells μ) (length (μ .log)),
-              N .rep .stack-room,
+              N .rep .rooms .stack-fits,
             );
           }
 

@@ -4,7 +4,7 @@ use mathlib.Core.Path.{_≡_, sym, ap, _∙_}
 use mathlib.Core.Bool.{Bool, true}
 use mathlib.Core.List.{List, _++_}
 use mathlib.Core.Option.{some}
-use Prim.Native.Nat.{ℕ, suc, _+_, _-_, _*_, _≤_, _<_}
+use Prim.Native.Nat.{ℕ, suc, _+_, _-_, _≤_, _<_}
 use native.Mathlib.Omega.{arith}
 use lib.ListN.{length, getD, getElem?, set, length-append, length-set}
 use Rattle.semantics.specs.Text.{bytes, decimal}
@@ -21,6 +21,7 @@ use Rattle.text.specs.Writing.{Written}
 use Rattle.text.proofs.Pasting.{then, last, respelt}
 use Rattle.names.proofs.Spelling.{title-slot, size-is}
 use Rattle.printing.specs.Shown.{WithRoom, Writes}
+use Rattle.machine.specs.Words.{itemTag, itemPayload}
 use Rattle.machine.specs.Places.{keys, texts}
 use Rattle.machine.specs.Rep.{Rep, IsIn}
 use Rattle.machine.specs.declared.Machine.{Machine}
@@ -83,10 +84,10 @@ module _ {i : ℕ} {m : Machine} {s d c : List ℕ} (N : ItemRoom i m s d c) whe
   place = m .depth - 1 - i
 
   abbrev tag : ℕ
-  tag = getD s (2 * place) 0
+  tag = itemTag s place
 
   abbrev pay : ℕ
-  pay = getD s (2 * place + 1) 0
+  pay = itemPayload s place
 
   split : m .depth ≡ place + suc i
   split = omega (arith, N .inside)

@@ -6,6 +6,7 @@ use mathlib.Core.List.{List, [], _++_, reverse}
 use Prim.Native.Nat.{ℕ, _+_, _*_, _/_, _≤_, _<_}
 use lib.ListN.{length, getD}
 use lib.Dec.{eqb}
+use Rattle.semantics.specs.Sizes.{scriptMost, logMost, headRoom, itemRoom}
 use Rattle.semantics.specs.Text.{bytes, decimal}
 use Rattle.semantics.specs.Values.{null, string, current}
 use Rattle.semantics.specs.Machine as Floo
@@ -27,9 +28,9 @@ use Rattle.machine.specs.declared.Machine.{Machine}
 
 -- The words stand for a machine that has come to this ending, and there is room for its outcome. A script has 32,768 bytes at most and a log 65,536 (01, Setup).
 pub record Ready (script : List ℕ) (m : Machine) (ending : Ending) (at : ℕ) (s d c out : List ℕ) : Type 0 where
-  pub offset : at ≤ 32768
-  pub log-few : m .written ≤ 65536
-  pub fits : 256 + 136 * (length s / 2) ≤ length out
+  pub offset : at ≤ scriptMost
+  pub log-few : m .written ≤ logMost
+  pub fits : headRoom + itemRoom * (length s / 2) ≤ length out
   pub exec : List ℕ
   pub log : List ℕ
   pub machine : Floo.Machine
@@ -99,8 +100,8 @@ countLines at steps depth held log =
     ++ line (bytes "log") (decimal log)
 
 pub record CountsRoom (m : Machine) (at : ℕ) (c : List ℕ) (next : ℕ) (out : List ℕ) : Type 0 where
-  pub offset : at ≤ 32768
-  pub log-few : m .written ≤ 65536
+  pub offset : at ≤ scriptMost
+  pub log-few : m .written ≤ logMost
   pub fits : next + 79 ≤ length out
   pub stack : List ℕ
   pub exec : List ℕ
@@ -121,7 +122,7 @@ pub record ItemsRoom (m : Machine) (s d c : List ℕ) (at : ℕ) (out : List ℕ
   pub log : List ℕ
   pub machine : Floo.Machine
   pub rep : Rep m s exec d c log machine
-  pub fits : at + 136 * m .depth ≤ length out
+  pub fits : at + itemRoom * m .depth ≤ length out
 
 pub record WritesItems (m : Machine) (s d c : List ℕ) (at : ℕ) (old new : List ℕ) (r : ℕ) : Type 0 where
   pub says : (e l : List ℕ) (μ : Floo.Machine) → Rep m s e d c l μ → Written at (items μ (reverse (μ .stack))) old new r

@@ -2,6 +2,7 @@
 // written are the definition's bytes, in every machine that the words stand for.
 ghost use Prim.Native.Nat.{_+_, _*_, _≤_, _<_};
 ghost use lib.ListN.{length};
+ghost use Rattle.semantics.specs.Sizes.{itemRoom};
 ghost use Rattle.semantics.specs.Text.{decimal};
 ghost use Rattle.semantics.specs.Outcome.{errorText, line};
 ghost use Rattle.text.specs.Writing.{Written};
@@ -10,6 +11,7 @@ ghost use Rattle.outcome.specs.Reports.{Ready, WritesOutcome, EndingRoom
 ghost use Rattle.outcome.specs.Reports.{CountsRoom, WritesCounts, ItemsRoom, WritesItems, ItemRoom, WritesItem, WritesValue, WritesSizes, kindText};
 use ending::Command;
 use ending::Ending;
+use machine::ITEM_PAYLOAD;
 use machine::Machine;
 use machine::TAG_ARRAY;
 use machine::TAG_BOOLEAN;
@@ -21,6 +23,7 @@ use machine::TAG_OPERATOR;
 use machine::TAG_PROCEDURE;
 use machine::TAG_STRING;
 use semantics::Error;
+use semantics::STACK_WIDTH;
 
 // The outcome at the front of `out`.
 // Rules out: the items with the topmost first; the free cells counted for the held ones.
@@ -191,7 +194,7 @@ fn write_item(
     at: usize,
     i: usize,
 ) -> usize
-    requires { ⌜ (at + 136 ≤ length (now out)) × ItemRoom i m (now stack) (now dict) (now cells) ⌝ }
+    requires { ⌜ (at + itemRoom ≤ length (now out)) × ItemRoom i m (now stack) (now dict) (now cells) ⌝ }
     ensures { λ r. ⌜ WritesItem i m (now (stack .entry)) (now (dict .entry)) (now (cells .entry)) at (now (out .entry)) (now (out .exit)) r ⌝ }
 {
     let next = text::copy(out, at, b"item=");
@@ -214,8 +217,8 @@ fn write_value(
     ensures { λ r. ⌜ WritesValue i m (now (stack .entry)) (now (dict .entry)) (now (cells .entry)) at (now (out .entry)) (now (out .exit)) r ⌝ }
 {
     let k = m.depth - 1 - i;
-    let tag = stack[2 * k];
-    let pay = stack[2 * k + 1];
+    let tag = stack[STACK_WIDTH * k];
+    let pay = stack[STACK_WIDTH * k + ITEM_PAYLOAD];
     let next = write_kind(out, at, tag);
     if tag == TAG_MARK {
         return next;

@@ -4,7 +4,7 @@ use mathlib.Core.Path.{_≡_, refl, sym, ap, _∙_, subst}
 use mathlib.Core.Bool.{true, false}
 use mathlib.Core.List.{List, [], _∷_, _++_, map, reverse, reverse-cons}
 use mathlib.Core.Logic.{_⊎_, ⊎-elim}
-use Prim.Native.Nat.{ℕ, zero, suc, _+_, _-_, _*_, _≤_, _<_}
+use Prim.Native.Nat.{ℕ, zero, suc, _+_, _-_, _≤_, _<_}
 use native.Mathlib.Omega.{arith}
 use native.Mathlib.Nat.{eq-or-lt-of-le}
 use borrow.Author.Tests.{le-leb, lt-leb}
@@ -16,6 +16,7 @@ use Rattle.semantics.specs.Machine as Floo
 use Rattle.semantics.specs.Printing.{joined, echoed, echoedTo}
 use Rattle.text.specs.Writing.{Written}
 use Rattle.text.proofs.Pasting.{respelt, nothing, last, then}
+use Rattle.machine.specs.Words.{itemTag, itemPayload}
 use Rattle.machine.specs.Rep.{Rep, IsIn, Items, bottom, item}
 use Rattle.machine.specs.declared.Machine.{Machine}
 use Rattle.machine.proofs.Items.{items-length}
@@ -36,18 +37,18 @@ feed-line (suc k) h = absurd (omega arith)
 -- ---- items from the bottom
 
 module _ {Is : Value → ℕ → ℕ → Type 0} {words : List ℕ} where
-  pub from-bottom : {n : ℕ} {s : List Value} → Items Is words n s → (i : ℕ) → i < n → Is (getD (reverse s) i null) (getD words (2 * i) 0) (getD words (2 * i + 1) 0)
+  pub from-bottom : {n : ℕ} {s : List Value} → Items Is words n s → (i : ℕ) → i < n → Is (getD (reverse s) i null) (itemTag words i) (itemPayload words i)
   from-bottom bottom i h = absurd (omega arith)
   from-bottom (item {n = n} {v = v} {s = s} w r) i h =
       let long : length (reverse s) ≡ n = length-reverse s ∙ items-length r in
-      let here : i ≡ n → Is (getD (reverse s ++ (v ∷ [])) i null) (getD words (2 * i) 0) (getD words (2 * i + 1) 0) =
-      λ e. subst (λ k. Is (getD (reverse s ++ (v ∷ [])) k null) (getD words (2 * k) 0) (getD words (2 * k + 1) 0)) (sym e)
-      (subst (λ x. Is x (getD words (2 * n) 0) (getD words (2 * n + 1) 0))
+      let here : i ≡ n → Is (getD (reverse s ++ (v ∷ [])) i null) (itemTag words i) (itemPayload words i) =
+      λ e. subst (λ k. Is (getD (reverse s ++ (v ∷ [])) k null) (itemTag words k) (itemPayload words k)) (sym e)
+      (subst (λ x. Is x (itemTag words n) (itemPayload words n))
       (sym (getD-append-seam (reverse s) v [] null) ∙ ap (λ k. getD (reverse s ++ (v ∷ [])) k null) long) w) in
-      let there : i < n → Is (getD (reverse s ++ (v ∷ [])) i null) (getD words (2 * i) 0) (getD words (2 * i + 1) 0) =
-      λ l. subst (λ x. Is x (getD words (2 * i) 0) (getD words (2 * i + 1) 0)) (sym (List·getD-append (reverse s) (v ∷ []) null i (omega (arith, l, long)))) (from-bottom r i l) in
+      let there : i < n → Is (getD (reverse s ++ (v ∷ [])) i null) (itemTag words i) (itemPayload words i) =
+      λ l. subst (λ x. Is x (itemTag words i) (itemPayload words i)) (sym (List·getD-append (reverse s) (v ∷ []) null i (omega (arith, l, long)))) (from-bottom r i l) in
       let low : i ≤ n = omega (arith, h) in
-      subst (λ (t : List Value). Is (getD t i null) (getD words (2 * i) 0) (getD words (2 * i + 1) 0)) (sym (reverse-cons v s)) (⊎-elim here there (eq-or-lt-of-le low))
+      subst (λ (t : List Value). Is (getD t i null) (itemTag words i) (itemPayload words i)) (sym (reverse-cons v s)) (⊎-elim here there (eq-or-lt-of-le low))
 
 -- ---- the text
 
@@ -66,7 +67,7 @@ module _ {m : Machine} {s e d c l : List ℕ} {μ : Floo.Machine} (R : Rep m s e
       by [] h = absurd (omega arith)
       by (v ∷ vs) h = begun-all (echoedTo 4 μ) feedOf (λ k. refl) v vs
 
-  pub item-words : (i : ℕ) → i < m .depth → IsIn (R .world) μ (getD (reverse (μ .stack)) i null) (getD s (2 * i) 0) (getD s (2 * i + 1) 0)
+  pub item-words : (i : ℕ) → i < m .depth → IsIn (R .world) μ (getD (reverse (μ .stack)) i null) (itemTag s i) (itemPayload s i)
   item-words i h = from-bottom (R .items) i h
 
   text-longer : (i : ℕ) → i < m .depth → length (texts μ (i + 1)) ≡ length (texts μ i) + length (echoedTo 4 μ (getD (reverse (μ .stack)) i null)) + 1
@@ -76,7 +77,7 @@ module _ {m : Machine} {s e d c l : List ℕ} {μ : Floo.Machine} (R : Rep m s e
   text-part i h =
       omega (arith, ap length (line-is h), begun-part (echoedTo 4 μ) feedOf i (reverse (μ .stack)), ap (λ n. length (texts μ n)) deep)
 
-abbrev pub item-known : {m : Machine} {s d c l : List ℕ} → SomewhereLog m s d c l → (i : ℕ) → i < m .depth → Known d c (getD s (2 * i) 0) (getD s (2 * i + 1) 0)
+abbrev pub item-known : {m : Machine} {s d c l : List ℕ} → SomewhereLog m s d c l → (i : ℕ) → i < m .depth → Known d c (itemTag s i) (itemPayload s i)
 item-known {m} {s} {l = l} w i h =
     record { small = m; stack = s; exec = w .0; log = l; machine = w .1; rep = w .2; value = getD (reverse (w .1 .stack)) i null; words = item-words (w .2) i h }
 
@@ -97,7 +98,7 @@ module _ {m : Machine} {s d c : List ℕ} (some : 0 < m .depth) {room i sum : �
             sym (le-leb (length (lineOf μ)) room (omega (arith, few, S .says e l μ R, ap length (line-is R some), ap (λ n. length (texts μ n)) z)));
       }
 
-  module _ (inside : i < m .depth) {k : ℕ} (M : Measures d c (getD s (2 * i) 0) (getD s (2 * i + 1) 0) 4 (room - sum) k) where
+  module _ (inside : i < m .depth) {k : ℕ} (M : Measures d c (itemTag s i) (itemPayload s i) 4 (room - sum) k) where
     pub summed-over : room - sum ≤ k → FitsLine m s d c room false
     summed-over over =
         record {
@@ -142,10 +143,10 @@ module _ {m : Machine} {s d c old : List ℕ} (some : 0 < m .depth) (N : LineRoo
     item-room : r + length (echoedTo 4 (w .1) (getD (reverse (w .1 .stack)) i null)) + 1 ≤ length mid
     item-room = omega (arith, T .long, T .says (w .0) (w .1) (w .2) .end, text-longer (w .2) i inside, text-part (w .2) (i + 1) some, N .fits)
 
-    pub item-fits : WithRoom d c (getD s (2 * i) 0) (getD s (2 * i + 1) 0) 4 r mid
+    pub item-fits : WithRoom d c (itemTag s i) (itemPayload s i) 4 r mid
     item-fits = record { known = item-known w i inside; fits = omega (arith, item-room) }
 
-    module _ {mid′ : List ℕ} {r′ : ℕ} (W : Writes d c (getD s (2 * i) 0) (getD s (2 * i + 1) 0) 4 r mid mid′ r′) (kept : length mid′ ≡ length mid) where
+    module _ {mid′ : List ℕ} {r′ : ℕ} (W : Writes d c (itemTag s i) (itemPayload s i) 4 r mid mid′ r′) (kept : length mid′ ≡ length mid) where
       pub feed-fits : r′ < length mid′
       feed-fits =
           omega (arith, kept, item-room, W .says m s (w .0) old (w .1) (w .2) (getD (reverse (w .1 .stack)) i null) (item-words (w .2) i inside) .end)
@@ -160,7 +161,7 @@ module _ {m : Machine} {s d c old : List ℕ} (some : 0 < m .depth) (N : LineRoo
                 let low : i < length vs = omega (arith, inside, deep R) in
                 let element = W .says m s e old μ R (getD vs i null) (item-words R i inside) in
                 let here : r ≤ length mid = omega (arith, item-room) in
-                let both = then (R .log-room) (T .says e μ R) (last b here feed-fits element) in
+                let both = then (R .logging .fits) (T .says e μ R) (last b here feed-fits element) in
                 respelt
                 (begun-more g feedOf i vs low ∙ ap (λ k. texts μ i ++ (g (getD vs i null) ++ (k ∷ []))) (sym (byte ∙ ap (λ n. feedOf (n - (i + 1))) (sym (deep R)))))
                 both;

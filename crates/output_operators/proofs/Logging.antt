@@ -79,18 +79,10 @@ module _ {m : Machine} {s e d c l : List ℕ} {μ : Floo.Machine} (R : Rep m s e
         items = R .items;
         frames = R .frames;
         slots = R .slots;
-        names = R .names;
-        titled = R .titled;
-        distinct = R .distinct;
-        logged = taken (m .written) t l l′ r (R .log-room) w ∙ ap (λ (x : List ℕ). x ++ t) (R .logged);
+        naming = R .naming;
+        logging = record { logged = taken (m .written) t l l′ r (R .logging .fits) w ∙ ap (λ (x : List ℕ). x ++ t) (R .logging .logged); fits = omega (arith, w .end, room, kept room w) };
         stopped = R .stopped;
-        stack-room = R .stack-room;
-        exec-room = R .exec-room;
-        dict-room = R .dict-room;
-        log-room = omega (arith, w .end, room, kept room w);
-        stack-few = R .stack-few;
-        exec-few = R .exec-few;
-        dict-few = R .dict-few;
+        rooms = R .rooms;
       }
 
 -- ---- the test of room

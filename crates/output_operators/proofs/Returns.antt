@@ -15,6 +15,7 @@ use Rattle.semantics.specs.Operators.{perform}
 use Rattle.semantics.specs.declared.Error.the-variants.{StackUnderflow, TypeCheck, IoError}
 use Rattle.text.specs.Writing.{Written}
 use Rattle.text.proofs.Pasting.{last}
+use Rattle.machine.specs.Words.{itemTag, itemPayload}
 use Rattle.machine.specs.Rep.{Rep, IsIn, MovesHeap, Somewhere}
 use Rattle.machine.specs.Moves.{dropped}
 use Rattle.machine.specs.declared.Machine.{Machine}
@@ -33,10 +34,10 @@ pub nowhere-else : {m : Machine} {s d c l : List ℕ} → SomewhereLog m s d c l
 nowhere-else {d = d} {l = l} w = (w .0, d, l, w .1, w .2)
 
 pub log-room : {m : Machine} {s d c l : List ℕ} → SomewhereLog m s d c l → m .written ≤ length l
-log-room w = w .2 .log-room
+log-room w = w .2 .logging .fits
 
 pub stack-room : {m : Machine} {s d c l : List ℕ} → SomewhereLog m s d c l → 2 * m .depth ≤ length s
-stack-room w = w .2 .stack-room
+stack-room w = w .2 .rooms .stack-fits
 
 module _ {m : Machine} {s c l : List ℕ} (d : List ℕ) where
   pub print-short : m .depth < 1 → DoesLog (perform (bytes "print")) m s d c c l l (Fail StackUnderflow)
@@ -89,18 +90,18 @@ module _ {m : Machine} {s : List ℕ} (some : 1 ≤ m .depth) where
               omega (arith, room, Z .says e d l μ R (i .0) (i .1)),
             ))
             (let i = the-string (w .2) in
-            past (w .2 .log-room) (C .says (w .0) d₀ l (w .1) (w .2) (i .0) (i .1)))
+            past (w .2 .logging .fits) (C .says (w .0) d₀ l (w .1) (w .2) (i .0) (i .1)))
 
   -- ---- echo
 
   module _ {d c l : List ℕ} where
-    pub words : {e : List ℕ} {μ : Floo.Machine} (R : Rep m s e d c l μ) → IsIn (R .world) μ (getD (μ .stack) 0 null) (getD s (2 * (m .depth - 1)) 0) (getD s (2 * (m .depth - 1) + 1) 0)
+    pub words : {e : List ℕ} {μ : Floo.Machine} (R : Rep m s e d c l μ) → IsIn (R .world) μ (getD (μ .stack) 0 null) (itemTag s (m .depth - 1)) (itemPayload s (m .depth - 1))
     words R = word-of R 0 (m .depth - 1) (omega (arith, some))
 
-    abbrev pub echo-known : SomewhereLog m s d c l → Known d c (getD s (2 * (m .depth - 1)) 0) (getD s (2 * (m .depth - 1) + 1) 0)
+    abbrev pub echo-known : SomewhereLog m s d c l → Known d c (itemTag s (m .depth - 1)) (itemPayload s (m .depth - 1))
     echo-known w = record { small = m; stack = s; exec = w .0; log = l; machine = w .1; rep = w .2; value = getD (w .1 .stack) 0 null; words = words (w .2) }
 
-    module _ {size : ℕ} (M : Measures d c (getD s (2 * (m .depth - 1)) 0) (getD s (2 * (m .depth - 1) + 1) 0) 4 (length l - m .written) size) where
+    module _ {size : ℕ} (M : Measures d c (itemTag s (m .depth - 1)) (itemPayload s (m .depth - 1)) 4 (length l - m .written) size) where
       measured : {e : List ℕ} {μ : Floo.Machine} → Rep m s e d c l μ → size ≡ cut (length (echoed μ (getD (μ .stack) 0 null))) (length l - m .written)
       unfolding echoed
       measured {e} {μ} R = M .says m s e l μ R (getD (μ .stack) 0 null) (words R)
@@ -114,20 +115,20 @@ module _ {m : Machine} {s : List ℕ} (some : 1 ≤ m .depth) where
           over-log dropped dropped-keeps
           (λ e μ R.
           let v = getD (μ .stack) 0 null in
-          (echoed μ v ++ bytes "\n", echo-done μ (split R), omega (arith, h, measured R, longer R, R .log-room)))
+          (echoed μ v ++ bytes "\n", echo-done μ (split R), omega (arith, h, measured R, longer R, R .logging .fits)))
 
       module _ (fits : size < length l - m .written) where
-        pub echo-room : (w : SomewhereLog m s d c l) → WithRoom d c (getD s (2 * (m .depth - 1)) 0) (getD s (2 * (m .depth - 1) + 1) 0) 4 (m .written) l
+        pub echo-room : (w : SomewhereLog m s d c l) → WithRoom d c (itemTag s (m .depth - 1)) (itemPayload s (m .depth - 1)) 4 (m .written) l
         unfolding echoed
         echo-room w = record { known = echo-known w; fits = omega (arith, fits, measured (w .2)) }
 
-        module _ {mid : List ℕ} {after : ℕ} (W : Writes d c (getD s (2 * (m .depth - 1)) 0) (getD s (2 * (m .depth - 1) + 1) 0) 4 (m .written) l mid after) (same : length mid ≡ length l) where
+        module _ {mid : List ℕ} {after : ℕ} (W : Writes d c (itemTag s (m .depth - 1)) (itemPayload s (m .depth - 1)) 4 (m .written) l mid after) (same : length mid ≡ length l) where
           written : {e : List ℕ} {μ : Floo.Machine} → Rep m s e d c l μ → Written (m .written) (echoed μ (getD (μ .stack) 0 null)) l mid after
           unfolding echoed
           written {e} {μ} R = W .says m s e l μ R (getD (μ .stack) 0 null) (words R)
 
           pub line-fits : SomewhereLog m s d c l → after < length mid
-          line-fits w = omega (arith, fits, measured (w .2), written (w .2) .end, same, w .2 .log-room)
+          line-fits w = omega (arith, fits, measured (w .2), written (w .2) .end, same, w .2 .logging .fits)
 
           pub echo-good : {m′ : Machine} {c′ : List ℕ}
               → SomewhereLog m s d c l
@@ -140,7 +141,7 @@ module _ {m : Machine} {s : List ℕ} (some : 1 ≤ m .depth) where
               let v = getD (μ .stack) 0 null in (
                 echoed μ v ++ bytes "\n",
                 echo-done μ (split R),
-                last 10 (R .log-room) (line-fits w) (written R),
-                omega (arith, fits, measured R, longer R, R .log-room),
+                last 10 (R .logging .fits) (line-fits w) (written R),
+                omega (arith, fits, measured R, longer R, R .logging .fits),
               ))
-              (past (w .2 .log-room) (last 10 (w .2 .log-room) (line-fits w) (written (w .2))))
+              (past (w .2 .logging .fits) (last 10 (w .2 .logging .fits) (line-fits w) (written (w .2))))

@@ -45,7 +45,7 @@ module _ {m : Machine} {s d c l : List ℕ} where
     pub none-over : length l - m .written < 1 → DoesLog (perform (bytes "echostack")) m s d c c l l (Fail IoError)
     none-over h =
         over-log (λ μ. μ) itself-keeps
-        (λ e μ R. (lineOf μ, line-done μ, omega (arith, h, R .log-room, ap length (line-none μ (stack-depth R ∙ none)))))
+        (λ e μ R. (lineOf μ, line-done μ, omega (arith, h, R .logging .fits, ap length (line-none μ (stack-depth R ∙ none)))))
 
     pub none-good : 1 ≤ length l - m .written → DoesLog (perform (bytes "echostack")) m s d c c l (set l (m .written) 10) (Ok (withWritten (m .written + 1) m))
     none-good h =
@@ -62,17 +62,17 @@ module _ {m : Machine} {s d c l : List ℕ} where
         over-log (λ μ. μ) itself-keeps
         (λ e μ R.
         let long = leb-false (length (lineOf μ)) (length l - m .written) (sym (F .says e l μ R) ∙ q) in
-        (lineOf μ, line-done μ, omega (arith, long, R .log-room)))
+        (lineOf μ, line-done μ, omega (arith, long, R .logging .fits)))
 
     module _ (q : r ≡ true) where
       short : {e : List ℕ} {μ : Floo.Machine} → Rep m s e d c l μ → m .written + length (lineOf μ) ≤ length l
       short {e} {μ} R =
           let fits = leb-true (length (lineOf μ)) (length l - m .written) (sym (F .says e l μ R) ∙ q) in
-          omega (arith, fits, R .log-room)
+          omega (arith, fits, R .logging .fits)
 
       pub line-room : SomewhereLog m s d c l → LineRoom m s d c l
       line-room w = record { somewhere = w; fits = short (w .2) }
 
       pub line-good : {l′ : List ℕ} {after : ℕ} → SomewhereLog m s d c l → WritesLine m s d c l l′ after → DoesLog (perform (bytes "echostack")) m s d c c l l′ (Ok (withWritten after m))
       line-good w W =
-          writes-log (λ μ. μ) itself-keeps stays (λ e μ R. (lineOf μ, line-done μ, W .says e μ R, short R)) (past (w .2 .log-room) (W .says (w .0) (w .1) (w .2)))
+          writes-log (λ μ. μ) itself-keeps stays (λ e μ R. (lineOf μ, line-done μ, W .says e μ R, short R)) (past (w .2 .logging .fits) (W .says (w .0) (w .1) (w .2)))

@@ -10,9 +10,11 @@ ghost use Rattle.elements.specs.Elements.{HasString, SomewhereThat};
 ghost use Rattle.strings.specs.Strings.{CurrentSize};
 ghost use Rattle.output_operators.specs.Output.{DoesLog, SomewhereLog, CopiesCurrent, FitsLine, LineRoom, WritesLine, feedOf};
 use machine::Did;
+use machine::ITEM_PAYLOAD;
 use machine::Machine;
 use machine::TAG_STRING;
 use semantics::Error;
+use semantics::STACK_WIDTH;
 
 // Levels of arrays that are written out.
 const LEVELS: u32 = 4;
@@ -49,8 +51,8 @@ pub fn echo(m: Machine, stack: &[u32], dict: &[u32], cells: &mut [u32], log: &mu
         return Did::Fail(Error::StackUnderflow);
     }
     let k = m.depth - 1;
-    let tag = stack[2 * k];
-    let pay = stack[2 * k + 1];
+    let tag = stack[STACK_WIDTH * k];
+    let pay = stack[STACK_WIDTH * k + ITEM_PAYLOAD];
     let room = log.len() - m.written;
     let size = printing::measure(dict, cells, tag, pay, LEVELS, room);
     if room <= size {
@@ -94,8 +96,8 @@ fn stack_fits(m: Machine, stack: &[u32], dict: &[u32], cells: &[u32], room: usiz
     let mut sum = 0;
     let mut i = 0;
     while i < m.depth {
-        let tag = stack[2 * i];
-        let pay = stack[2 * i + 1];
+        let tag = stack[STACK_WIDTH * i];
+        let pay = stack[STACK_WIDTH * i + ITEM_PAYLOAD];
         let left = room - sum;
         let k = printing::measure(dict, cells, tag, pay, LEVELS, left);
         if left <= k {
@@ -115,8 +117,8 @@ fn write_stack(m: Machine, stack: &[u32], dict: &[u32], cells: &[u32], log: &mut
     let mut next = m.written;
     let mut i = 0;
     while i < m.depth {
-        let tag = stack[2 * i];
-        let pay = stack[2 * i + 1];
+        let tag = stack[STACK_WIDTH * i];
+        let pay = stack[STACK_WIDTH * i + ITEM_PAYLOAD];
         next = printing::write(dict, cells, log, next, tag, pay, LEVELS);
         i = i + 1;
         log[next] = feed(m.depth - i);

@@ -7,6 +7,7 @@ use Prim.Native.Nat.{ℕ, _+_, _*_, _≤_, _<_}
 use native.Mathlib.Omega.{arith}
 use lib.ListN.{length, take, set, getElem?, length-append, length-set}
 use lib.Seq.{take-all}
+use Rattle.semantics.specs.Sizes.{nameMost}
 use Rattle.semantics.specs.Text.{bytes}
 use Rattle.semantics.specs.Machine as Floo
 use Rattle.semantics.specs.Printing.{escaped, nameByte}
@@ -38,7 +39,7 @@ sum-begin k d = record { short = omega arith; says = λ m s e c l μ R n q. refl
 
 module _ {k : ℕ} {d : List ℕ} {size : ℕ} (Z : NameSize k d size) where
   -- A name has 31 bytes at most.
-  pub name-few : Named k d → size ≤ 31
+  pub name-few : Named k d → size ≤ nameMost
   name-few N = Z .says _ _ _ _ _ _ (N .rep) (N .name) (N .slot) .1
 
   module _ {j : ℕ} (inside : j < size) {b : ℕ} (B : NameByte k j d b) where

@@ -5,21 +5,33 @@ ghost use Rattle.run_list.specs.Heads.{Fits, Within};
 use libc::STDIN_FILENO;
 use libc::STDOUT_FILENO;
 use runner::Answer;
+use semantics::CELL_WIDTH;
+use semantics::CELLS_MOST;
+use semantics::DICTIONARY_MOST;
+use semantics::DICTIONARY_WIDTH;
+use semantics::EXEC_MOST;
+use semantics::EXEC_WIDTH;
+use semantics::HEAD_ROOM;
+use semantics::ITEM_ROOM;
+use semantics::LOG_MOST;
+use semantics::SCRIPT_MOST;
+use semantics::STACK_MOST;
+use semantics::STACK_WIDTH;
 
 // One more than setup accepts of each, where a case asks for that.
-const SCRIPT: usize = 32_769;
+const SCRIPT: usize = SCRIPT_MOST + 1;
 
-const STACK: usize = 514;
+const STACK: usize = STACK_WIDTH * (STACK_MOST + 1);
 
-const EXECUTION: usize = 1032;
+const EXECUTION: usize = EXEC_WIDTH * (EXEC_MOST + 1);
 
-const DICTIONARY: usize = 6156;
+const DICTIONARY: usize = DICTIONARY_WIDTH * (DICTIONARY_MOST + 1);
 
-const CELLS: usize = 131_076;
+const CELLS: usize = CELL_WIDTH * (CELLS_MOST + 1);
 
-const LOG: usize = 65_537;
+const LOG: usize = LOG_MOST + 1;
 
-const OUTCOME: usize = 35_072;
+const OUTCOME: usize = HEAD_ROOM + ITEM_ROOM * STACK_MOST;
 
 fn say(bytes: &[u8]) {
     io::write_all(STDOUT_FILENO, bytes);

@@ -6,6 +6,7 @@ use mathlib.Core.List.{List, [], _∷_, _++_}
 use Prim.Native.Nat.{ℕ, suc, _+_, _-_, _≤_, _<_}
 use native.Mathlib.Omega.{arith}
 use lib.ListN.{length, drop}
+use Rattle.semantics.specs.Sizes.{scriptMost, fuelMost}
 use Rattle.semantics.specs.Machine as Floo
 use Rattle.semantics.specs.Steps as steps
 use Rattle.semantics.specs.Steps.{run, finish, isFinished}
@@ -91,8 +92,8 @@ pub record RunningFrom (script : List ℕ) (fuel : ℕ) (μ₀ : Floo.Machine) (
 
 -- There is such a machine, and the run so far is from each.
 pub record Running (script : List ℕ) (fuel : ℕ) (first here : Moment) (left : ℕ) : Type 0 where
-  pub short : length script ≤ 32768
-  pub fueled : first .state .steps + fuel ≤ 1000000
+  pub short : length script ≤ scriptMost
+  pub fueled : first .state .steps + fuel ≤ fuelMost
   pub inside : here .state .next ≤ length script
   pub within : here .state .at ≤ length script
   pub count : here .state .steps + left ≡ first .state .steps + fuel

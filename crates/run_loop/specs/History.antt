@@ -5,6 +5,7 @@ use mathlib.Core.Path.{_≡_}
 use mathlib.Core.List.{List, [], _∷_, _++_}
 use Prim.Native.Nat.{ℕ, _+_, _≤_}
 use lib.ListN.{length, drop}
+use Rattle.semantics.specs.Sizes.{scriptMost, fuelMost}
 use Rattle.semantics.specs.Machine as Floo
 use Rattle.semantics.specs.Steps as steps
 use Rattle.semantics.specs.Steps.{Limits, run}
@@ -75,8 +76,8 @@ moment σ s e d c l = record { state = σ; stack = s; exec = e; dict = d; cells 
 
 -- A run may begin with any state whose words stand for a machine.
 pub record Begun (script : List ℕ) (fuel : ℕ) (st : State) (s e d c l : List ℕ) : Type 0 where
-  pub short : length script ≤ 32768
-  pub fueled : st .steps + fuel ≤ 1000000
+  pub short : length script ≤ scriptMost
+  pub fueled : st .steps + fuel ≤ fuelMost
   pub inside : st .next ≤ length script
   pub within : st .at ≤ length script
   pub machine : (μ : Floo.Machine) × Rep (st .machine) s e d c l μ

@@ -11,12 +11,14 @@ use Rattle.semantics.specs.declared.Error.the-variants.{Undefined}
 
 -- ---- dictionary
 
+-- def and load refuse an executable name (R59).
 unfoldable pub def : Operator
 def m = do
   (x, v, τ) ← pop2 m
   n ← literalName x
   ok (withDictionary (assign n v (τ .dictionary)) τ)
 
+-- An unbound name is undefined here, after underflow and typecheck (R96); a binding to null is one (R80).
 unfoldable pub load : Operator
 load m = do
   (x, τ) ← pop1 m
@@ -48,6 +50,7 @@ bound m (name false n) = name false n
 bound m (string i) = string i
 bound m (array x i) = array x i
 
+-- A procedure's own elements are replaced, in place (R58, R74).
 unfoldable pub bind : Operator
 bind m = do
   (x, τ) ← pop1 m
@@ -61,6 +64,7 @@ exec m = do
   (x, τ) ← pop1 m
   ok (enter (pending x) τ)
 
+-- With false no execution slot is needed (R79).
 unfoldable pub if′ : Operator
 if′ m = do
   (x, y, τ) ← pop2 m
@@ -73,6 +77,7 @@ ifelse m = do
   b ← bool x
   ok (enter (pending (cond b y z)) τ)
 
+-- A loop's body may be any object (R42).
 unfoldable pub loop : Operator
 loop m = do
   (x, τ) ← pop1 m
@@ -102,7 +107,7 @@ fromLoop (looping b ∷ fs) = looping b ∷ fs
 fromLoop (repeating n b ∷ fs) = repeating n b ∷ fs
 fromLoop (counting n i f b ∷ fs) = counting n i f b ∷ fs
 
--- exit drops through the innermost loop, continue what is above it; with no loop they end the run as stop does.
+-- exit drops through the innermost loop, continue what is above it (R43); with no loop they end the run as stop does (R44).
 unfoldable pub exit : Operator
 exit m = elim (fromLoop (m .exec)) [ [] ↦ ok (halt m) | f ∷ fs ↦ ok (withExec fs m) ]
 

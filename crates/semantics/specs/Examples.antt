@@ -4,6 +4,7 @@ use mathlib.Core.Path.{_≡_, refl}
 use mathlib.Core.List.{List, [], _∷_, _++_, map, reverse}
 use Prim.Native.Nat.{ℕ, _*_}
 use Prim.Native.String.{String}
+use Rattle.semantics.specs.Sizes.{nameWords, dictionaryWordsMost}
 use Rattle.semantics.specs.Text.{bytes, textual}
 use Rattle.semantics.specs.Words.{words}
 use Rattle.semantics.specs.Values.{values}
@@ -35,14 +36,14 @@ c gives e = record { computed = c; expected = bytes e }
 
 -- All that is printed for a script, with so many cells and so much fuel.
 whole : ℕ → ℕ → String → List ℕ
-whole cells fuel script = printed (bytes script) fuel (lent cells 6144)
+whole cells fuel script = printed (bytes script) fuel (lent cells dictionaryWordsMost)
 
 -- The items that a line of program leaves, bottom first.
 itemsOf : Run → List ℕ
 itemsOf r = joined (bytes " ") (map (item (r .final .machine)) (reverse (r .final .machine .stack)))
 
 left : String → List ℕ
-left s = itemsOf (run (limits (lent 4096 6144)) (bytes "#FLOO\n" ++ bytes s) 1000 initial)
+left s = itemsOf (run (limits (lent 4096 dictionaryWordsMost)) (bytes "#FLOO\n" ++ bytes s) 1000 initial)
 
 cases : List Case
 cases =
@@ -73,12 +74,12 @@ checked = (refl, (refl, (refl, (refl, (refl, (refl, (refl, (refl, (refl, (refl, 
 
 -- ---- setup and the token reading
 
-refusals : (refusal (bytes "#FLOO") 1000000 (lent 4096 6144) ≡ 0)
+refusals : (refusal (bytes "#FLOO") 1000000 (lent 4096 dictionaryWordsMost) ≡ 0)
     × (refusal (bytes "#FLO") 1000001 (lent 4096 695) ≡ 2)
     × (refusal (bytes "#FLOO") 1000001 (lent 4096 695) ≡ 3)
     × (refusal (bytes "#FLOO") 0 (lent 4096 695) ≡ 6)
-    × (refusal (bytes "#FLOO") 0 (lent 4096 696) ≡ 0)
-    × (printed (bytes "#FLOO") 0 (lent 0 696) ≡ bytes "refused=7\n")
+    × (refusal (bytes "#FLOO") 0 (lent 4096 nameWords) ≡ 0)
+    × (printed (bytes "#FLOO") 0 (lent 0 nameWords) ≡ bytes "refused=7\n")
 unfolding textual settings outcomes lent
 refusals = (refl, refl, refl, refl, refl, refl)
 

@@ -27,7 +27,8 @@ skip script offset = offset + blanks (drop offset script)
 abbrev pub Reader : Type 0
 Reader = ℕ → ℕ → ℕ → List Value → Machine → Result Taken
 
--- A group's object is made at its opening brace, so that objects are numbered in the order of their first bytes.
+-- A group's object is made at its opening brace, so that objects are numbered in the order of their first bytes; its strings and inner groups are made once,
+-- with it (R36).
 unfoldable pub opened : Machine → Machine
 opened m = make (elements []) m
 
@@ -35,7 +36,8 @@ opened m = make (elements []) m
 unfoldable pub closed : ℕ → List Value → Machine → ℕ → Result Taken
 closed i vs m after = taken (array true i) (change i (elements (reverse vs)) m) after
 
--- A token of a brace group, which ends at `after`: one element more, an inner group and what follows it, or the group's end.
+-- A token of a brace group, which ends at `after`: one element more, an inner group and what follows it, or the group's end. Every name takes a slot (R34) and
+-- none is executed (R35); the first fault from the left wins (R31).
 unfoldable pub element : Reader → ℕ → ℕ → ℕ → List Value → Machine → Token → Result Taken
 element rest i depth after vs m (Token.integer w) = rest i depth after (integer w ∷ vs) m
 element rest i depth after vs m (Token.string bs) = rest i depth after (string (made m) ∷ vs) (make (text bs) m)
@@ -55,7 +57,7 @@ group script (suc fuel) i depth offset vs m = do
   l ← lex (drop start script)
   element (group script fuel) i depth (start + l .size) vs m (l .token)
 
--- A token of the script outside braces, which ends at `after`. Braces nest at most 16 deep.
+-- A token of the script outside braces, which ends at `after`. Braces nest at most 16 deep (R31). The clause of the end is never met: a run is finished there.
 unfoldable pub tokenValue : List ℕ → Machine → ℕ → Token → Result Taken
 tokenValue script m after (Token.integer w) = taken (integer w) m after
 tokenValue script m after (Token.string bs) = taken (string (made m)) (make (text bs) m) after

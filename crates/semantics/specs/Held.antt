@@ -12,7 +12,7 @@ use Rattle.semantics.specs.Machine.{Machine, Frame, pending, running, lo
 
 -- ---- what a place names
 
--- A place is a stack item, a dictionary binding, an array element, or an execution slot.
+-- A place is a stack item, a dictionary binding, an array element, or an execution slot; circles stay held (R89).
 unfoldable pub ofValue : Value → List ℕ
 ofValue (integer w) = []
 ofValue (boolean b) = []
@@ -23,7 +23,7 @@ ofValue (name x n) = []
 ofValue (string i) = i ∷ []
 ofValue (array x i) = i ∷ []
 
--- An execution slot names its pending object, running procedure or loop body until dropped.
+-- An execution slot names its pending object, running procedure or loop body until dropped (R94); a loop's slot and its running body are two (R90).
 unfoldable pub ofFrame : Frame → List ℕ
 ofFrame (pending v) = ofValue v
 ofFrame (running i k) = i ∷ []

@@ -1,5 +1,6 @@
 -- The definition of Floo 0.5. "01" is the scope paper, "000" the language's document; R1 to R100 are the readings of docs/DECISIONS.md.
 -- The definition, to be read in this order.
+pub mod Sizes
 pub mod Text
 pub mod Words
 pub mod Values
@@ -30,5 +31,6 @@ pub mod ShortLaws
 pub mod ShortOperators
 pub mod ShortSteps
 pub mod OutcomeLaws
+pub mod AsciiLaws
 pub mod NameLaws
 pub mod HeldLaws

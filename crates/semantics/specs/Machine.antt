@@ -119,7 +119,7 @@ unfoldable pub lookup : List ℕ → List Slot → Option Value
 lookup n [] = none
 lookup n (s ∷ d) = elim (same n (s .key)) [ true ↦ s .binding | false ↦ lookup n d ]
 
--- A name's slot is bound anew; a name that has no slot takes one.
+-- A name's slot is bound anew. The first clause is never met in `def`, for a literal name has had its slot since it was met (R34, R77).
 unfoldable pub assign : List ℕ → Value → List Slot → List Slot
 assign n v [] = record { key = n; binding = some v } ∷ []
 assign n v (s ∷ d) = elim (same n (s .key)) [ true ↦ record { key = n; binding = some v } ∷ d | false ↦ s ∷ assign n v d ]

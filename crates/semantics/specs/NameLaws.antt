@@ -1,10 +1,11 @@
--- There are 54 operators and 58 predefined names (01, House rules), all different.
+-- There are as many operators and predefined names as 01 says (House rules), all different.
 -- Assumes nothing.
 use mathlib.Core.Path.{_≡_, refl}
 use mathlib.Core.Bool.{Bool, true, not, _&&_}
 use mathlib.Core.List.{List, [], _∷_, map}
 use Prim.Native.Nat.{ℕ}
 use lib.ListN.{length}
+use Rattle.semantics.specs.Sizes.{operatorCount, nameCount}
 use Rattle.semantics.specs.Text.{textual, same}
 use Rattle.semantics.specs.Machine.{Slot}
 use Rattle.semantics.specs.Operators.{Entry, _is_, table}
@@ -16,7 +17,7 @@ abbrev pub different : List (List ℕ) → Bool
 different [] = true
 different (t ∷ ts) = every (λ u. not (same t u)) ts && different ts
 
-pub operator-count : length table ≡ 54
+pub operator-count : length table ≡ operatorCount
 unfolding table
 operator-count = refl
 
@@ -24,7 +25,7 @@ pub operators-differ : different (map (λ (e : Entry). e .title) table) ≡ true
 unfolding table _is_ textual
 operators-differ = refl
 
-pub name-count : length predefined ≡ 58
+pub name-count : length predefined ≡ nameCount
 unfolding predefined table
 name-count = refl
 

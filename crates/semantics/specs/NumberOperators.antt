@@ -29,12 +29,13 @@ arithmetic1 f m = do
   a ← int x
   ok (push (integer (word (f a))) τ)
 
--- A quotient or a remainder, toward zero.
+-- A quotient or a remainder, toward zero; a remainder has the sign of the first operand (R72).
 unfoldable pub division : (ℤ → ℤ → ℤ) → ℤ → ℤ → Result ℤ
 division f a b = do
   _ ← check (not (eqb (natAbs b) 0)) UndefinedResult
   ok (f a b)
 
+-- Shifts are logical (R71).
 unfoldable pub bitshift : Operator
 bitshift m = do
   (x, y, τ) ← pop2 m
@@ -60,7 +61,7 @@ logical (name x n) = neither
 logical (string i) = neither
 logical (array x i) = neither
 
--- and, or, xor want two of one kind.
+-- and, or, xor want two of one kind (R61).
 unfoldable pub logical2 : (ℕ → ℕ → ℕ) → (Bool → Bool → Bool) → Logical → Logical → Result Value
 logical2 f g (bits a) (bits b) = ok (integer (f a b))
 logical2 f g (bits a) (truth b) = fault TypeCheck
@@ -89,7 +90,7 @@ negation m = do
 
 -- ---- relations
 
--- Two values are equal if their keys are: the kind, and what is compared. Literal or executable is ignored.
+-- Two values are equal if their keys are: the kind, and what is compared (R73). Literal or executable is ignored.
 unfoldable pub key : Machine → Value → List ℕ
 key m (integer w) = 0 ∷ w ∷ []
 key m (boolean true) = 1 ∷ 1 ∷ []

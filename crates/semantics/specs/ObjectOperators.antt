@@ -13,7 +13,7 @@ use Rattle.semantics.specs.declared.Error.the-variants.{LimitCheck, Stac
 
 -- ---- making objects
 
--- A length for array and string.
+-- A length for array and string: rangecheck, then limitcheck (R70).
 unfoldable pub newLength : Value → Result ℕ
 newLength x = do
   z ← int x
@@ -55,7 +55,7 @@ unfoldable pub aboveMark : List Value → List Value → Result (List Value × L
 aboveMark vs [] = fault UnmatchedMark
 aboveMark vs (v ∷ s) = elim (isMark v) [ true ↦ ok (vs, s) | false ↦ aboveMark (v ∷ vs) s ]
 
--- ]
+-- ], by the topmost mark, however it came there (R81)
 unfoldable pub close : Operator
 close m = do
   (vs, s) ← aboveMark [] (m .stack)
@@ -63,7 +63,7 @@ close m = do
 
 -- ---- length, get, put
 
--- The length of an array, the current length of a string.
+-- The length of an array, the current length of a string (R6).
 unfoldable pub lengthOf : Object → ℕ
 lengthOf (elements vs) = length vs
 lengthOf (text bs) = length (current bs)
@@ -90,7 +90,7 @@ get m = do
   v ← got (object τ i) n
   ok (push v τ)
 
--- Stored bytes are 0 to 255. put at position n of a string of maximum n accepts only 0, and changes nothing.
+-- Stored bytes are 0 to 255. put at position n of a string of maximum n accepts only 0, and changes nothing. The value's type comes before the ranges (R60).
 unfoldable pub putInto : Object → ℤ → Value → Result Object
 putInto (elements vs) z v = do
   n ← count z
@@ -134,7 +134,7 @@ redirect (name x n) j = name x n
 redirect (string i) j = string j
 redirect (array x i) j = array x j
 
--- getinterval keeps literal or executable.
+-- getinterval keeps literal or executable, copies zeros too (R68), and knows no limitcheck (R66).
 unfoldable pub getinterval : Operator
 getinterval m = do
   (x, y, z, τ) ← pop3 m
@@ -157,6 +157,7 @@ putAll (elements vs) (text bs) = fault TypeCheck
 putAll (text bs) (elements vs) = fault TypeCheck
 putAll (text bs) (text cs) = ok (λ start. text (pasted start cs bs))
 
+-- The whole source is read before anything is written (R69); the ranges are R67's.
 unfoldable pub putinterval : Operator
 putinterval m = do
   (x, y, z, τ) ← pop3 m
@@ -176,6 +177,7 @@ aload m = do
   i ← arrayId x
   ok (push x (withStack (reverse (elementsOf (object τ i)) ++ τ .stack) τ))
 
+-- All elements are taken before any is written (R69).
 unfoldable pub astore : Operator
 astore m = do
   (x, τ) ← pop1 m

@@ -1,4 +1,4 @@
--- The 54 operators by name (01, House rules: those of 000's 6.2 to 6.10 without glk and handleerror, and with string and print).
+-- The operators by name (01, House rules: those of 000's 6.2 to 6.10 without glk and handleerror, and with string and print). strlen and strcat are none (R1).
 -- Assumes nothing.
 use mathlib.Core.Bool.{true, false, not, _&&_, _||_, Bool·beq}
 use mathlib.Core.List.{List, [], _∷_}
@@ -82,6 +82,7 @@ table =
     ∷ (bytes "print" is print)
     ∷ []
 
+-- The clause of the empty list is never met: an operator's name is in the table.
 unfoldable pub find : List ℕ → List Entry → Operator
 find n [] m = fault Undefined
 find n (e ∷ es) m = elim (same n (e .title)) [ true ↦ e .action m | false ↦ find n es m ]

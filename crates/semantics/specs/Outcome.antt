@@ -30,6 +30,7 @@ errorText IoError = bytes "ioerror"
 unfoldable pub line : List ℕ → List ℕ → List ℕ
 line key value = key ++ bytes "=" ++ value ++ bytes "\n"
 
+-- Only an error has a name and a command (R45).
 unfoldable pub endingLines : Ending → List ℕ
 endingLines finished = bytes "ending=finished\nerror=none\ncommand=\n"
 endingLines stopped = bytes "ending=stopped\nerror=none\ncommand=\n"
@@ -40,6 +41,7 @@ unfoldable pub items : Machine → List Value → List ℕ
 items m [] = []
 items m (v ∷ vs) = line (bytes "item") (item m v) ++ items m vs
 
+-- Held is after the last step (R95).
 unfoldable pub outcome : Run → List ℕ
 outcome r =
     let σ = r .final in

@@ -1,4 +1,4 @@
--- The outcome of a run is never longer than 256 + 136 × stack slots bytes (01, Setup 9): its head has at most 249, and an item at most 136.
+-- The outcome of a run is never longer than 256 + 136 × stack slots bytes (01, Setup 9; R12): its head has at most 249, and an item at most 136.
 -- Assumes nothing.
 use mathlib.Core.Bool.{Bool, true, false}
 use mathlib.Core.List.{List}
@@ -6,6 +6,7 @@ use Prim.Native.Nat.{ℕ, suc, _+_, _*_, _≤_}
 use native.Mathlib.Omega.{arith}
 use lib.IntN.{ℤ, pos, negsuc}
 use lib.ListN.{length, length-append, length-reverse}
+use Rattle.semantics.specs.Sizes.{headRoom, itemRoom}
 use Rattle.semantics.specs.Text.{bytes, decimal}
 use Rattle.semantics.specs.Words.{signed, decimalZ}
 use Rattle.semantics.specs.Values.{Value, integer, boolean, null, mark, operator, name, string, array, current}
@@ -49,7 +50,7 @@ pub line-length : (k v : List ℕ) → length (line k v) ≤ length k + length v
 unfolding line bytes
 line-length k v = simp (line, length-append) (omega arith)
 
-items-length : (m : Machine) {vs : List Value} → All Short vs → length (items m vs) ≤ 136 * length vs
+items-length : (m : Machine) {vs : List Value} → All Short vs → length (items m vs) ≤ itemRoom * length vs
 unfolding items bytes
 items-length m nil = omega arith
 items-length m (cons {a = v} {l = vs} p ps) =
@@ -78,7 +79,7 @@ ending-length outOfFuel = omega arith
 ending-length (failed e c) =
     simp length-append (omega (arith, line-length (bytes "error") (errorText e), line-length (bytes "command") c, error-length e))
 
-outcome-length : (l : Limits) (r : Run) → SoundRun l r → length (outcome r) ≤ 256 + 136 * l .stackSlots
+outcome-length : (l : Limits) (r : Run) → SoundRun l r → length (outcome r) ≤ headRoom + itemRoom * l .stackSlots
 unfolding outcome bytes
 outcome-length l r h =
     let σ = r .final in
@@ -105,5 +106,5 @@ outcome-length l r h =
 
 -- ---- the theorem
 
-pub outcome-fits : (l : Limits) (script : List ℕ) (fuel : ℕ) → length (outcome (run l script fuel initial)) ≤ 256 + 136 * l .stackSlots
+pub outcome-fits : (l : Limits) (script : List ℕ) (fuel : ℕ) → length (outcome (run l script fuel initial)) ≤ headRoom + itemRoom * l .stackSlots
 outcome-fits l script fuel = outcome-length l (run l script fuel initial) (run-sound l script fuel initial (initial-sound l))

@@ -5,6 +5,7 @@ use mathlib.Core.List.{List, [], _∷_, _++_}
 use Prim.Native.Nat.{ℕ, zero, suc, _+_, _-_, _*_, _/_}
 use lib.ListN.{length, take, drop}
 use lib.Dec.{ltb}
+use Rattle.semantics.specs.Sizes.{nameCount, stackWidth, execWidth, dictionaryWidth, cellWidth, scriptMost, fuelMost, stackLeast, stackMost, execLeast, execMost, dictionaryMost, cellsLeast, cellsMost, logMost, headRoom, itemRoom}
 use Rattle.semantics.specs.Text.{bytes, same, decimal}
 use Rattle.semantics.specs.Values.{ok, fault}
 use Rattle.semantics.specs.Tokens.{Token, Lexeme, lex, within}
@@ -30,10 +31,10 @@ pub record Lent : Type 0 where
 unfoldable pub limits : Lent → Limits
 limits l =
     record {
-      stackSlots = l .stackWords / 2;
-      execSlots = l .execWords / 8;
-      dictionarySlots = l .dictionaryWords / 12;
-      cellCount = l .cellWords / 4;
+      stackSlots = l .stackWords / stackWidth;
+      execSlots = l .execWords / execWidth;
+      dictionarySlots = l .dictionaryWords / dictionaryWidth;
+      cellCount = l .cellWords / cellWidth;
       logBytes = l .logBytes;
     }
 
@@ -43,25 +44,26 @@ firstFrom n [] = 0
 firstFrom n (t ∷ ts) = elim t [ true ↦ n | false ↦ firstFrom (suc n) ts ]
 
 unfoldable pub isTooLong : List ℕ → Bool
-isTooLong script = ltb 32768 (length script)
+isTooLong script = ltb scriptMost (length script)
 
--- The refusals 1 to 9; 0 where the run is made.
+-- The refusals 1 to 9, the first that applies (R7); 0 where the run is made. The limits themselves are accepted (R9); refusal 9 goes by whole slots (R10), and only
+-- the first five bytes must be #FLOO (R8).
 unfoldable pub refusal : List ℕ → ℕ → Lent → ℕ
 refusal script fuel l =
     let s = limits l in
     firstFrom 1
     (isTooLong script
     ∷ not (same (take 5 script) (bytes "#FLOO"))
-    ∷ ltb 1000000 fuel
-    ∷ not (within 8 256 (s .stackSlots))
-    ∷ not (within 4 128 (s .execSlots))
-    ∷ not (within 58 512 (s .dictionarySlots))
-    ∷ not (within 1 32768 (s .cellCount))
-    ∷ ltb 65536 (l .logBytes)
-    ∷ ltb (l .outcomeBytes) (256 + 136 * s .stackSlots)
+    ∷ ltb fuelMost fuel
+    ∷ not (within stackLeast stackMost (s .stackSlots))
+    ∷ not (within execLeast execMost (s .execSlots))
+    ∷ not (within nameCount dictionaryMost (s .dictionarySlots))
+    ∷ not (within cellsLeast cellsMost (s .cellCount))
+    ∷ ltb logMost (l .logBytes)
+    ∷ ltb (l .outcomeBytes) (headRoom + itemRoom * s .stackSlots)
     ∷ [])
 
--- What the program prints: the log, then the outcome, or the refusal.
+-- What the program prints: the log, then the outcome (R88), or the refusal (R11).
 unfoldable pub printed : List ℕ → ℕ → Lent → List ℕ
 printed script fuel l =
     elim (refusal script fuel l) [
@@ -86,7 +88,7 @@ pub data Reading : Type 0 where
   faulty : Error → Reading
   read : Kind → ℕ → ℕ → ℕ → Reading  -- the kind, the offset after it, and where its own bytes begin and how many they are
 
--- A string's own bytes are without quotes, a literal name's without its slash.
+-- A string's own bytes are without quotes, a literal name's without its slash; a brace's and a bracket's are itself (R15, R16).
 unfoldable pub readingOf : ℕ → Lexeme → Reading
 readingOf start l =
     let after = start + l .size in
@@ -100,6 +102,7 @@ readingOf start l =
       | Token.end ↦ read End after start 0
     ]
 
+-- It asks for no #FLOO and starts afresh at any offset (R13); the length is the end (R14). Escapes and ranges are judged as in a run (R17).
 unfoldable pub reading : List ℕ → ℕ → Reading
 reading script offset =
     elim (isTooLong script) [

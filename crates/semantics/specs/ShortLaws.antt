@@ -5,6 +5,7 @@ use mathlib.Core.Option.{some}
 use Prim.Native.Nat.{ℕ, _≤_}
 use lib.ListN.{length}
 use lib.Dec.{leb, leb→le, T}
+use Rattle.semantics.specs.Sizes.{nameMost}
 use Rattle.semantics.specs.Text.{same}
 use Rattle.semantics.specs.Values.{ok, fault, Value, integer, boolean, null, mark, operator, name, string, array, Object, elements, text}
 use Rattle.semantics.specs.Machine.{Machine, Frame, pending, running, looping, repeating, counting, Slot, withStack, withExec, withDictionary, withStore, write, halt, push, enter, pop1, pop2, pop3, pop4, object, elementsOf, make, change, lookup, assign, slotted, intern}
@@ -27,7 +28,7 @@ spelling (string i) = []
 spelling (array x i) = []
 
 pub record Short (v : Value) : Type 0 where
-  pub brief : length (spelling v) ≤ 31
+  pub brief : length (spelling v) ≤ nameMost
 
 -- The value that a frame holds; a running procedure is named by its object alone.
 abbrev pub valueOf : Frame → Value
@@ -53,8 +54,8 @@ pub record Tame (m : Machine) : Type 0 where
   pub store : All ShortObject (m .store)
 
 -- A value without a name is short.
-pub plain : {v : Value} → T (leb (length (spelling v)) 31) → Short v
-plain t = record { brief = leb→le _ 31 t }
+pub plain : {v : Value} → T (leb (length (spelling v)) nameMost) → Short v
+plain t = record { brief = leb→le _ nameMost t }
 
 pub array-short : {vs : List Value} → All Short vs → ShortObject (elements vs)
 unfolding elementsOf

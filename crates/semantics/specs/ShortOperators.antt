@@ -7,6 +7,7 @@ use Prim.Native.Nat.{ℕ, _+_}
 use lib.IntN.{ℤ}
 use lib.ListN.{length}
 use lib.Dec.{leb→le}
+use Rattle.semantics.specs.Sizes.{nameMost}
 use Rattle.semantics.specs.Text.{same}
 use Rattle.semantics.specs.Values.{Result, ok, Value, integer, boolean, null, mark, operator, name, string, array, Object, elements, text}
 use Rattle.semantics.specs.Machine.{Machine, Frame, pending, running, looping, repeating, counting, withExec, halt, enter, object, elementsOf}
@@ -395,7 +396,7 @@ unfolding cvn
 cvn-keeps m h =
     gives-then (popped1 h)
     (λ p k. gives-then (gives-any _)
-    (λ i u. gives-then (gives-check _ _) (λ d t. gives (pushed (interned (k .1) _) (record { brief = leb→le _ 31 t })))))
+    (λ i u. gives-then (gives-check _ _) (λ d t. gives (pushed (interned (k .1) _) (record { brief = leb→le _ nameMost t })))))
 
 print-keeps : Keeps print
 unfolding print

@@ -7,6 +7,7 @@ use Prim.Native.Nat.{ℕ, zero, suc, _+_, _*_, _≤_}
 use native.Mathlib.Omega.{arith}
 use lib.ListN.{length, length-append}
 use lib.Dec.{T, leb, leb→le, eqb}
+use Rattle.semantics.specs.Sizes.{nameMost}
 use Rattle.semantics.specs.Text.{bytes, octal}
 use Rattle.semantics.specs.Words.{signed}
 use Rattle.semantics.specs.Values.{Result, ok, fault, _>>=_, Value, integer, boolean, null, mark, operator, name, string, array}
@@ -38,14 +39,14 @@ spelled Token.closeBrace = []
 spelled Token.end = []
 
 record ShortToken (t : Token) : Type 0 where
-  brief : length (spelled t) ≤ 31
+  brief : length (spelled t) ≤ nameMost
 
-unnamed : {t : Token} → T (leb (length (spelled t)) 31) → ShortToken t
-unnamed t = record { brief = leb→le _ 31 t }
+unnamed : {t : Token} → T (leb (length (spelled t)) nameMost) → ShortToken t
+unnamed t = record { brief = leb→le _ nameMost t }
 
 nameOf-short : (x : Bool) (n : List ℕ) → Gives ShortToken (nameOf x n)
 unfolding nameOf
-nameOf-short x n = gives-then (gives-check _ _) (λ u t. gives (record { brief = leb→le (length n) 31 t }))
+nameOf-short x n = gives-then (gives-check _ _) (λ u t. gives (record { brief = leb→le (length n) nameMost t }))
 
 runToken-short : (n : List ℕ) → Gives ShortToken (runToken n)
 unfolding runToken
@@ -288,9 +289,9 @@ run-sound l script (suc fuel) σ h =
 
 -- ---- the start
 
-titles-short : All (λ (e : Entry). T (leb (length (e .title)) 31)) table
+titles-short : All (λ (e : Entry). T (leb (length (e .title)) nameMost)) table
 unfolding table _is_ bytes
-titles-short = all-every (λ e. leb (length (e .title)) 31) table tt
+titles-short = all-every (λ e. leb (length (e .title)) nameMost) table tt
 
 slot-short : (n : List ℕ) {v : Value} → Short v → ShortSlot (slot n v)
 unfolding slot

@@ -40,6 +40,7 @@ pub record Move : Type 0 where
 
 -- ---- executing
 
+-- Pushed literals have none (R50, R51); an operator's is its own name, whatever name led to it (R53). Names are escaped, without a slash (R55).
 unfoldable pub commandOf : Value → List ℕ
 commandOf (integer w) = []
 commandOf (boolean b) = []
@@ -51,7 +52,7 @@ commandOf (name false n) = []
 commandOf (string i) = []
 commandOf (array x i) = []
 
--- Executing a name makes its binding pending; a pending procedure becomes a running one; literals are pushed.
+-- Executing a name makes its binding pending, in the step that meets the name (R40); a pending procedure becomes a running one; literals are pushed.
 unfoldable pub execute : Value → Machine → Result Machine
 execute (integer w) m = ok (push (integer w) m)
 execute (boolean b) m = ok (push (boolean b) m)
@@ -76,13 +77,13 @@ isProcedure (name x n) = false
 isProcedure (string i) = false
 isProcedure (array x i) = x
 
--- Taken from a procedure or the script: executable names and operators are executed; all else, procedures too, is pushed.
+-- Taken from a procedure or the script: executable names and operators are executed; all else, procedures too, is pushed (R48).
 unfoldable pub treat : Value → Machine → Result Machine
 treat v m = elim (isProcedure v) [ true ↦ ok (push v m) | false ↦ execute v m ]
 
 -- ---- the top of the execution stack
 
--- A step in which no operator or name is executed.
+-- A step in which no operator or name is executed, a loop's among them (R52).
 unfoldable pub silent : Result Machine → Move
 silent r = record { command = []; result = r }
 
@@ -94,7 +95,8 @@ beyond next increment final = elim (nonNeg increment) [ true ↦ ltZ final next 
 unfoldable pub following : ℕ → ℕ → ℕ
 following next increment = word (signed next +ℤ signed increment)
 
--- The frame acts; it has been dropped from the machine.
+-- The frame acts; it has been dropped from the machine, so that a pending object never needs a second slot (R39). A finished procedure or loop takes a step of
+-- its own (R38, R41); elements are read when met (R49).
 unfoldable pub resume : Frame → Machine → Move
 resume (pending v) m = record { command = commandOf v; result = execute v m }
 resume (running i k) m =
@@ -113,16 +115,18 @@ resume (counting n i f b) m =
 
 -- ---- room
 
--- The cells of the objects that the step makes.
+-- The cells of the objects that the step makes, inner groups and strings too (R92); an empty one takes a cell (R93).
 unfoldable pub newCells : Machine → Machine → ℕ
 newCells before after = sumOf cells (drop (length (before .store)) (after .store))
 
--- VMerror goes by the cells that are lent, less those of the objects held before the step. A step that makes nothing wants none.
+-- VMerror goes by the cells that are lent, less those of the objects held before the step. The clause for zero is there for computing only, so that held is
+-- not asked where nothing is made: the test of the other clause always passes there (R91).
 unfoldable pub cellsFor : Limits → Machine → ℕ → Result (Unit {0})
 cellsFor l before zero = ok tt
 cellsFor l before (suc n) = check (leb (suc n) (l .cellCount - heldCells before)) VmError
 
--- The last errors in the order, by what the machine after the step would need.
+-- The last errors in the order, by what the machine after the step would need (R65, R100): slots, also those of a whole group (R33, R97), the execution stack
+-- (R99), the stack (R98), cells, and the log's whole text (R87).
 unfoldable pub roomFor : Limits → Machine → Machine → Result Machine
 roomFor l before after = do
   _ ← check (leb (length (after .dictionary)) (l .dictionarySlots)) LimitCheck
@@ -152,6 +156,7 @@ unfoldable pub tokenMove : Result Taken → Move
 tokenMove (fault e) = silent (fault e)
 tokenMove (ok t) = record { command = commandOf (t .value); result = treat (t .value) (t .machine) }
 
+-- A failing step leaves the bytes that are left as they were; `at` moves (R47), to a brace group's opening brace (R32).
 unfoldable pub offsetAfter : ℕ → Result Taken → ℕ
 offsetAfter start (fault e) = start
 offsetAfter start (ok t) = t .after
@@ -181,7 +186,7 @@ unfoldable pub isEmpty : {A : Type 0} → List A → Bool
 isEmpty [] = true
 isEmpty (a ∷ l) = false
 
--- Only space and comment are left, and the execution stack is empty.
+-- Only space and comment are left, and the execution stack is empty (R46).
 unfoldable pub isFinished : List ℕ → State → Bool
 isFinished script σ = elim (isEmpty (σ .machine .exec)) [ true ↦ eqb (skip script (σ .next)) (length script) | false ↦ false ]
 
@@ -205,7 +210,7 @@ run l script (suc fuel) σ =
 unfoldable pub slot : List ℕ → Value → Slot
 slot n v = record { key = n; binding = some v }
 
--- The operators by their names, and [, true, false and null.
+-- The operators by their names, and [, true, false and null. `[` and mark are two names of one operator (R2); all may be rebound (R4).
 unfoldable pub predefined : List Slot
 predefined =
     map (λ (e : Entry). slot (e .title) (operator (e .title))) table

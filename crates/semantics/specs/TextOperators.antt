@@ -5,6 +5,7 @@ use mathlib.Core.List.{List, _++_, map, reverse}
 use Prim.Native.Nat.{ℕ}
 use lib.ListN.{length, drop, set}
 use lib.Dec.{leb}
+use Rattle.semantics.specs.Sizes.{nameMost}
 use Rattle.semantics.specs.Text.{bytes}
 use Rattle.semantics.specs.Values.{ok, _>>=_, check, Value, integer, boolean, null, mark, operator, name, string, array, text, current, stringId}
 use Rattle.semantics.specs.Machine.{write, push, pop1, pop2, object, bytesOf, change, intern}
@@ -14,7 +15,7 @@ use Rattle.semantics.specs.declared.Error.the-variants.{LimitCheck, Rang
 
 -- ---- conversions
 
--- The text first, then a zero if room remains; the bytes after it stay.
+-- The text first, then a zero if room remains; the bytes after it stay (R75).
 unfoldable pub overwrite : List ℕ → List ℕ → List ℕ
 overwrite t bs = t ++ drop (length t) (set bs (length t) 0)
 
@@ -38,22 +39,24 @@ asExecutable e (name x n) = name e n
 asExecutable e (string i) = string i
 asExecutable e (array x i) = array e i
 
--- cvx and cvlit
+-- cvx and cvlit change the reference on the stack only (R76).
 unfoldable pub convert : Bool → Operator
 convert e m = do
   (x, τ) ← pop1 m
   ok (push (asExecutable e x) τ)
 
+-- Any current bytes make a name (R77), none too (R78).
 unfoldable pub cvn : Operator
 cvn m = do
   (x, τ) ← pop1 m
   i ← stringId x
   let n = current (bytesOf (object τ i))
-  _ ← check (leb (length n) 31) LimitCheck
+  _ ← check (leb (length n) nameMost) LimitCheck
   ok (push (name false n) (intern n τ))
 
 -- ---- output
 
+-- The bytes before the first zero, unescaped, with no LF (R5).
 unfoldable pub print : Operator
 print m = do
   (x, τ) ← pop1 m
@@ -65,6 +68,7 @@ echo m = do
   (x, τ) ← pop1 m
   ok (write (echoed τ x ++ bytes "\n") τ)
 
+-- Of an empty stack LF alone (R86).
 unfoldable pub echostack : Operator
 echostack m = ok (write (joined (bytes " ") (map (echoed m) (reverse (m .stack))) ++ bytes "\n") m)
 

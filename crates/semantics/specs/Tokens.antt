@@ -6,6 +6,7 @@ use Prim.Native.Nat.{ℕ, zero, suc, _+_, _-_, _*_, _^_}
 use lib.IntN.{pos, negℤ}
 use lib.ListN.{length, take, drop}
 use lib.Dec.{leb, ltb, eqb}
+use Rattle.semantics.specs.Sizes.{nameMost}
 use Rattle.semantics.specs.Words.{word}
 use Rattle.semantics.specs.Values.{Result, ok, fault, _>>=_, check}
 use Rattle.semantics.specs.declared.Error.the-variants.{SyntaxError, LimitCheck}
@@ -45,7 +46,7 @@ classOf b =
 
 -- ---- space and comment
 
--- A byte of space or comment; # begins a comment.
+-- A byte of space or comment; # begins a comment, which ends before CR or LF (R29).
 unfoldable pub isBlank : Bool → ℕ → Bool
 isBlank inComment b = inComment || isSpace b || eqb b 35
 
@@ -63,7 +64,7 @@ blanksIn inComment (b ∷ s) =
 unfoldable pub blanks : List ℕ → ℕ
 blanks s = blanksIn false s
 
--- How many name bytes come first.
+-- How many name bytes come first: a run is taken as long as it goes (R18).
 unfoldable pub run : List ℕ → ℕ
 run [] = 0
 run (b ∷ s) = elim (isNameByte b) [ true ↦ suc (run s) | false ↦ 0 ]
@@ -79,24 +80,24 @@ digitsFrom base n [] = ok n
 digitsFrom base n (b ∷ s) =
     elim (ltb (digit b) base) [ true ↦ digitsFrom base (n * base + digit b) s | false ↦ fault SyntaxError ]
 
--- The number that one or more digits write.
+-- The number that one or more digits write; a run that begins as a number must be one (R19). Leading zeros do not count (R22).
 unfoldable pub digits : ℕ → List ℕ → Result ℕ
 digits base [] = fault SyntaxError
 digits base (b ∷ s) = digitsFrom base 0 (b ∷ s)
 
--- A digit, or - and a digit.
+-- A digit, or - and a digit; `-`, `-x` and `+5` are names (R21).
 unfoldable pub startsNumber : List ℕ → Bool
 startsNumber [] = false
 startsNumber (b ∷ []) = isDigit b
 startsNumber (b ∷ c ∷ s) = isDigit b || (eqb b 45 && isDigit c)
 
--- n where it is at most the limit, else limitcheck.
+-- n where it is at most the limit, else limitcheck: form is judged before size (R22).
 unfoldable pub upTo : ℕ → ℕ → Result ℕ
 upTo limit n = do
   _ ← check (leb n limit) LimitCheck
   ok n
 
--- -12, 0xC, 12
+-- -12, 0xC, 12; 0X1F is none of them (R20)
 pub data Form : Type 0 where
   negative hexadecimal plain : Form
 
@@ -128,16 +129,16 @@ pub data Act : Type 0 where
   go : Met → Act
   close bad : Act
 
--- Outside an escape: a quote closes, a line break is bad, and each byte but the backslash stands for itself.
+-- Outside an escape: a quote closes, a line break is bad, and each byte but the backslash stands for itself, byte 0 too (R28).
 unfoldable pub plainAct : ℕ → Act
 plainAct b = cond (eqb b 34) close (cond (eqb b 92) (go backslash) (cond (isBreak b) bad (byte b)))
 
--- After an octal digit: the byte is at most 377.
+-- After an octal digit: exactly three, at most 377 (R26).
 unfoldable pub octalAct : ℕ → ℕ → Act
 octalAct zero v = cond (ltb v 256) (byte v) bad
 octalAct (suc k) v = go (octal (suc k) v)
 
--- \n, \", \NNN, and backslash with a line break, which vanishes
+-- \n, \", \NNN, and backslash with a line break, which vanishes; CR LF is one break (R27). \\ is no escape (R25).
 unfoldable pub act : Met → ℕ → Act
 act nothing b = plainAct b
 act backslash b =
@@ -184,10 +185,10 @@ pub record Lexeme : Type 0 where
 unfoldable pub lexeme : Token → ℕ → Result Lexeme
 lexeme t n = ok (record { token = t; size = n })
 
--- Names have at most 31 bytes, else limitcheck.
+-- Names have at most 31 bytes, without the slash, else limitcheck (R24).
 unfoldable pub nameOf : Bool → List ℕ → Result Token
 nameOf executable n = do
-  _ ← check (leb (length n) 31) LimitCheck
+  _ ← check (leb (length n) nameMost) LimitCheck
   ok (name executable n)
 
 -- A run of name bytes: a number, which must be a whole one, or an executable name.
@@ -198,7 +199,7 @@ runToken n =
       | false ↦ nameOf true n
     ]
 
--- What follows a slash: a name byte, and not a number's beginning.
+-- What follows a slash: a name byte, and not a number's beginning, judged before the length (R23).
 unfoldable pub slashToken : List ℕ → Result Token
 slashToken n =
     elim (eqb (length n) 0 || startsNumber n) [

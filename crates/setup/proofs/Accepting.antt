@@ -6,6 +6,7 @@ use mathlib.Core.List.{List, _∷_}
 use Prim.Native.Nat.{ℕ, suc}
 use native.Mathlib.Omega.{arith}
 use borrow.Author.Tests.{ltb-false, not-false}
+use Rattle.semantics.specs.Sizes.{nameCount, stackLeast, stackMost, execLeast, execMost, dictionaryMost, cellsLeast, cellsMost}
 use Rattle.semantics.specs.Setup.{Lent, refusal}
 use Rattle.setup.specs.Lending.{Accepted}
 use Rattle.setup.proofs.Refusing.{Decides, untested, fails, holds, from-to}
@@ -30,10 +31,10 @@ accepted script fuel l z =
       short = ltb-false _ _ short;
       begins = not-false _ begins;
       fueled = ltb-false _ _ fueled;
-      stackSlots = from-to 8 256 _ stack;
-      execSlots = from-to 4 128 _ exec;
-      dictionarySlots = from-to 58 512 _ dictionary;
-      cellCount = from-to 1 32768 _ cells;
+      stackSlots = from-to stackLeast stackMost _ stack;
+      execSlots = from-to execLeast execMost _ exec;
+      dictionarySlots = from-to nameCount dictionaryMost _ dictionary;
+      cellCount = from-to cellsLeast cellsMost _ cells;
       logBytes = ltb-false _ _ log;
       outcomeBytes = ltb-false _ _ outcome;
     }

@@ -7,6 +7,7 @@ use Prim.Native.Nat.{ℕ, suc, _+_, _*_, _/_, _<_, _≤_}
 use lib.ListN.{length, take, drop}
 use lib.Dec.{leb, ltb}
 use borrow.Author.Tests.{le-leb, lt-leb, lt-ltb, le-ltb, leb-true, leb-false, ltb-false}
+use Rattle.semantics.specs.Sizes.{nameCount, stackWidth, execWidth, dictionaryWidth, cellWidth, scriptMost, fuelMost, stackLeast, stackMost, execLeast, execMost, dictionaryMost, cellsLeast, cellsMost, logMost, headRoom, itemRoom}
 use Rattle.semantics.specs.Text.{bytes, same}
 use Rattle.semantics.specs.Tokens.{within}
 use Rattle.semantics.specs.Setup.{Lent, limits, firstFrom, isTooLong, refusal}
@@ -34,15 +35,15 @@ none-holds D = sym (D .first)
 
 abbrev pub tests : List ℕ → ℕ → Lent → List Bool
 tests script fuel l =
-    ltb 32768 (length script)
+    ltb scriptMost (length script)
     ∷ not (same (take 5 script) (bytes "#FLOO"))
-    ∷ ltb 1000000 fuel
-    ∷ not (within 8 256 (l .stackWords / 2))
-    ∷ not (within 4 128 (l .execWords / 8))
-    ∷ not (within 58 512 (l .dictionaryWords / 12))
-    ∷ not (within 1 32768 (l .cellWords / 4))
-    ∷ ltb 65536 (l .logBytes)
-    ∷ ltb (l .outcomeBytes) (256 + 136 * (l .stackWords / 2))
+    ∷ ltb fuelMost fuel
+    ∷ not (within stackLeast stackMost (l .stackWords / stackWidth))
+    ∷ not (within execLeast execMost (l .execWords / execWidth))
+    ∷ not (within nameCount dictionaryMost (l .dictionaryWords / dictionaryWidth))
+    ∷ not (within cellsLeast cellsMost (l .cellWords / cellWidth))
+    ∷ ltb logMost (l .logBytes)
+    ∷ ltb (l .outcomeBytes) (headRoom + itemRoom * (l .stackWords / stackWidth))
     ∷ []
 
 -- The first k tests fail: the rest decides.

@@ -5,6 +5,7 @@ use mathlib.Core.Bool.{true}
 use mathlib.Core.List.{List}
 use Prim.Native.Nat.{ℕ, _+_, _*_, _/_, _≤_}
 use lib.ListN.{length, take}
+use Rattle.semantics.specs.Sizes.{nameCount, stackWidth, execWidth, dictionaryWidth, cellWidth, scriptMost, fuelMost, stackLeast, stackMost, execLeast, execMost, dictionaryMost, cellsLeast, cellsMost, logMost, headRoom, itemRoom}
 use Rattle.semantics.specs.Text.{bytes, same}
 use Rattle.semantics.specs.Setup as setup
 use Rattle.setup.specs.declared.Lent.{Lent}
@@ -22,12 +23,12 @@ lentOf l =
 
 -- None of the tests 1 to 9 holds.
 pub record Accepted (script : List ℕ) (fuel : ℕ) (l : setup.Lent) : Type 0 where
-  pub short : length script ≤ 32768
+  pub short : length script ≤ scriptMost
   pub begins : same (take 5 script) (bytes "#FLOO") ≡ true
-  pub fueled : fuel ≤ 1000000
-  pub stackSlots : (8 ≤ l .stackWords / 2) × (l .stackWords / 2 ≤ 256)
-  pub execSlots : (4 ≤ l .execWords / 8) × (l .execWords / 8 ≤ 128)
-  pub dictionarySlots : (58 ≤ l .dictionaryWords / 12) × (l .dictionaryWords / 12 ≤ 512)
-  pub cellCount : (1 ≤ l .cellWords / 4) × (l .cellWords / 4 ≤ 32768)
-  pub logBytes : l .logBytes ≤ 65536
-  pub outcomeBytes : 256 + 136 * (l .stackWords / 2) ≤ l .outcomeBytes
+  pub fueled : fuel ≤ fuelMost
+  pub stackSlots : (stackLeast ≤ l .stackWords / stackWidth) × (l .stackWords / stackWidth ≤ stackMost)
+  pub execSlots : (execLeast ≤ l .execWords / execWidth) × (l .execWords / execWidth ≤ execMost)
+  pub dictionarySlots : (nameCount ≤ l .dictionaryWords / dictionaryWidth) × (l .dictionaryWords / dictionaryWidth ≤ dictionaryMost)
+  pub cellCount : (cellsLeast ≤ l .cellWords / cellWidth) × (l .cellWords / cellWidth ≤ cellsMost)
+  pub logBytes : l .logBytes ≤ logMost
+  pub outcomeBytes : headRoom + itemRoom * (l .stackWords / stackWidth) ≤ l .outcomeBytes

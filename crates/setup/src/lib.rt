@@ -7,6 +7,23 @@ ghost use Rattle.semantics.specs.Text.{bytes, same};
 ghost use Rattle.semantics.specs.Tokens.{within};
 ghost use Rattle.semantics.specs.Setup as setup;
 ghost use Rattle.setup.specs.Lending.{lentOf};
+use semantics::CELL_WIDTH;
+use semantics::CELLS_LEAST;
+use semantics::CELLS_MOST;
+use semantics::DICTIONARY_MOST;
+use semantics::DICTIONARY_WIDTH;
+use semantics::EXEC_LEAST;
+use semantics::EXEC_MOST;
+use semantics::EXEC_WIDTH;
+use semantics::FUEL_MOST;
+use semantics::HEAD_ROOM;
+use semantics::ITEM_ROOM;
+use semantics::LOG_MOST;
+use semantics::NAME_COUNT;
+use semantics::SCRIPT_MOST;
+use semantics::STACK_LEAST;
+use semantics::STACK_MOST;
+use semantics::STACK_WIDTH;
 
 // What a caller lends: the lengths of the four buffers of 32-bit words, and of the two of bytes.
 pub struct Lent {
@@ -23,33 +40,33 @@ pub struct Lent {
 pub fn refusal(script: &[u8], fuel: u32, lent: Lent) -> u32
     ensures { λ r. ⌜ r ≡ setup.refusal (now (script .entry)) fuel (lentOf lent) ⌝ }
 {
-    if 32768 < script.len() {
+    if SCRIPT_MOST < script.len() {
         return 1;
     }
     if !begins(script) {
         return 2;
     }
-    if 1000000 < fuel {
+    if FUEL_MOST < fuel {
         return 3;
     }
-    let slots = lent.stack / 2;
-    if outside(8, 256, slots) {
+    let slots = lent.stack / STACK_WIDTH;
+    if outside(STACK_LEAST, STACK_MOST, slots) {
         return 4;
     }
-    if outside(4, 128, lent.exec / 8) {
+    if outside(EXEC_LEAST, EXEC_MOST, lent.exec / EXEC_WIDTH) {
         return 5;
     }
-    if outside(58, 512, lent.dict / 12) {
+    if outside(NAME_COUNT, DICTIONARY_MOST, lent.dict / DICTIONARY_WIDTH) {
         return 6;
     }
-    if outside(1, 32768, lent.cells / 4) {
+    if outside(CELLS_LEAST, CELLS_MOST, lent.cells / CELL_WIDTH) {
         return 7;
     }
-    if 65536 < lent.log {
+    if LOG_MOST < lent.log {
         return 8;
     }
-    // At most 256 slots here, so that the product fits.
-    if lent.outcome < 256 + 136 * slots {
+    // The slots are few here, so that the product fits.
+    if lent.outcome < HEAD_ROOM + ITEM_ROOM * slots {
         return 9;
     }
     0

@@ -17,12 +17,9 @@ use machine::OneInt;
 use machine::TAG_MARK;
 use machine::TwoInts;
 use semantics::Error;
-
-// The sign bit: from here on a word is a negative integer.
-const SIGN: u32 = 0x8000_0000;
-
-// Every bit: -1.
-const ALL_ONES: u32 = 0xFFFF_FFFF;
+use semantics::STACK_WIDTH;
+use word::ALL_ONES;
+use word::SIGN;
 
 // Ruled out: stackoverflow where the stack is empty, and a copy whose object is not counted.
 pub fn dup(m: Machine, stack: &mut [u32], cells: &mut [u32]) -> Did
@@ -32,7 +29,7 @@ pub fn dup(m: Machine, stack: &mut [u32], cells: &mut [u32]) -> Did
     if m.depth < 1 {
         return Did::Fail(Error::StackUnderflow);
     }
-    if stack.len() < 2 * m.depth + 2 {
+    if stack.len() < STACK_WIDTH * m.depth + STACK_WIDTH {
         return Did::Fail(Error::StackOverflow);
     }
     Did::Ok(m.push_copy(stack, cells, 0))
@@ -142,7 +139,7 @@ pub fn mark(m: Machine, stack: &mut [u32]) -> Did
     ensures { λ r. ⌜ DoesStack (perform (bytes "mark")) m (now (stack .entry)) (now (stack .exit)) r ⌝ }
 {
     let n = m.depth;
-    if stack.len() - 2 * n < 2 {
+    if stack.len() - STACK_WIDTH * n < STACK_WIDTH {
         return Did::Fail(Error::StackOverflow);
     }
     Did::Ok(m.push_scalar(stack, TAG_MARK, 0))

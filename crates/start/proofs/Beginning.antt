@@ -8,6 +8,7 @@ use mathlib.Core.Option.{some}
 use Prim.Native.Nat.{ℕ, zero, suc, _+_, _/_, _%_, _≤_}
 use native.Mathlib.Omega.{arith}
 use lib.ListN.{length, take, getElem?}
+use Rattle.semantics.specs.Sizes.{operatorCount, nameCount, cellsMost, nameWords, dictionaryWordsMost}
 use Rattle.semantics.specs.Machine.{Slot}
 use Rattle.semantics.specs.Operators.{_is_, table}
 use Rattle.semantics.specs.Steps as Steps
@@ -35,7 +36,7 @@ keys-are : keys (initial .machine) ≡ map (λ (s : Slot). s .key) predefined
 unfolding initial
 keys-are = refl
 
-titled : take 54 (keys (initial .machine)) ≡ titles
+titled : take operatorCount (keys (initial .machine)) ≡ titles
 unfolding initial predefined titles Steps.slot table
 titled = refl
 
@@ -55,7 +56,7 @@ no-root r i = by (r % 4)
 abbrev world : World
 world = record { ρ = λ _. 0; ghost = blank }
 
-stored : {lists : Lists} {c : List ℕ} → Empty lists → cells c ≤ 32768 → Stored world lists c (keys (initial .machine)) [] (roots (initial .machine))
+stored : {lists : Lists} {c : List ℕ} → Empty lists → cells c ≤ cellsMost → Stored world lists c (keys (initial .machine)) [] (roots (initial .machine))
 stored {c = c} E few =
     let heap = E c (cells c + rootCount) few (omega arith) (omega arith) in
     record {
@@ -101,13 +102,13 @@ slots {d′ = d′} ks ts F =
 -- ---- the start
 
 abbrev fresh-state : Lists → Machine
-fresh-state lists = record { depth = 0; frames = 0; names = 58; written = 0; lists = lists; stopped = false }
+fresh-state lists = record { depth = 0; frames = 0; names = nameCount; written = 0; lists = lists; stopped = false }
 
 pub begins : {d d′ c : List ℕ} {lists : Lists}
     → Empty lists
-    → cells c ≤ 32768
-    → 696 ≤ length d′
-    → length d′ ≤ 6155
+    → cells c ≤ cellsMost
+    → nameWords ≤ length d′
+    → length d′ ≤ dictionaryWordsMost
     → Filled d d′
     → Begins d d′ c (fresh-state lists)
 unfolding initial
@@ -120,18 +121,21 @@ begins E few large small F =
             items = Words.bottom;
             frames = Words.bottom;
             slots = slots (keys (initial .machine)) [] F;
-            names = sym name-count;
-            titled = titled;
-            distinct = names-distinct;
-            logged = refl;
+            naming = record {
+              many = sym name-count;
+              titled = titled;
+              distinct = names-distinct;
+            };
+            logging = record { logged = refl; fits = omega arith };
             stopped = refl;
-            stack-room = omega arith;
-            exec-room = omega arith;
-            dict-room = large;
-            log-room = omega arith;
-            stack-few = sl;
-            exec-few = el;
-            dict-few = small;
+            rooms = record {
+              stack-fits = omega arith;
+              exec-fits = omega arith;
+              dict-fits = large;
+              stack-few = sl;
+              exec-few = el;
+              dict-few = small;
+            };
           };
       kept = F .kept;
     }

@@ -10,6 +10,7 @@ use native.Mathlib.Omega.{arith}
 use lib.Dec.{T, eqb}
 use lib.ListN.{length, getElem?}
 use borrow.Author.Tests.{lt-ltb, le-ltb, le-leb, lt-leb, eq-eqb, ne-eqb}
+use Rattle.semantics.specs.Sizes.{operatorCount}
 use Rattle.semantics.specs.Text.{bytes}
 use Rattle.semantics.specs.Values.{Value, operator, boolean, null}
 use Rattle.semantics.specs.Machine.{Slot}
@@ -29,33 +30,33 @@ use Rattle.start.specs.Predefined.{tagOf, payloadOf}
 -- ---- the words of bindings
 
 module _ (k : ℕ) where
-  pub tag-operator : k ≤ 54 → 4 ≡ tagOf k
+  pub tag-operator : k ≤ operatorCount → 4 ≡ tagOf k
   unfolding tagOf
-  tag-operator l = rw (le-leb k 54 l, pick) refl
+  tag-operator l = rw (le-leb k operatorCount l, pick) refl
 
-  pub tag-boolean : 54 < k → k ≤ 56 → 2 ≡ tagOf k
+  pub tag-boolean : operatorCount < k → k ≤ (operatorCount + 2) → 2 ≡ tagOf k
   unfolding tagOf
-  tag-boolean g l = rw (lt-leb k 54 g, le-leb k 56 l, pick) refl
+  tag-boolean g l = rw (lt-leb k operatorCount g, le-leb k (operatorCount + 2) l, pick) refl
 
-  pub tag-null : 54 < k → 56 < k → 0 ≡ tagOf k
+  pub tag-null : operatorCount < k → (operatorCount + 2) < k → 0 ≡ tagOf k
   unfolding tagOf
-  tag-null g l = rw (lt-leb k 54 g, lt-leb k 56 l, pick) refl
+  tag-null g l = rw (lt-leb k operatorCount g, lt-leb k (operatorCount + 2) l, pick) refl
 
-  pub payload-operator : k < 54 → k ≡ payloadOf k
+  pub payload-operator : k < operatorCount → k ≡ payloadOf k
   unfolding payloadOf
-  payload-operator l = sym (ap (λ b. pick b k (pick (eqb k 54) 37 (pick (eqb k 55) 1 0))) (lt-ltb k 54 l))
+  payload-operator l = sym (ap (λ b. pick b k (pick (eqb k operatorCount) 37 (pick (eqb k (operatorCount + 1)) 1 0))) (lt-ltb k operatorCount l))
 
-  pub payload-mark : 54 ≤ k → k ≡ 54 → 37 ≡ payloadOf k
+  pub payload-mark : operatorCount ≤ k → k ≡ operatorCount → 37 ≡ payloadOf k
   unfolding payloadOf
-  payload-mark g e = rw (le-ltb k 54 g, eq-eqb k 54 e, pick) refl
+  payload-mark g e = rw (le-ltb k operatorCount g, eq-eqb k operatorCount e, pick) refl
 
-  pub payload-true : 54 ≤ k → (k ≡ 54 → ⊥) → k ≡ 55 → 1 ≡ payloadOf k
+  pub payload-true : operatorCount ≤ k → (k ≡ operatorCount → ⊥) → k ≡ (operatorCount + 1) → 1 ≡ payloadOf k
   unfolding payloadOf
-  payload-true g f e = rw (le-ltb k 54 g, ne-eqb k 54 f, eq-eqb k 55 e, pick) refl
+  payload-true g f e = rw (le-ltb k operatorCount g, ne-eqb k operatorCount f, eq-eqb k (operatorCount + 1) e, pick) refl
 
-  pub payload-none : 54 ≤ k → (k ≡ 54 → ⊥) → (k ≡ 55 → ⊥) → 0 ≡ payloadOf k
+  pub payload-none : operatorCount ≤ k → (k ≡ operatorCount → ⊥) → (k ≡ (operatorCount + 1) → ⊥) → 0 ≡ payloadOf k
   unfolding payloadOf
-  payload-none g f e = rw (le-ltb k 54 g, ne-eqb k 54 f, ne-eqb k 55 e, pick) refl
+  payload-none g f e = rw (le-ltb k operatorCount g, ne-eqb k operatorCount f, ne-eqb k (operatorCount + 1) e, pick) refl
 
 -- ---- what they stand for
 
@@ -107,7 +108,7 @@ module _ (w : World) (keys : List (List ℕ)) (texts : List Bool) where
   operator-bound : (o : List ℕ) (q : ℕ) → getElem? titles q ≡ some o → Bound (Is w keys texts) (some (operator o)) 4 q
   operator-bound o q e = Words.bound (record { stands = an-operator e; alive = λ l. absurd (omega arith) })
 
-  other-bound : (j : ℕ) (s : Slot) → getElem? others j ≡ some s → Bound (Is w keys texts) (s .binding) (tagOf (54 + j)) (payloadOf (54 + j))
+  other-bound : (j : ℕ) (s : Slot) → getElem? others j ≡ some s → Bound (Is w keys texts) (s .binding) (tagOf (operatorCount + j)) (payloadOf (operatorCount + j))
   unfolding tagOf payloadOf Steps.slot titles table _is_
   other-bound zero s e = subst (λ (t : Slot). Bound (Is w keys texts) (t .binding) 4 37) (some-one e) (operator-bound (bytes "mark") 37 refl)
   other-bound (suc zero) s e =
@@ -125,18 +126,18 @@ module _ (w : World) (keys : List (List ℕ)) (texts : List Bool) where
   pub bound-at : (k : ℕ) (s : Slot) → getElem? predefined k ≡ some s → Bound (Is w keys texts) (s .binding) (tagOf k) (payloadOf k)
   bound-at k s e =
       ⊎-elim
-      (λ (l : k < 54).
+      (λ (l : k < operatorCount).
       let o : Operates s (map (λ (x : Entry). x .title) table) k = operates table others k s (omega (arith, operator-count)) (ap (λ d. getElem? d k) (sym predefined-is) ∙ e) in
       subst (λ t. Bound (Is w keys texts) (s .binding) t (payloadOf k)) (tag-operator k (omega arith))
       (subst (λ p. Bound (Is w keys texts) (s .binding) 4 p) (payload-operator k l)
       (subst (λ v. Bound (Is w keys texts) v 4 k) (sym (o .binding)) (operator-bound (o .title) k (numbered (o .number))))))
-      (λ (l : 54 ≤ k).
-      let place : k ≡ 54 + (k - 54) = omega arith in
-      let count : length table + (k - 54) ≡ k = omega (arith, operator-count) in
-      let there : getElem? others (k - 54) ≡ some s =
-      sym (past table others (k - 54)) ∙ ap (getElem? (map ofEntry table ++ others)) count ∙ ap (λ d. getElem? d k) (sym predefined-is) ∙ e in
-      subst (λ x. Bound (Is w keys texts) (s .binding) (tagOf x) (payloadOf x)) (sym place) (other-bound (k - 54) s there))
-      (lt-or-le k 54)
+      (λ (l : operatorCount ≤ k).
+      let place : k ≡ operatorCount + (k - operatorCount) = omega arith in
+      let count : length table + (k - operatorCount) ≡ k = omega (arith, operator-count) in
+      let there : getElem? others (k - operatorCount) ≡ some s =
+      sym (past table others (k - operatorCount)) ∙ ap (getElem? (map ofEntry table ++ others)) count ∙ ap (λ d. getElem? d k) (sym predefined-is) ∙ e in
+      subst (λ x. Bound (Is w keys texts) (s .binding) (tagOf x) (payloadOf x)) (sym place) (other-bound (k - operatorCount) s there))
+      (lt-or-le k operatorCount)
     where
       numbered : {o : List ℕ} → getElem? (map (λ (x : Entry). x .title) table) k ≡ some o → getElem? titles k ≡ some o
       numbered q = ap (λ d. getElem? d k) titles-are ∙ q

@@ -7,6 +7,7 @@ use Prim.Native.Nat.{ℕ, _+_, _-_, _≤_, _<_}
 use native.Mathlib.Omega.{arith}
 use lib.ListN.{length, getD, take, drop, length-append, length-drop, List·getD-append}
 use lib.Seq.{getD-drop, getD-append-seam, take-append-seam, drop-drop, drop-append-add}
+use Rattle.semantics.specs.Sizes.{nameMost}
 use Rattle.heap.proofs.Since.{lt-or-le}
 use Rattle.start.specs.Predefined.{Ends}
 
@@ -43,7 +44,7 @@ module _ {list : List ℕ} {at : ℕ} where
 
 -- A name with no blank in it.
 pub record Plain (n : List ℕ) : Type 0 where
-  pub short : length n ≤ 31
+  pub short : length n ≤ nameMost
   pub whole : (i : ℕ) → i < length n → getD n i 0 ≡ 32 → ⊥
 
 module _ (list : List ℕ) (at r : ℕ) (n rest : List ℕ) (e : drop at list ≡ n ++ (32 ∷ rest)) (within : at ≤ length list) where

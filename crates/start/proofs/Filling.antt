@@ -12,6 +12,7 @@ use lib.Dec.{T, leb, eqb, leb→le}
 use lib.ListN.{length, getD, take, drop, set, getElem?, length-set, length-map}
 use lib.Seq.{drop-cons, getD-set-same, getD-set-other}
 use borrow.Author.Tests.{eq-eqb}
+use Rattle.semantics.specs.Sizes.{nameCount, nameMost, nameWords}
 use Rattle.semantics.specs.Text.{textual}
 use Rattle.semantics.specs.Machine.{Slot}
 use Rattle.semantics.specs.Operators.{_is_, table}
@@ -27,12 +28,12 @@ use Rattle.start.proofs.Blanks.{Plain, room, name-end, name-slice, name
 
 -- ---- the names
 
-names-count : length names ≡ 58
+names-count : length names ≡ nameCount
 unfolding names
 names-count = length-map predefined (λ (s : Slot). s .key) ∙ name-count
 
 abbrev plain : List ℕ → Bool
-plain n = leb (length n) 31 && every (λ b. not (eqb b 32)) n
+plain n = leb (length n) nameMost && every (λ b. not (eqb b 32)) n
 
 all-plain : every plain names ≡ true
 unfolding names predefined Steps.slot table _is_ textual
@@ -45,8 +46,8 @@ no-blank (cons p ps) (suc i) l e = no-blank ps i (omega arith) e
 
 is-plain : (n : List ℕ) → T (plain n) → Plain n
 is-plain n t =
-    let parts = both (leb (length n) 31) (every (λ b. not (eqb b 32)) n) t in
-    record { short = leb→le (length n) 31 (parts .0); whole = no-blank (all-every (λ b. not (eqb b 32)) n (parts .1)) }
+    let parts = both (leb (length n) nameMost) (every (λ b. not (eqb b 32)) n) t in
+    record { short = leb→le (length n) nameMost (parts .0); whole = no-blank (all-every (λ b. not (eqb b 32)) n (parts .1)) }
 
 abbrev name : ℕ → List ℕ
 name k = getD names k []
@@ -54,10 +55,10 @@ name k = getD names k []
 plain-at : (k : ℕ) (n : List ℕ) → getElem? names k ≡ some n → Plain n
 plain-at k n e = is-plain n (at-all (all-every plain names (subst T (sym all-plain) tt)) k n e)
 
-pub name-short : (k : ℕ) (n : List ℕ) → getElem? names k ≡ some n → length n ≤ 31
+pub name-short : (k : ℕ) (n : List ℕ) → getElem? names k ≡ some n → length n ≤ nameMost
 name-short k n e = plain-at k n e .short
 
-name-plain : (k : ℕ) → k < 58 → Plain (name k)
+name-plain : (k : ℕ) → k < nameCount → Plain (name k)
 name-plain k l = plain-at k (name k) (an-element names k [] (omega (arith, names-count)))
 
 -- ---- the loop
@@ -75,7 +76,7 @@ written-same {k = k} f W =
     }
 
 pub record Filling (list d d′ : List ℕ) (at k : ℕ) : Type 0 where
-  pub few : k ≤ 58
+  pub few : k ≤ nameCount
   pub long : length d′ ≡ length d
   pub left : drop at list ≡ listed (drop k names)
   pub within : at ≤ length list
@@ -86,7 +87,7 @@ pub fill-begin : {list d : List ℕ} → list ≡ listed names → Filling list 
 fill-begin e =
     record { few = omega arith; long = refl; left = e; within = omega arith; slots = λ i n l. absurd (omega arith); kept = λ i l. refl }
 
-module _ {list d d₁ : List ℕ} {at k : ℕ} (F : Filling list d d₁ at k) (l : k < 58) where
+module _ {list d d₁ : List ℕ} {at k : ℕ} (F : Filling list d d₁ at k) (l : k < nameCount) where
   next : drop at list ≡ name k ++ (32 ∷ listed (drop (suc k) names))
   unfolding listed
   next = F .left ∙ ap listed (drop-cons names k [] (omega (arith, names-count)))
@@ -101,10 +102,10 @@ module _ {list d d₁ : List ℕ} {at k : ℕ} (F : Filling list d d₁ at k) (l
     sliced : take (r - at) (drop at list) ≡ name k
     sliced = name-slice list at r (name k) (listed (drop (suc k) names)) next (F .within) ends
 
-    pub fill-short : length (take (r - at) (drop at list)) ≤ 31
+    pub fill-short : length (take (r - at) (drop at list)) ≤ nameMost
     fill-short = omega (arith, ap length sliced, name-plain k l .short)
 
-    module _ {d₂ : List ℕ} {t p : ℕ} (S : Spells k (take (r - at) (drop at list)) d₁ d₂) (same : length d₂ ≡ length d₁) (large : 696 ≤ length d) (tag : t ≡ tagOf k) (pay : p ≡ payloadOf k) where
+    module _ {d₂ : List ℕ} {t p : ℕ} (S : Spells k (take (r - at) (drop at list)) d₁ d₂) (same : length d₂ ≡ length d₁) (large : nameWords ≤ length d) (tag : t ≡ tagOf k) (pay : p ≡ payloadOf k) where
       abbrev tagged : List ℕ
       tagged = set d₂ (12 * k + 9) t
 
@@ -153,7 +154,7 @@ module _ {list d d₁ : List ℕ} {at k : ℕ} (F : Filling list d d₁ at k) (l
             kept = λ i x. outside i (λ z. omega arith) ∙ F .kept i (omega arith);
           }
 
-pub fill-end : {list d d′ : List ℕ} {at k : ℕ} → Filling list d d′ at k → 58 ≤ k → Filled d d′
+pub fill-end : {list d d′ : List ℕ} {at k : ℕ} → Filling list d d′ at k → nameCount ≤ k → Filled d d′
 fill-end {k = k} F l =
     record {
       slots = λ i n e. F .slots i n (omega (arith, names-count, inside-list names i e)) e;

@@ -6,6 +6,8 @@ use mathlib.Core.Option.{some}
 use Prim.Native.Nat.{ℕ, _+_, _*_, _/_, _%_, _≤_, _<_}
 use lib.ListN.{length, getD, getElem?}
 use lib.Dec.{ltb, leb, eqb}
+use Rattle.machine.specs.Words.{bindingTag, bindingPayload}
+use Rattle.semantics.specs.Sizes.{operatorCount, nameWords}
 use Rattle.semantics.specs.Machine.{Slot}
 use Rattle.semantics.specs.Steps.{predefined}
 use Rattle.heap.specs.Upd.{pick}
@@ -28,19 +30,19 @@ pub record Ends (list : List ℕ) (at r : ℕ) : Type 0 where
 
 -- The words of the binding of name k.
 unfoldable pub tagOf : ℕ → ℕ
-tagOf k = pick (leb k 54) 4 (pick (leb k 56) 2 0)
+tagOf k = pick (leb k operatorCount) 4 (pick (leb k (operatorCount + 2)) 2 0)
 
 unfoldable pub payloadOf : ℕ → ℕ
-payloadOf k = pick (ltb k 54) k (pick (eqb k 54) 37 (pick (eqb k 55) 1 0))
+payloadOf k = pick (ltb k operatorCount) k (pick (eqb k operatorCount) 37 (pick (eqb k (operatorCount + 1)) 1 0))
 
 -- The words of slot k, of the name n.
 pub record Written (words : List ℕ) (k : ℕ) (n : List ℕ) : Type 0 where
   pub size : getD words (12 * k) 0 ≡ length n
   pub spelt : (j : ℕ) → j < 32 → byteOf (getD words (12 * k + 1 + j / 4) 0) (j % 4) ≡ getD n j 0
-  pub tag : getD words (12 * k + 9) 0 ≡ tagOf k
-  pub payload : getD words (12 * k + 10) 0 ≡ payloadOf k
+  pub tag : bindingTag words k ≡ tagOf k
+  pub payload : bindingPayload words k ≡ payloadOf k
 
 -- The predefined names have their slots, and all words after them are as they were.
 pub record Filled (d d′ : List ℕ) : Type 0 where
   pub slots : (k : ℕ) (n : List ℕ) → getElem? names k ≡ some n → Written d′ k n
-  pub kept : (i : ℕ) → 696 ≤ i → getD d′ i 0 ≡ getD d i 0
+  pub kept : (i : ℕ) → nameWords ≤ i → getD d′ i 0 ≡ getD d i 0

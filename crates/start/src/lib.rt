@@ -3,27 +3,26 @@
 ghost use mathlib.Core.Path.{_≡_};
 ghost use Prim.Native.Nat.{_≤_};
 ghost use lib.ListN.{length};
+ghost use Rattle.semantics.specs.Sizes.{cellsMost, nameWords, dictionaryWordsMost};
 ghost use Rattle.heap.specs.Shape as Heap;
 ghost use Rattle.start.specs.Begins.{Begins};
 ghost use Rattle.start.specs.Predefined.{names, listed, tagOf, payloadOf, Filled, Ends};
-use dictionary::BINDING;
-use dictionary::PAYLOAD;
-use dictionary::SLOT;
+use machine::BINDING_PAYLOAD;
+use machine::BINDING_TAG;
 use machine::Machine;
 use machine::TAG_BOOLEAN;
 use machine::TAG_NULL;
 use machine::TAG_OPERATOR;
-
-const OPERATORS: usize = 54;
-
-const NAMES: usize = 58;
+use semantics::DICTIONARY_WIDTH;
+use semantics::NAME_COUNT;
+use semantics::OPERATOR_COUNT;
 
 // The number of mark, which [ is bound to.
 const MARK: u32 = 37;
 
 // Rules out: a name at another number than its operator's; a heap that takes old words for objects.
 pub fn begin(dict: &mut [u32], cells: &[u32]) -> Machine
-    requires { ⌜ (696 ≤ length (now dict)) × (length (now dict) ≤ 6155) × (Heap.cells (now cells) ≤ 32768) ⌝ }
+    requires { ⌜ (nameWords ≤ length (now dict)) × (length (now dict) ≤ dictionaryWordsMost) × (Heap.cells (now cells) ≤ cellsMost) ⌝ }
     ensures { λ r. ⌜ Begins (now (dict .entry)) (now (dict .exit)) (now (cells .entry)) r ⌝ }
 {
     write_names(
@@ -35,7 +34,7 @@ pub fn begin(dict: &mut [u32], cells: &[u32]) -> Machine
     Machine {
         depth: 0,
         frames: 0,
-        names: NAMES,
+        names: NAME_COUNT,
         written: 0,
         lists: heap::fresh(),
         stopped: false,
@@ -44,16 +43,16 @@ pub fn begin(dict: &mut [u32], cells: &[u32]) -> Machine
 
 // Each name of the list, which a blank ends, takes the next slot, with its binding.
 fn write_names(dict: &mut [u32], list: &[u8])
-    requires { ⌜ (now list ≡ listed names) × (696 ≤ length (now dict)) × (length (now dict) ≤ 6155) ⌝ }
+    requires { ⌜ (now list ≡ listed names) × (nameWords ≤ length (now dict)) × (length (now dict) ≤ dictionaryWordsMost) ⌝ }
     ensures { λ _. ⌜ Filled (now (dict .entry)) (now (dict .exit)) ⌝ }
 {
     let mut at = 0;
     let mut k = 0;
-    while k < NAMES {
+    while k < NAME_COUNT {
         let end = blank_from(list, at);
         dictionary::spell(dict, k, &list[at..end]);
-        dict[SLOT * k + BINDING] = binding_tag(k);
-        dict[SLOT * k + PAYLOAD] = binding_payload(k);
+        dict[DICTIONARY_WIDTH * k + BINDING_TAG] = binding_tag(k);
+        dict[DICTIONARY_WIDTH * k + BINDING_PAYLOAD] = binding_payload(k);
         at = end + 1;
         k = k + 1;
     }
@@ -78,10 +77,10 @@ fn blank_from(list: &[u8], at: usize) -> usize
 fn binding_tag(k: usize) -> u32
     ensures { λ r. ⌜ r ≡ tagOf k ⌝ }
 {
-    if k <= OPERATORS {
+    if k <= OPERATOR_COUNT {
         return TAG_OPERATOR;
     }
-    if k <= OPERATORS + 2 {
+    if k <= OPERATOR_COUNT + 2 {
         return TAG_BOOLEAN;
     }
     TAG_NULL
@@ -90,13 +89,13 @@ fn binding_tag(k: usize) -> u32
 fn binding_payload(k: usize) -> u32
     ensures { λ r. ⌜ r ≡ payloadOf k ⌝ }
 {
-    if k < OPERATORS {
+    if k < OPERATOR_COUNT {
         return k as u32;
     }
-    if k == OPERATORS {
+    if k == OPERATOR_COUNT {
         return MARK;
     }
-    if k == OPERATORS + 1 {
+    if k == OPERATOR_COUNT + 1 {
         return 1;
     }
     0

@@ -5,6 +5,7 @@ use mathlib.Core.Bool.{Bool}
 use mathlib.Core.List.{List}
 use Prim.Native.Nat.{ℕ, _+_, _≤_, _<_}
 use lib.ListN.{length, drop}
+use Rattle.semantics.specs.Sizes.{scriptMost, fuelMost}
 use Rattle.semantics.specs.Machine as Floo
 use Rattle.semantics.specs.Steps as steps
 use Rattle.ending.specs.Endings.{commandText, IsCommand}
@@ -57,10 +58,10 @@ pub record StepsSlot (σ : State) (s s′ e e′ d d′ c c′ l l′ : List ℕ
 
 -- The script and the counts are as setup has them, and the words stand for some machine.
 pub record Ready (script : List ℕ) (σ : State) (s e d c l : List ℕ) : Type 0 where
-  pub short : length script ≤ 32768
+  pub short : length script ≤ scriptMost
   pub inside : σ .next ≤ length script
   pub within : σ .at ≤ length script
-  pub few : σ .steps < 1000000
+  pub few : σ .steps < fuelMost
   pub machine : (μ : Floo.Machine) × Rep (σ .machine) s e d c l μ
 
 abbrev pub ReadySlot : State → List ℕ → List ℕ → List ℕ → List ℕ → List ℕ → Type 0

@@ -3,6 +3,7 @@
 ghost use mathlib.Core.Path.{_≡_};
 ghost use Prim.Native.Nat.{_<_, _≤_};
 ghost use lib.ListN.{length};
+ghost use Rattle.semantics.specs.Sizes.{fuelMost};
 ghost use Rattle.step.specs.Stepping.{ReadySlot, ReadyToken, StepsSlot, StepsToken, Finished, endedBy, groupedBy};
 use ending::Command;
 use group_taking::Grouped;
@@ -150,7 +151,7 @@ impl State {
 
     // The state after a step: the token at `at` has been taken, and the bytes from `next` on are left; or the state before it, with the step counted and `at` set.
     fn ended(self, at: usize, next: usize, command: Command, did: Did) -> Stepped
-        requires { ⌜ self .steps < 1000000 ⌝ }
+        requires { ⌜ self .steps < fuelMost ⌝ }
         ensures { λ r. ⌜ r ≡ endedBy self at next command did ⌝ }
     {
         let m = self.machine;
@@ -176,7 +177,7 @@ impl State {
 
     // The same of a brace group.
     fn grouped(self, at: usize, answer: Grouped) -> Stepped
-        requires { ⌜ self .steps < 1000000 ⌝ }
+        requires { ⌜ self .steps < fuelMost ⌝ }
         ensures { λ r. ⌜ r ≡ groupedBy self at answer ⌝ }
     {
         match answer {

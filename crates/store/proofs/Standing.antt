@@ -7,6 +7,7 @@ use mathlib.Core.Option.{some}
 use Prim.Native.Nat.{ℕ, zero, suc, _≤_, _<_}
 use native.Mathlib.Omega.{arith}
 use lib.ListN.{length, getD, getElem?, length-map}
+use Rattle.semantics.specs.Sizes.{operatorCount}
 use Rattle.semantics.specs.Values.{Value, integer, boolean, null, mark, operator, name, string, array, Object, elements, text}
 use Rattle.semantics.specs.Machine.{elementsOf, bytesOf}
 use Rattle.semantics.specs.Operators.{Entry, table}
@@ -15,7 +16,7 @@ use Rattle.store.specs.Rep.{titles, isText, bit, Stands, a-null, an-inte
 
 -- ---- the operators' names
 
-pub titles-count : length titles ≡ 54
+pub titles-count : length titles ≡ operatorCount
 unfolding titles
 titles-count = length-map table (λ (e : Entry). e .title) ∙ operator-count
 

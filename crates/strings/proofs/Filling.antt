@@ -3,7 +3,7 @@
 use mathlib.Core.Path.{_≡_, refl, sym, ap, _∙_, subst}
 use mathlib.Core.Bool.{true}
 use mathlib.Core.List.{List, [], _∷_, _++_, append-nil}
-use Prim.Native.Nat.{ℕ, suc, _+_, _-_, _*_, _/_, _≤_, _<_}
+use Prim.Native.Nat.{ℕ, suc, _+_, _-_, _/_, _≤_, _<_}
 use native.Mathlib.Omega.{arith}
 use lib.ListN.{length, getD, set, drop, length-append, length-drop}
 use lib.Seq.{drop-cons, append-snoc, set-append-seam, set-getD}
@@ -18,6 +18,7 @@ use Rattle.heap.specs.Chain.{live}
 use Rattle.heap.proofs.Shapes.{list-le}
 use Rattle.store.specs.Rep.{isText, objectAt}
 use Rattle.store.proofs.Standing.{text-is}
+use Rattle.machine.specs.Words.{itemPayload}
 use Rattle.machine.specs.Rep.{Rep, World}
 use Rattle.machine.specs.declared.Machine.{Machine}
 use Rattle.elements.specs.Elements.{HasCell, IsString, PutsByte, itemId, byteSet}
@@ -198,7 +199,7 @@ module _ {h : ℕ} {c₀ c script : List ℕ} {start at q : ℕ} (F : Filling h 
 -- ---- an item
 
 module _ {i : ℕ} {m : Machine} {s c script : List ℕ} {at : ℕ} (k : ℕ) (h : m .depth ≡ k + suc i) (F : Fills i m s c script at) where
-  pub item-room : FillsAt (getD s (2 * k + 1) 0) c script at
+  pub item-room : FillsAt (itemPayload s k) c script at
   item-room =
       let W = F .room in
       let b = W .5 in
@@ -220,7 +221,7 @@ module _ {i : ℕ} {m : Machine} {s c script : List ℕ} {at : ℕ} (k : ℕ) (h
         };
       }
 
-  pub item-filled : {c′ : List ℕ} → FilledAt (getD s (2 * k + 1) 0) c c′ script at → Filled i m s c c′ script at
+  pub item-filled : {c′ : List ℕ} → FilledAt (itemPayload s k) c c′ script at → Filled i m s c c′ script at
   unfolding bytesFilled stringFilled
   item-filled G =
       record {

@@ -2,7 +2,7 @@
 -- Assumes nothing.
 use mathlib.Core.Path.{_≡_, sym, ap, _∙_, subst}
 use mathlib.Core.List.{List, [], _∷_, _++_, append-assoc}
-use Prim.Native.Nat.{ℕ, suc, _+_, _-_, _*_, _≤_, _<_}
+use Prim.Native.Nat.{ℕ, suc, _+_, _-_, _≤_, _<_}
 use native.Mathlib.Omega.{arith}
 use lib.ListN.{length, getD, set, take, drop, length-drop, List·getD-append}
 use lib.Seq.{paste-zero, paste-suc, length-paste, length-paste-head, drop-cons, take-suc, set-at, getD-take, getD-drop, getD-append-add, getD-set-same, set-set, length-take-le}
@@ -11,6 +11,7 @@ use Rattle.semantics.specs.Machine as Floo
 use Rattle.semantics.specs.Machine.{withStore, object, bytesOf, change}
 use Rattle.heap.proofs.Shapes.{list-le}
 use Rattle.store.specs.Rep.{objectAt}
+use Rattle.machine.specs.Words.{itemPayload}
 use Rattle.machine.specs.Rep.{Rep}
 use Rattle.machine.specs.declared.Machine.{Machine}
 use Rattle.elements.specs.Elements.{itemId, bytePut, byteSet}
@@ -35,8 +36,8 @@ part : {m : Machine} {st e d c l : List ℕ} {μ : Floo.Machine}
 unfolding object
 part {st = st} {c = c} {μ = μ} R i k q n h b =
     let same = sym (string-id (b .string)) in
-    let A = subst (λ id. StringAt (R .world) c (μ .store) (getD st (2 * k + 1) 0) id) same (string-item R i k h (b .string .item)) in
-    let head = getD st (2 * k + 1) 0 in
+    let A = subst (λ id. StringAt (R .world) c (μ .store) (itemPayload st k) id) same (string-item R i k h (b .string .item)) in
+    let head = itemPayload st k in
     let shape = R .stored .full .heap .shape in
     record {
       item = b .string .item ∙ ap string same;

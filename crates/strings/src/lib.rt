@@ -4,7 +4,9 @@ ghost use lib.ListN.{length};
 ghost use Rattle.machine.specs.Rep.{MovesHeap};
 ghost use Rattle.elements.specs.Elements.{HasString, SomewhereThat};
 ghost use Rattle.strings.specs.Strings.{CurrentSize, Copies, Fills, FillsAt, bytesCopied, Filled, FilledAt};
+use machine::ITEM_PAYLOAD;
 use machine::Machine;
+use semantics::STACK_WIDTH;
 use token::Unescaped;
 
 // The current length of the string that is item i: its bytes before the first zero, or all of them.
@@ -54,7 +56,7 @@ pub fn fill(m: Machine, stack: &[u32], cells: &mut [u32], i: usize, script: &[u8
     ensures { λ _. ⌜ Filled i m (now (stack .entry)) (now (cells .entry)) (now (cells .exit)) (now (script .entry)) start ⌝ }
 {
     let k = m.depth - 1 - i;
-    let h = stack[2 * k + 1];
+    let h = stack[STACK_WIDTH * k + ITEM_PAYLOAD];
     fill_at(cells, h, script, start);
 }
 

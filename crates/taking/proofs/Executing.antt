@@ -7,13 +7,15 @@ use mathlib.Core.List.{List}
 use mathlib.Core.Option.{Option, none, some}
 use Prim.Native.Nat.{ℕ, _+_, _*_, _/_, _≤_, _<_}
 use native.Mathlib.Omega.{arith}
-use lib.ListN.{length, getD}
+use lib.ListN.{length}
+use Rattle.semantics.specs.Sizes.{execWordsMost, dictionaryWordsMost}
 use Rattle.semantics.specs.Values.{Value, ok, fault, _>>=_, given}
 use Rattle.semantics.specs.Machine as Floo
 use Rattle.semantics.specs.Machine.{pending, withExec, enter, lookup}
 use Rattle.semantics.specs.Steps.{roomFor}
 use Rattle.semantics.specs.declared.Error.the-variants.{Undefined, ExecStackOverflow}
 use Rattle.store.specs.Rep.{Stands, a-null, an-integer, a-boolean, a-mark, an-operator, a-literal, an-executable, a-string, an-array, a-procedure}
+use Rattle.machine.specs.Words.{bindingTag}
 use Rattle.machine.specs.Places.{keys}
 use Rattle.machine.specs.Rep.{Is, World, Bound, unbound, bound}
 use Rattle.machine.specs.Room.{lent, fitted}
@@ -66,15 +68,15 @@ module _ (n : List ℕ) (μ : Floo.Machine) where
 -- ---- a name by its slot
 
 module _ {k : ℕ} {m : Machine} {e d c : List ℕ} where
-  pub name-room : NamedBindings k m e d c → (12 * k + 12 ≤ length d) × (length d ≤ 6155) × (8 * m .frames ≤ length e) × (length e ≤ 1031)
-  name-room (s, l, μ, n, key, R) = (slot-room R k n key, R .dict-few, R .exec-room, R .exec-few)
+  pub name-room : NamedBindings k m e d c → (12 * k + 12 ≤ length d) × (length d ≤ dictionaryWordsMost) × (8 * m .frames ≤ length e) × (length e ≤ execWordsMost)
+  name-room (s, l, μ, n, key, R) = (slot-room R k n key, R .rooms .dict-few, R .rooms .exec-fits, R .rooms .exec-few)
 
-  pub name-unbound : getD d (12 * k + 9) 0 ≡ 7 → DoesNamed k m e e d c c (Fail Undefined)
+  pub name-unbound : bindingTag d k ≡ 7 → DoesNamed k m e e d c c (Fail Undefined)
   name-unbound tag = record {
     does = λ s l μ R n key. (fitted-fails (lent s e d c l) (executableTaken n) μ (undefined n μ (none-bound (binding-at R k n key .0) tag)), (refl, refl));
   }
 
-  module _ (tag : getD d (12 * k + 9) 0 ≡ 7 → ⊥) where
+  module _ (tag : bindingTag d k ≡ 7 → ⊥) where
     pub name-full : length e < 8 * m .frames + 8 → DoesNamed k m e e d c c (Fail ExecStackOverflow)
     unfolding fitted lent enter withExec _>>=_
     name-full full = record {

@@ -7,6 +7,7 @@ use mathlib.Core.Option.{some}
 use Prim.Native.Nat.{ℕ, _+_, _*_, _/_, _≤_, _<_}
 use native.Mathlib.Omega.{arith}
 use lib.ListN.{length, getElem?}
+use Rattle.semantics.specs.Sizes.{stackWordsMost, dictionaryWordsMost}
 use Rattle.semantics.specs.Values.{name, _>>=_}
 use Rattle.semantics.specs.Machine as Floo
 use Rattle.semantics.specs.Machine.{withStack, withDictionary, push, intern, slotted}
@@ -23,8 +24,8 @@ use Rattle.dictionary.proofs.Lookups.{found-key, slotted-found, slotted-missing
 use Rattle.taking.specs.Effects.{literalTaken}
 use Rattle.taking.specs.Promises.{Names, DoesNames, PushesName}
 
-pub names-room : {m : Machine} {s d : List ℕ} → Names m s d → (2 * m .depth ≤ length s) × (length s ≤ 513) × (12 * m .names ≤ length d) × (length d ≤ 6155)
-names-room (e, c, l, μ, R) = (R .stack-room, R .stack-few, R .dict-room, R .dict-few)
+pub names-room : {m : Machine} {s d : List ℕ} → Names m s d → (2 * m .depth ≤ length s) × (length s ≤ stackWordsMost) × (12 * m .names ≤ length d) × (length d ≤ dictionaryWordsMost)
+names-room (e, c, l, μ, R) = (R .rooms .stack-fits, R .rooms .stack-few, R .rooms .dict-fits, R .rooms .dict-few)
 
 module _ {n : List ℕ} {k : ℕ} {m : Machine} {s d : List ℕ} (F : Finds m d n k) where
   -- ---- the name has a slot
@@ -58,13 +59,13 @@ module _ {n : List ℕ} {k : ℕ} {m : Machine} {s d : List ℕ} (F : Finds m d 
     unfolding literalTaken fitted lent push intern withStack withDictionary _>>=_
     new-full full = record {
       does = λ e c l μ R.
-          let many : length d / 12 < length (slotted n (μ .dictionary)) = omega (arith, slotted-missing n (μ .dictionary) (find-none R F high most), R .names) in
+          let many : length d / 12 < length (slotted n (μ .dictionary)) = omega (arith, slotted-missing n (μ .dictionary) (find-none R F high most), R .naming .many) in
           (room-slots (lent s e d c l) μ (push (name false n) (intern n μ)) many, (refl, refl));
     }
 
     module _ (room : 12 * m .names + 12 ≤ length d) where
       few-names : {e c l : List ℕ} {μ : Floo.Machine} → Rep m s e d c l μ → length (slotted n (μ .dictionary)) ≤ length d / 12
-      few-names {μ = μ} R = omega (arith, slotted-missing n (μ .dictionary) (find-none R F high most), R .names)
+      few-names {μ = μ} R = omega (arith, slotted-missing n (μ .dictionary) (find-none R F high most), R .naming .many)
 
       pub new-over : length s < 2 * m .depth + 2 → DoesNames (literalTaken n) m s s d d (Fail StackOverflow)
       unfolding literalTaken fitted lent push intern withStack withDictionary _>>=_
@@ -82,7 +83,7 @@ module _ {n : List ℕ} {k : ℕ} {m : Machine} {s d : List ℕ} (F : Finds m d 
       unfolding literalTaken fitted lent push intern withStack withDictionary _>>=_
       new-done A P long = record {
         does = λ e c l μ R.
-            let is : slotOf n (μ .dictionary) ≡ m .names = omega (arith, find-none R F high most, R .names) in
+            let is : slotOf n (μ .dictionary) ≡ m .names = omega (arith, find-none R F high most, R .naming .many) in
             let at : slotOf n (slotted n (μ .dictionary)) ≡ k = omega (arith, slotted-slot n (μ .dictionary), F .says s e c l μ R) in
             let key : getElem? (keys (intern n μ)) k ≡ some n = subst (λ i. getElem? (keys (intern n μ)) i ≡ some n) at (found-key n (slotted n (μ .dictionary)) (slotted-has n (μ .dictionary))) in
             let after = P .moves e _ c l (intern n μ) (A .moves s e c l μ R is) n key in

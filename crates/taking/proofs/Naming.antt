@@ -5,6 +5,7 @@ use mathlib.Core.List.{List, [], _∷_, _++_, append-nil, append-assoc}
 use Prim.Native.Nat.{ℕ, _+_, _-_, _*_, _≤_, _<_}
 use native.Mathlib.Omega.{arith}
 use lib.ListN.{length, take, drop, length-take}
+use Rattle.semantics.specs.Sizes.{nameMost, dictionaryWordsMost}
 use Rattle.semantics.specs.Machine as Floo
 use Rattle.semantics.specs.Machine.{Slot, withDictionary, intern, slotted}
 use Rattle.semantics.specs.ListLaws.{nil, cons, all-append}
@@ -27,8 +28,8 @@ use Rattle.taking.proofs.Flattening.{flat-done}
 
 -- ---- one name
 
-pub dictionary-room : {m : Machine} {d : List ℕ} → Dictionary m d → (12 * m .names ≤ length d) × (length d ≤ 6155)
-dictionary-room (s, e, c, l, μ, R) = (R .dict-room, R .dict-few)
+pub dictionary-room : {m : Machine} {d : List ℕ} → Dictionary m d → (12 * m .names ≤ length d) × (length d ≤ dictionaryWordsMost)
+dictionary-room (s, e, c, l, μ, R) = (R .rooms .dict-fits, R .rooms .dict-few)
 
 pub kept-all : {k : ℕ} {d : List ℕ} → Kept k d d
 kept-all = record { below = λ i l. refl }
@@ -49,7 +50,7 @@ module _ {n : List ℕ} {k : ℕ} {m : Machine} {d : List ℕ} (F : Finds m d n 
     pub one-full : length d < 12 * m .names + 12 → AddsName n m d d (Bad LimitCheck)
     unfolding internAll
     one-full full = record {
-      adds = λ s e c l μ R. (refl, omega (arith, full, slotted-missing n (μ .dictionary) (find-none R F high most), R .names));
+      adds = λ s e c l μ R. (refl, omega (arith, full, slotted-missing n (μ .dictionary) (find-none R F high most), R .naming .many));
       kept = kept-all;
     }
 
@@ -57,7 +58,7 @@ module _ {n : List ℕ} {k : ℕ} {m : Machine} {d : List ℕ} (F : Finds m d n 
     unfolding internAll intern
     one-added A same = record {
       adds = λ s e c l μ R. (
-        A .moves s e c l μ R (omega (arith, find-none R F high most, R .names)),
+        A .moves s e c l μ R (omega (arith, find-none R F high most, R .naming .many)),
         cons (slotted-has n (μ .dictionary)) nil,
         same,
       );
@@ -77,7 +78,7 @@ have-more n d (cons {a = k} h t) = cons (still-has k n d h) (have-more n d t)
 
 -- A part of the script, by its ends and by its size.
 module _ (script : List ℕ) (start size : ℕ) where
-  pub part-short : size ≤ 31 → length (take (start + size - start) (drop start script)) ≤ 31
+  pub part-short : size ≤ nameMost → length (take (start + size - start) (drop start script)) ≤ nameMost
   part-short few = omega (arith, few, length-take (start + size - start) (drop start script))
 
   pub part-named : {m : Machine} {d d′ : List ℕ} {a : Named} → AddsName (take (start + size - start) (drop start script)) m d d′ a → AddsName (take size (drop start script)) m d d′ a
@@ -153,7 +154,7 @@ module _ {script : List ℕ} {from end : ℕ} {m : Machine} {d : List ℕ} {at :
       here : MetAt script at (met.Good (Name start size) next)
       here = subst (MetAt script at) q M
 
-      pub name-few : (size ≤ 31) × (start + size ≤ length script) × (at < next)
+      pub name-few : (size ≤ nameMost) × (start + size ≤ length script) × (at < next)
       name-few = (here .0, here .1, here .2)
 
       abbrev word : List ℕ
@@ -196,7 +197,7 @@ module _ {script : List ℕ} {from end : ℕ} {m : Machine} {d : List ℕ} {at :
               began = A .began;
               long = stay ∙ A .long;
               kept = kept-too;
-              more = omega (arith, A .more, W .5 .names, X .0 .names, slotted-grows word (W .4 .dictionary));
+              more = omega (arith, A .more, W .5 .naming .many, X .0 .naming .many, slotted-grows word (W .4 .dictionary));
               same = record {
                 depth = X .2 .depth ∙ A .same .depth;
                 frames = X .2 .frames ∙ A .same .frames;

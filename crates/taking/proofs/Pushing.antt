@@ -6,13 +6,14 @@ use mathlib.Core.List.{List, [], _∷_}
 use Prim.Native.Nat.{ℕ, _+_, _*_, _/_, _≤_, _<_}
 use native.Mathlib.Omega.{arith}
 use native.Mathlib.Numerals.{add-one}
-use lib.ListN.{length, getD, set}
+use lib.ListN.{length, set}
 use Rattle.semantics.specs.Values.{integer, null, name, _>>=_}
 use Rattle.semantics.specs.Machine as Floo
 use Rattle.semantics.specs.Machine.{withStack, push}
 use Rattle.semantics.specs.ListLaws.{nil, cons}
 use Rattle.semantics.specs.declared.Error.the-variants.{StackOverflow}
 use Rattle.store.specs.Rep.{a-literal}
+use Rattle.machine.specs.Words.{itemTag, itemPayload}
 use Rattle.machine.specs.Operands.{an-integer, a-null, Pushes}
 use Rattle.machine.specs.Rep.{Rep, IsIn, Items, item}
 use Rattle.machine.specs.Room.{lent, fitted, DoesStack}
@@ -63,7 +64,7 @@ module _ {m r : Machine} {s s′ : List ℕ} (room : 2 * m .depth + 2 ≤ length
         let depth = m .depth in
         let st = set (set s (2 * depth) 5) (2 * depth + 1) k in
         let is : IsIn (R .world) μ v 5 k = record { stands = a-literal key; alive = λ x. absurd (omega arith) } in
-        let words : IsIn (R .world) μ v (getD st (2 * depth) 0) (getD st (2 * depth + 1) 0) = rw (two-first s depth 5 k room, two-second s depth 5 k room) is in
+        let words : IsIn (R .world) μ v (itemTag st depth) (itemPayload st depth) = rw (two-first s depth 5 k room, two-second s depth 5 k room) is in
         let items = subst (λ x. Items (IsIn (R .world) μ) st x (v ∷ μ .stack)) (sym (add-one depth)) (item words (items-frame (two-below s depth 5 k room) (R .items))) in
         carried W (restack R st (depth + 1) [] (v ∷ []) (μ .stack) refl nil (cons (record { none = λ x. x }) nil) (two-length s depth 5 k room) (omega arith) items);
   }

@@ -6,6 +6,7 @@ use Prim.Native.Nat.{ℕ, _+_, _*_, _/_, _≤_, _<_}
 use native.Mathlib.Omega.{arith}
 use lib.ListN.{length, drop, set, replicate, length-replicate, drop-of-length-le}
 use lib.Seq.{getD-append-seam, set-append-seam}
+use Rattle.semantics.specs.Sizes.{stackWordsMost}
 use Rattle.semantics.specs.Values.{string, null, elements, text, _>>=_, cells}
 use Rattle.semantics.specs.Machine as Floo
 use Rattle.semantics.specs.Machine.{withStack, withStore, push, object, bytesOf, make, made, change}
@@ -55,8 +56,8 @@ filled-new bs μ =
 -- ---- what is asked of it
 
 module _ {m : Machine} {s c : List ℕ} where
-  pub string-room : Somewhere m s c → (2 * m .depth ≤ length s) × (length s ≤ 513)
-  string-room (e, d, l, μ, R) = (R .stack-room, R .stack-few)
+  pub string-room : Somewhere m s c → (2 * m .depth ≤ length s) × (length s ≤ stackWordsMost)
+  string-room (e, d, l, μ, R) = (R .rooms .stack-fits, R .rooms .stack-few)
 
   module _ (room : 2 * m .depth + 2 ≤ length s) {p : Machine} {s₁ : List ℕ} (W : PushesWords 0 0 m p s s₁) where
     pub null-there : Somewhere m s c → SomewhereThat (HasPlain 0) p s₁ c

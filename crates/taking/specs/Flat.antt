@@ -4,6 +4,7 @@ use mathlib.Core.Path.{_≡_}
 use mathlib.Core.List.{List, [], _∷_, _++_}
 use Prim.Native.Nat.{ℕ, _+_, _*_, _/_, _≤_, _<_}
 use lib.ListN.{length, take, drop}
+use Rattle.semantics.specs.Sizes.{nameMost}
 use Rattle.semantics.specs.Tokens.{Token}
 use Rattle.semantics.specs.Groups.{skip}
 use Rattle.semantics.specs.Machine as Floo
@@ -85,7 +86,7 @@ Ahead script at = (ns : List (List ℕ)) × (end : ℕ) × Flat script at ns end
 -- What is left of a group that goes on at `at`: its first name and what is after it, or the same names. No fault is met.
 abbrev pub FoundAt : List ℕ → ℕ → ℕ → Found → Type 0
 FoundAt script at next (Name start size) =
-    (size ≤ 31) × (start + size ≤ length script) × (at < next)
+    (size ≤ nameMost) × (start + size ≤ length script) × (at < next)
     × ((ns : List (List ℕ)) (end : ℕ) → Flat script at ns end → at < end → (rest : List (List ℕ)) × (ns ≡ take size (drop start script) ∷ rest) × Flat script next rest end)
 FoundAt script at next Other = (at < next) × ((ns : List (List ℕ)) (end : ℕ) → Flat script at ns end → at < end → Flat script next ns end)
 

@@ -3,20 +3,24 @@
 ghost use mathlib.Core.Path.{_≡_};
 ghost use Prim.Native.Nat.{_+_, _*_, _≤_, _<_};
 ghost use lib.ListN.{length};
+ghost use Rattle.semantics.specs.Sizes.{nameMost, scriptMost, dictionaryMost, stackWordsMost};
 ghost use Rattle.machine.specs.Rep.{Somewhere};
 ghost use Rattle.machine.specs.Room.{DoesStack};
 ghost use Rattle.taking.specs.Effects.{integerTaken, literalTaken, executableTaken};
 ghost use Rattle.taking.specs.Promises.{Bindings, NamedBindings, Names, StringOf, DoesBinding, DoesNamed, DoesNames, DoesString, PushesWords, PushesName};
 ghost use Rattle.taking.specs.Flat.{Dictionary, Group, Ahead, AddsNames, AddsName, MetAt, faultOf, metFault};
-use dictionary::BINDING;
-use dictionary::SLOT;
+use machine::BINDING_TAG;
 use machine::Did;
+use machine::ITEM_PAYLOAD;
 use machine::Machine;
 use machine::TAG_INTEGER;
 use machine::TAG_LITERAL;
 use machine::TAG_NULL;
 use machine::TAG_UNBOUND;
+use semantics::DICTIONARY_WIDTH;
+use semantics::EXEC_WIDTH;
 use semantics::Error;
+use semantics::STACK_WIDTH;
 use token::Lexed;
 use token::Token;
 
@@ -41,10 +45,10 @@ enum Found {
 // An integer is pushed.
 // Rules out: a push where the stack is full; another word than the token's.
 pub fn take_integer(m: Machine, stack: &mut [u32], w: u32) -> Did
-    requires { ⌜ (2 * m .depth ≤ length (now stack)) × (length (now stack) ≤ 513) ⌝ }
+    requires { ⌜ (2 * m .depth ≤ length (now stack)) × (length (now stack) ≤ stackWordsMost) ⌝ }
     ensures { λ r. ⌜ DoesStack (integerTaken w) m (now (stack .entry)) (now (stack .exit)) r ⌝ }
 {
-    if stack.len() < 2 * m.depth + 2 {
+    if stack.len() < STACK_WIDTH * m.depth + STACK_WIDTH {
         return Did::Fail(Error::StackOverflow);
     }
     Did::Ok(m.push_scalar(stack, TAG_INTEGER, w))
@@ -60,10 +64,10 @@ pub fn take_string(
     at: usize,
     size: usize,
 ) -> Did
-    requires { ⌜ (length (now script) ≤ 32768) × StringOf (now script) at size × Somewhere m (now stack) (now cells) ⌝ }
+    requires { ⌜ (length (now script) ≤ scriptMost) × StringOf (now script) at size × Somewhere m (now stack) (now cells) ⌝ }
     ensures { λ r. ⌜ DoesString (now (script .entry)) at m (now (stack .entry)) (now (stack .exit)) (now (cells .entry)) (now (cells .exit)) r ⌝ }
 {
-    if stack.len() < 2 * m.depth + 2 {
+    if stack.len() < STACK_WIDTH * m.depth + STACK_WIDTH {
         return Did::Fail(Error::StackOverflow);
     }
     let n = size as u32;
@@ -79,20 +83,20 @@ pub fn take_string(
 // A literal name takes a slot, if it has none, and is pushed.
 // Rules out: stackoverflow where the dictionary is full too; a second slot for a name that has one.
 pub fn take_literal(m: Machine, stack: &mut [u32], dict: &mut [u32], name: &[u8]) -> Did
-    requires { ⌜ (length (now name) ≤ 31) × Names m (now stack) (now dict) ⌝ }
+    requires { ⌜ (length (now name) ≤ nameMost) × Names m (now stack) (now dict) ⌝ }
     ensures { λ r. ⌜ DoesNames (literalTaken (now (name .entry))) m (now (stack .entry)) (now (stack .exit)) (now (dict .entry)) (now (dict .exit)) r ⌝ }
 {
     let slot = dictionary::find(m, dict, name);
     if slot < m.names {
-        if stack.len() < 2 * m.depth + 2 {
+        if stack.len() < STACK_WIDTH * m.depth + STACK_WIDTH {
             return Did::Fail(Error::StackOverflow);
         }
         return Did::Ok(push_name(m, stack, slot));
     }
-    if dict.len() < SLOT * m.names + SLOT {
+    if dict.len() < DICTIONARY_WIDTH * m.names + DICTIONARY_WIDTH {
         return Did::Fail(Error::LimitCheck);
     }
-    if stack.len() < 2 * m.depth + 2 {
+    if stack.len() < STACK_WIDTH * m.depth + STACK_WIDTH {
         return Did::Fail(Error::StackOverflow);
     }
     let added = dictionary::add(m, dict, name);
@@ -108,7 +112,7 @@ pub fn take_executable(
     cells: &mut [u32],
     name: &[u8],
 ) -> Did
-    requires { ⌜ (length (now name) ≤ 31) × Bindings m (now exec) (now dict) (now cells) ⌝ }
+    requires { ⌜ (length (now name) ≤ nameMost) × Bindings m (now exec) (now dict) (now cells) ⌝ }
     ensures { λ r. ⌜ DoesBinding (executableTaken (now (name .entry))) m (now (exec .entry)) (now (exec .exit)) (now (dict .entry)) (now (cells .entry)) (now (cells .exit)) r ⌝ }
 {
     let slot = dictionary::find(m, dict, name);
@@ -123,10 +127,10 @@ pub fn take_name(m: Machine, exec: &mut [u32], dict: &[u32], cells: &mut [u32], 
     requires { ⌜ NamedBindings slot m (now exec) (now dict) (now cells) ⌝ }
     ensures { λ r. ⌜ DoesNamed slot m (now (exec .entry)) (now (exec .exit)) (now (dict .entry)) (now (cells .entry)) (now (cells .exit)) r ⌝ }
 {
-    if dict[SLOT * slot + BINDING] == TAG_UNBOUND {
+    if dict[DICTIONARY_WIDTH * slot + BINDING_TAG] == TAG_UNBOUND {
         return Did::Fail(Error::Undefined);
     }
-    if exec.len() < 8 * m.frames + 8 {
+    if exec.len() < EXEC_WIDTH * m.frames + EXEC_WIDTH {
         return Did::Fail(Error::ExecStackOverflow);
     }
     Did::Ok(dictionary::pend_binding(m, exec, dict, cells, slot))
@@ -177,7 +181,7 @@ pub fn fault_of(named: Named) -> Error
 // The literal name with this slot is pushed.
 // Rules out: an executable name; the slot of another name.
 pub fn push_name(m: Machine, stack: &mut [u32], slot: usize) -> Machine
-    requires { ⌜ (slot < 513) × (2 * m .depth + 2 ≤ length (now stack)) × (length (now stack) ≤ 513) ⌝ }
+    requires { ⌜ (slot < dictionaryMost) × (2 * m .depth + 2 ≤ length (now stack)) × (length (now stack) ≤ stackWordsMost) ⌝ }
     ensures { λ r. ⌜ PushesName slot m r (now (stack .entry)) (now (stack .exit)) ⌝ }
     ensures { λ r. ⌜ (r .depth ≡ m .depth + 1) × (r .names ≡ m .names) × (r .frames ≡ m .frames) × (r .lists ≡ m .lists) ⌝ }
 {
@@ -187,12 +191,12 @@ pub fn push_name(m: Machine, stack: &mut [u32], slot: usize) -> Machine
 // Two words go above the topmost item.
 // Rules out: the payload below the tag; a cell counted for them.
 pub fn push_words(m: Machine, stack: &mut [u32], tag: u32, payload: u32) -> Machine
-    requires { ⌜ (2 * m .depth + 2 ≤ length (now stack)) × (length (now stack) ≤ 513) ⌝ }
+    requires { ⌜ (2 * m .depth + 2 ≤ length (now stack)) × (length (now stack) ≤ stackWordsMost) ⌝ }
     ensures { λ r. ⌜ PushesWords tag payload m r (now (stack .entry)) (now (stack .exit)) ⌝ }
 {
     let n = m.depth;
-    stack[2 * n] = tag;
-    stack[2 * n + 1] = payload;
+    stack[STACK_WIDTH * n] = tag;
+    stack[STACK_WIDTH * n + ITEM_PAYLOAD] = payload;
     let mut r = m;
     r.depth = n + 1;
     r
@@ -200,13 +204,13 @@ pub fn push_words(m: Machine, stack: &mut [u32], tag: u32, payload: u32) -> Mach
 
 // A name takes a slot, if it has none.
 fn add_name(m: Machine, dict: &mut [u32], name: &[u8]) -> Named
-    requires { ⌜ (length (now name) ≤ 31) × Dictionary m (now dict) ⌝ }
+    requires { ⌜ (length (now name) ≤ nameMost) × Dictionary m (now dict) ⌝ }
     ensures { λ r. ⌜ AddsName (now (name .entry)) m (now (dict .entry)) (now (dict .exit)) r ⌝ }
 {
     if dictionary::find(m, dict, name) < m.names {
         return Named::Done(m);
     }
-    if dict.len() < SLOT * m.names + SLOT {
+    if dict.len() < DICTIONARY_WIDTH * m.names + DICTIONARY_WIDTH {
         return Named::Bad(Error::LimitCheck);
     }
     Named::Done(dictionary::add(m, dict, name))

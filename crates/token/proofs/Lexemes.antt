@@ -10,6 +10,7 @@ use lib.Dec.{eqb}
 use lib.ListN.{length, take, drop, getD, drop-of-length-le, length-drop}
 use lib.Seq.{drop-cons, length-take-le}
 use borrow.Author.Tests.{le-leb, lt-leb, ne-eqb, eq-eqb}
+use Rattle.semantics.specs.Sizes.{nameMost}
 use Rattle.semantics.specs.Values.{ok, fault, _>>=_, check}
 use Rattle.semantics.specs.Tokens.{isNameByte, classOf, run, startsNumber, number, quoted, lexeme, nameOf, runToken, slashToken, lexAs, lex}
 use Rattle.semantics.specs.Tokens as tokens
@@ -70,25 +71,25 @@ module _ (n : List ℕ) (t : Bool) (is : t ≡ startsNumber n) where
   unfolding runToken _>>=_
   run-fault f e g = rw (sym is ∙ f, runToken, g)
 
-  run-name : t ≡ false → length n ≤ 31 → runToken n ≡ ok (tokens.name true n)
+  run-name : t ≡ false → length n ≤ nameMost → runToken n ≡ ok (tokens.name true n)
   unfolding runToken nameOf check _>>=_
-  run-name f h = rw (sym is ∙ f, runToken, le-leb (length n) 31 h)
+  run-name f h = rw (sym is ∙ f, runToken, le-leb (length n) nameMost h)
 
-  run-long : t ≡ false → 31 < length n → runToken n ≡ fault LimitCheck
+  run-long : t ≡ false → nameMost < length n → runToken n ≡ fault LimitCheck
   unfolding runToken nameOf check _>>=_
-  run-long f h = rw (sym is ∙ f, runToken, lt-leb (length n) 31 h)
+  run-long f h = rw (sym is ∙ f, runToken, lt-leb (length n) nameMost h)
 
   slash-number : (length n ≡ 0 → ⊥) → t ≡ true → slashToken n ≡ fault SyntaxError
   unfolding slashToken
   slash-number h f = rw (ne-eqb (length n) 0 h, sym is ∙ f, slashToken)
 
-  slash-name : (length n ≡ 0 → ⊥) → t ≡ false → length n ≤ 31 → slashToken n ≡ ok (tokens.name false n)
+  slash-name : (length n ≡ 0 → ⊥) → t ≡ false → length n ≤ nameMost → slashToken n ≡ ok (tokens.name false n)
   unfolding slashToken nameOf check _>>=_
-  slash-name h f k = rw (ne-eqb (length n) 0 h, sym is ∙ f, slashToken, le-leb (length n) 31 k)
+  slash-name h f k = rw (ne-eqb (length n) 0 h, sym is ∙ f, slashToken, le-leb (length n) nameMost k)
 
-  slash-long : (length n ≡ 0 → ⊥) → t ≡ false → 31 < length n → slashToken n ≡ fault LimitCheck
+  slash-long : (length n ≡ 0 → ⊥) → t ≡ false → nameMost < length n → slashToken n ≡ fault LimitCheck
   unfolding slashToken nameOf check _>>=_
-  slash-long h f k = rw (ne-eqb (length n) 0 h, sym is ∙ f, slashToken, lt-leb (length n) 31 k)
+  slash-long h f k = rw (ne-eqb (length n) 0 h, sym is ∙ f, slashToken, lt-leb (length n) nameMost k)
 
 slash-none : (n : List ℕ) → length n ≡ 0 → slashToken n ≡ fault SyntaxError
 unfolding slashToken
@@ -198,7 +199,7 @@ module _ {script : List ℕ} {start end : ℕ} (C : ClassAt script start tokens.
         let same : y ≡ x = q ∙ ap numberFault i in
         rw same (word ∙ rw (run-fault (between script start end) t is f x (sym g ∙ ap numberIs i)) refl)
 
-    pub word-name : t ≡ false → end - start ≤ 31 → NameToken script start true 0 start (end - start) end
+    pub word-name : t ≡ false → end - start ≤ nameMost → NameToken script start true 0 start (end - start) end
     unfolding _>>=_
     word-name f k =
         let l = some-word in
@@ -210,7 +211,7 @@ module _ {script : List ℕ} {start end : ℕ} (C : ClassAt script start tokens.
           few = k;
         }
 
-    pub word-long : t ≡ false → 31 < end - start → lex (drop start script) ≡ fault LimitCheck
+    pub word-long : t ≡ false → nameMost < end - start → lex (drop start script) ≡ fault LimitCheck
     unfolding _>>=_
     word-long f k = word ∙ rw (run-long (between script start end) t is f (rw length-word k)) refl
 
@@ -239,11 +240,11 @@ module _ {script : List ℕ} {start end : ℕ} (C : ClassAt script start tokens.
     unfolding _>>=_
     literal-number f = slash ∙ rw (slash-number (between script (start + 1) end) t is (λ p. z (sym length-slash ∙ p)) f) refl
 
-    pub literal-long : t ≡ false → 31 < end - (start + 1) → lex (drop start script) ≡ fault LimitCheck
+    pub literal-long : t ≡ false → nameMost < end - (start + 1) → lex (drop start script) ≡ fault LimitCheck
     unfolding _>>=_
     literal-long f k = slash ∙ rw (slash-long (between script (start + 1) end) t is (λ p. z (sym length-slash ∙ p)) f (rw length-slash k)) refl
 
-    pub literal-name : t ≡ false → end - (start + 1) ≤ 31 → NameToken script start false 1 (start + 1) (end - (start + 1)) end
+    pub literal-name : t ≡ false → end - (start + 1) ≤ nameMost → NameToken script start false 1 (start + 1) (end - (start + 1)) end
     unfolding _>>=_
     literal-name f k = record {
       token = record {

@@ -8,6 +8,7 @@ use native.Mathlib.Nat.{add-sub-cancel-left}
 use native.Mathlib.Omega.{arith}
 use lib.ListN.{length, take, drop}
 use borrow.Author.Tests.{lt-ltb, le-ltb}
+use Rattle.semantics.specs.Sizes.{scriptMost}
 use Rattle.semantics.specs.Values.{fault}
 use Rattle.semantics.specs.Tokens.{lex, lexeme}
 use Rattle.semantics.specs.Tokens as tokens
@@ -28,13 +29,13 @@ use Rattle.token.specs.declared.Located.the-variants.{TooLong, PastEnd, 
 
 -- ---- refusals
 
-pub too-long : {script : List ℕ} {offset : ℕ} → 32768 < length script → LocatedAt script offset TooLong
+pub too-long : {script : List ℕ} {offset : ℕ} → scriptMost < length script → LocatedAt script offset TooLong
 unfolding reading isTooLong
-too-long {script} {offset} h = record { is = rw (lt-ltb 32768 (length script) h, reading); inside = tt }
+too-long {script} {offset} h = record { is = rw (lt-ltb scriptMost (length script) h, reading); inside = tt }
 
-pub past-end : {script : List ℕ} {offset : ℕ} → length script ≤ 32768 → length script < offset → LocatedAt script offset PastEnd
+pub past-end : {script : List ℕ} {offset : ℕ} → length script ≤ scriptMost → length script < offset → LocatedAt script offset PastEnd
 unfolding reading isTooLong
-past-end {script} {offset} h k = record { is = rw (le-ltb 32768 (length script) h, reading, lt-ltb (length script) offset k); inside = tt }
+past-end {script} {offset} h k = record { is = rw (le-ltb scriptMost (length script) h, reading, lt-ltb (length script) offset k); inside = tt }
 
 -- ---- tokens
 
@@ -53,20 +54,20 @@ same-reading k p q r = cc
 
 -- The place where a token is looked for.
 pub record Begun (script : List ℕ) (offset start : ℕ) : Type 0 where
-  pub short : length script ≤ 32768
+  pub short : length script ≤ scriptMost
   pub known : offset ≤ length script
   pub begins : start ≡ skip script offset
 
 module _ {script : List ℕ} {offset start : ℕ} (B : Begun script offset start) where
   answers-fault : {e : Error} → lex (drop start script) ≡ fault e → setup.faulty e ≡ reading script offset
   unfolding reading isTooLong
-  answers-fault g = rw (le-ltb 32768 (length script) (B .short), reading, le-ltb (length script) offset (B .known), sym (B .begins), g)
+  answers-fault g = rw (le-ltb scriptMost (length script) (B .short), reading, le-ltb (length script) offset (B .known), sym (B .begins), g)
 
   answers-token : (t : tokens.Token) (n : ℕ) → lex (drop start script) ≡ lexeme t n
       → readingOf start (record { token = t; size = n }) ≡ reading script offset
   unfolding reading isTooLong lexeme
   answers-token t n g =
-      rw (B .begins, le-ltb 32768 (length script) (B .short), reading, le-ltb (length script) offset (B .known), rw (B .begins) at g)
+      rw (B .begins, le-ltb scriptMost (length script) (B .short), reading, le-ltb (length script) offset (B .known), rw (B .begins) at g)
 
   pub located-fault : {x v : Error} {l : Lexed} → LexedAt script start l → l ≡ lexed.Fault v → x ≡ faultOf l → LocatedAt script offset (Faulty x)
   located-fault {x} {v} {l} L e f =

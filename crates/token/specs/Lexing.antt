@@ -5,6 +5,7 @@ use mathlib.Core.Bool.{Bool, true, false}
 use mathlib.Core.List.{List}
 use Prim.Native.Nat.{ℕ, _+_, _-_, _<_, _≤_}
 use lib.ListN.{length, take, drop, getD}
+use Rattle.semantics.specs.Sizes.{nameMost}
 use Rattle.semantics.specs.Values.{fault}
 use Rattle.semantics.specs.Tokens.{lex, lexeme, classOf}
 use Rattle.semantics.specs.Tokens as tokens
@@ -36,7 +37,7 @@ pub record NameToken (script : List ℕ) (start : ℕ) (executable : Bool) (befo
   pub begins : at ≡ start + before
   pub ends : next ≡ at + size
   pub some : 0 < size
-  pub few : size ≤ 31
+  pub few : size ≤ nameMost
 
 -- A brace takes one byte.
 pub record BraceToken (script : List ℕ) (start : ℕ) (t : tokens.Token) (next : ℕ) : Type 0 where

@@ -10,6 +10,8 @@ ghost use Rattle.token.specs.Lexing.{LexedAt, NameByteAt, SlashAt, Quote
 ghost use Rattle.token.specs.Reading.{LocatedAt, Ordered, ownedBy, answerOf, answer, partOf, refusalOf};
 use semantics::Error;
 use semantics::Kind;
+use semantics::NAME_MOST;
+use semantics::SCRIPT_MOST;
 
 mod bytes;
 mod numbers;
@@ -27,12 +29,6 @@ use quoted::Judged;
 pub use quoted::Unescaped;
 use quoted::judge;
 pub use quoted::unescape;
-
-// The most bytes of a name.
-const NAME_BYTES: usize = 31;
-
-// The most bytes of a script.
-const SCRIPT_BYTES: usize = 32768;
 
 // A token of a script: an integer by its 32 bits, a string by where its bytes begin and how many it will hold, a name by where its bytes
 // are and how many.
@@ -97,7 +93,7 @@ pub fn part(script: &[u8], offset: usize) -> &[u8]
 pub fn locate(script: &[u8], offset: usize) -> Located
     ensures { λ r. ⌜ LocatedAt (now (script .entry)) offset r ⌝ }
 {
-    if SCRIPT_BYTES < script.len() {
+    if SCRIPT_MOST < script.len() {
         return Located::TooLong;
     }
     if script.len() < offset {
@@ -179,7 +175,7 @@ fn word_at(script: &[u8], start: usize) -> Lexed
         return Lexed::Token(Token::Integer(w), end);
     }
     let size = end - start;
-    if NAME_BYTES < size {
+    if NAME_MOST < size {
         return Lexed::Fault(Error::LimitCheck);
     }
     Lexed::Token(Token::ExecutableName(start, size), end)
@@ -199,7 +195,7 @@ fn literal_at(script: &[u8], start: usize) -> Lexed
     if starts_number(&script[at..end]) {
         return Lexed::Fault(Error::SyntaxError);
     }
-    if NAME_BYTES < size {
+    if NAME_MOST < size {
         return Lexed::Fault(Error::LimitCheck);
     }
     Lexed::Token(Token::LiteralName(at, size), end)

@@ -7,7 +7,7 @@ use Prim.Native.Nat.{ℕ, suc, _+_, _-_, _*_, _/_, _^_, _≤_, _<_}
 use native.Mathlib.Omega.{arith}
 use lib.IntN.{_+ℤ_}
 use lib.Signed.{ltZ}
-use lib.ListN.{length, getD, drop}
+use lib.ListN.{length, drop}
 use Rattle.semantics.specs.Words.{signed, word}
 use Rattle.semantics.specs.Values.{integer}
 use Rattle.semantics.specs.Machine as Floo
@@ -15,6 +15,7 @@ use Rattle.semantics.specs.Machine.{repeating, counting, withStack, withExec, p
 use Rattle.semantics.specs.Steps.{beyond, following}
 use Rattle.semantics.specs.declared.Error.the-variants.{ExecStackOverflow, StackOverflow}
 use Rattle.word.proofs.Words.{signed-low, signed-high}
+use Rattle.machine.specs.Words.{frameKind, frameTag, framePayload, frameNext, frameIncrement, frameFinal}
 use Rattle.machine.specs.Operands.{Pushes, an-integer}
 use Rattle.machine.specs.Rep.{Rep, IsIn, a-repeating, a-counting}
 use Rattle.machine.specs.declared.Machine.{Machine}
@@ -37,15 +38,15 @@ module _ {m : Machine} {s e d c l : List ℕ} {μ : Floo.Machine} (R : Rep m s e
   h : m .frames ≡ suc k
   h = omega (arith, some)
 
-  value-words : IsIn (R .world) μ (topValue μ) (getD e (8 * k + 1) 0) (getD e (8 * k + 2) 0)
-  value-words = subst (λ v. IsIn (R .world) μ v (getD e (8 * k + 1) 0) (getD e (8 * k + 2) 0)) (sym (top-value R k h)) (words R k h)
+  value-words : IsIn (R .world) μ (topValue μ) (frameTag e k) (framePayload e k)
+  value-words = subst (λ v. IsIn (R .world) μ v (frameTag e k) (framePayload e k)) (sym (top-value R k h)) (words R k h)
 
   pub reset-length : suc (length (drop 1 (μ .exec))) ≡ length (μ .exec)
   reset-length = ap (λ fs. suc (length (drop 1 fs))) (slot R k h .split) ∙ ap length (sym (slot R k h .split))
 
 -- ---- loop
 
-module _ {m : Machine} {e c : List ℕ} (some : 1 ≤ m .frames) (kind : getD e (8 * (m .frames - 1)) 0 ≡ 2) where
+module _ {m : Machine} {e c : List ℕ} (some : 1 ≤ m .frames) (kind : frameKind e (m .frames - 1) ≡ 2) where
   pub loop-full : length e < 8 * m .frames + 8 → DoesTurn resumed m e e c c (Fail ExecStackOverflow)
   unfolding bodyPended enter withExec
   loop-full full = turn-fails (λ s d l μ R. slots-over R (loop-resumed R (m .frames - 1) (omega (arith, some)) kind) refl full refl)
@@ -62,9 +63,9 @@ repeat-reset : {m : Machine} {e e′ : List ℕ} {n b : ℕ} → 1 ≤ m .frames
     → (s d c l : List ℕ) (μ : Floo.Machine) → Rep m s e d c l μ → Rep m s e′ d c l (resetTop (repeating n (topValue μ)) μ)
 repeat-reset {n = n} some E s d c l μ R = E .moves s d c l μ R (repeating n (topValue μ)) refl (a-repeating (value-words R some))
 
-module _ {m : Machine} {e c : List ℕ} (some : 1 ≤ m .frames) (kind : getD e (8 * (m .frames - 1)) 0 ≡ 3) where
+module _ {m : Machine} {e c : List ℕ} (some : 1 ≤ m .frames) (kind : frameKind e (m .frames - 1) ≡ 3) where
   pub repeat-ends : {r : Machine} {c′ : List ℕ}
-      → getD e (8 * (m .frames - 1) + 3) 0 ≡ 0
+      → frameNext e (m .frames - 1) ≡ 0
       → MovesFrames frameDropped m r e e c c′
       → DoesTurn resumed m e e c c′ (Ok r)
   unfolding frameDropped withExec
@@ -74,21 +75,21 @@ module _ {m : Machine} {e c : List ℕ} (some : 1 ≤ m .frames) (kind : getD e 
   pub repeat-stands : {e′ : List ℕ} {n b : ℕ} → Resets 3 n b m e e′ → Somewhere m e c → Somewhere m e′ c
   repeat-stands E w = (w .0, w .1, w .2, _, repeat-reset some E (w .0) (w .1) c (w .2) (w .3) (w .4))
 
-  module _ (left : getD e (8 * (m .frames - 1) + 3) 0 ≡ 0 → ⊥) where
+  module _ (left : frameNext e (m .frames - 1) ≡ 0 → ⊥) where
     pub repeat-full : length e < 8 * m .frames + 8 → DoesTurn resumed m e e c c (Fail ExecStackOverflow)
     unfolding bodyPended resetTop enter withExec
     repeat-full full =
         turn-fails (λ s d l μ R. slots-over R (repeat-resumed R (m .frames - 1) (omega (arith, some)) kind left) refl full (ap suc (reset-length R some)))
 
     pub repeat-goes : {r : Machine} {e′ e″ c′ : List ℕ} {b : ℕ}
-        → Resets 3 (getD e (8 * (m .frames - 1) + 3) 0 - 1) b m e e′
+        → Resets 3 (frameNext e (m .frames - 1) - 1) b m e e′
         → MovesFrames bodyPended m r e′ e″ c c′
         → length e″ ≡ length e
         → DoesTurn resumed m e e″ c c′ (Ok r)
     unfolding bodyPended resetTop enter withExec
     repeat-goes E M long =
         turn-does long (λ s d l μ R. record {
-          after = bodyPended (resetTop (repeating (getD e (8 * (m .frames - 1) + 3) 0 - 1) (topValue μ)) μ);
+          after = bodyPended (resetTop (repeating (frameNext e (m .frames - 1) - 1) (topValue μ)) μ);
           gives = repeat-resumed R (m .frames - 1) (omega (arith, some)) kind left;
           made = refl;
           stands = M .moves s d l _ (repeat-reset some E s d c l μ R);
@@ -98,18 +99,18 @@ module _ {m : Machine} {e c : List ℕ} (some : 1 ≤ m .frames) (kind : getD e 
 
 for-reset : {m : Machine} {e e′ : List ℕ} {n i : ℕ} → 1 ≤ m .frames → Resets 4 n i m e e′
     → (s d c l : List ℕ) (μ : Floo.Machine) → Rep m s e d c l μ
-    → Rep m s e′ d c l (resetTop (counting n i (getD e (8 * (m .frames - 1) + 5) 0) (topValue μ)) μ)
+    → Rep m s e′ d c l (resetTop (counting n i (frameFinal e (m .frames - 1)) (topValue μ)) μ)
 for-reset {m} {e} {n = n} {i = i} some E s d c l μ R =
-    E .moves s d c l μ R (counting n i (getD e (8 * (m .frames - 1) + 5) 0) (topValue μ)) refl (a-counting (value-words R some))
+    E .moves s d c l μ R (counting n i (frameFinal e (m .frames - 1)) (topValue μ)) refl (a-counting (value-words R some))
 
 abbrev next : Machine → List ℕ → ℕ
-next m e = getD e (8 * (m .frames - 1) + 3) 0
+next m e = frameNext e (m .frames - 1)
 
 abbrev increment : Machine → List ℕ → ℕ
-increment m e = getD e (8 * (m .frames - 1) + 4) 0
+increment m e = frameIncrement e (m .frames - 1)
 
 abbrev final : Machine → List ℕ → ℕ
-final m e = getD e (8 * (m .frames - 1) + 5) 0
+final m e = frameFinal e (m .frames - 1)
 
 -- The machine after a turn.
 turned : Machine → List ℕ → Floo.Machine → Floo.Machine
@@ -133,7 +134,7 @@ module _ {m : Machine} {s e c : List ℕ} where
         let same = pushed-slots P w in
         (s′, w .0, w .1, _, for-reset (omega (arith, same, some)) E s′ (w .0) c (w .1) _ (P .does an-integer e (w .0) c (w .1) (w .2) (w .3)))
 
-    module _ (kind : getD e (8 * (m .frames - 1)) 0 ≡ 4) where
+    module _ (kind : frameKind e (m .frames - 1) ≡ 4) where
       pub for-ends : {r : Machine} {c′ : List ℕ}
           → beyond (signed (next m e)) (signed (increment m e)) (signed (final m e)) ≡ true
           → MovesFrames frameDropped m r e e c c′
@@ -179,7 +180,7 @@ module _ {m : Machine} {s e c : List ℕ} where
               made = refl;
               stands = M .moves s′ d l _
                   (subst (λ n. Rep r s′ e′ d c l (resetTop (counting n (increment m e) (final m e) (topValue μ)) (push (integer (next m e)) μ))) sum
-                  (subst (λ n. Rep r s′ e′ d c l (resetTop (counting a (increment m e) (getD e (8 * (n - 1) + 5) 0) (topValue μ)) (push (integer (next m e)) μ))) same back));
+                  (subst (λ n. Rep r s′ e′ d c l (resetTop (counting a (increment m e) (frameFinal e (n - 1)) (topValue μ)) (push (integer (next m e)) μ))) same back));
             })
 
 -- ---- whether it ends

@@ -7,7 +7,7 @@ use mathlib.Core.List.{List, [], _∷_}
 use mathlib.Core.Option.{some}
 use Prim.Native.Nat.{ℕ, suc, _+_, _-_, _*_, _/_, _≤_, _<_}
 use native.Mathlib.Omega.{arith}
-use lib.ListN.{length, getD, drop}
+use lib.ListN.{length, drop}
 use Rattle.semantics.specs.Values.{Value, null, array, Object, ok}
 use Rattle.semantics.specs.Machine as Floo
 use Rattle.semantics.specs.Machine.{Frame, pending, running, withStack, withExec, push, enter, object, elementsOf}
@@ -18,6 +18,7 @@ use Rattle.heap.specs.Shape.{Ghost}
 use Rattle.heap.specs.Word.{word}
 use Rattle.store.specs.Rep.{objectAt, element, Stands, a-null, an-integer, a-boolean, a-mark, an-operator, a-literal, an-executable, a-string, an-array, a-procedure}
 use Rattle.store.proofs.Standing.{is-procedure}
+use Rattle.machine.specs.Words.{frameKind, frameTag, framePayload, frameCell, frameLeft}
 use Rattle.machine.specs.Rep.{Rep, IsIn, FrameIs, a-pending, a-running, a-looping, a-repeating, a-counting}
 use Rattle.machine.specs.declared.Machine.{Machine}
 use Rattle.machine.specs.declared.Did.the-variants.{Ok, Fail}
@@ -79,15 +80,15 @@ module _ {m : Machine} {s e d c l : List ℕ} {μ : Floo.Machine} (R : Rep m s e
 
   -- ---- a pending value
 
-  module _ (kind : getD e (8 * k) 0 ≡ 0) where
-    literal-resumed : Quiet (getD e (8 * k + 1) 0) → IsNot 10 (getD e (8 * k + 1) 0) → resumed μ ≡ ok (returned μ)
+  module _ (kind : frameKind e k ≡ 0) where
+    literal-resumed : Quiet (frameTag e k) → IsNot 10 (frameTag e k) → resumed μ ≡ ok (returned μ)
     unfolding resume returned
     literal-resumed q n =
         let w = is-pending (slot R k h .words) kind in
         let split : μ .exec ≡ pending (w .0) ∷ rest = slot R k h .split ∙ ap (λ f. f ∷ rest) (w .1) in
         resumed-is μ split ∙ executes (withExec rest μ) (w .2 .stands) q n ∙ ap ok (ap (push (w .0)) (sym (dropped-is μ split)) ∙ ap (λ v. push v (frameDropped μ)) (sym (top-value-is μ split)))
 
-    procedure-resumed : getD e (8 * k + 1) 0 ≡ 10 → (i : ℕ) × (topValue μ ≡ array true i) × (resumed μ ≡ ok (resetTop (running i 0) μ))
+    procedure-resumed : frameTag e k ≡ 10 → (i : ℕ) × (topValue μ ≡ array true i) × (resumed μ ≡ ok (resetTop (running i 0) μ))
     unfolding resume execute
     procedure-resumed ten =
         let w = is-pending (slot R k h .words) kind in
@@ -97,7 +98,7 @@ module _ {m : Machine} {s e d c l : List ℕ} {μ : Floo.Machine} (R : Rep m s e
 
   -- ---- a running procedure
 
-  module _ (kind : getD e (8 * k) 0 ≡ 1) where
+  module _ (kind : frameKind e k ≡ 1) where
     place : (i : ℕ) × (j : ℕ) × (slot R k h .top ≡ running i j)
     place = kind-runs kind (slot R k h .words)
 
@@ -111,20 +112,20 @@ module _ {m : Machine} {s e d c l : List ℕ} {μ : Floo.Machine} (R : Rep m s e
     unfolding i j
     split = slot R k h .split ∙ ap (λ f. f ∷ rest) (place .2)
 
-    run : Runs (IsIn (R .world) μ) (R .world .ghost) (μ .store) i j (getD e (8 * k + 1) 0) (getD e (8 * k + 2) 0) (getD e (8 * k + 3) 0) (getD e (8 * k + 4) 0)
+    run : Runs (IsIn (R .world) μ) (R .world .ghost) (μ .store) i j (frameTag e k) (framePayload e k) (frameCell e k) (frameLeft e k)
     unfolding i j
     run = runs (place .0) (place .1) (place .2) (slot R k h .words)
 
     running-top : topFrame μ ≡ running i j
     running-top = top-is μ split
 
-    run-ended : getD e (8 * k + 4) 0 ≡ 0 → resumed μ ≡ ok (frameDropped μ)
+    run-ended : frameLeft e k ≡ 0 → resumed μ ≡ ok (frameDropped μ)
     unfolding resume silent object withExec
     run-ended z =
         let vs = elementsOf (objectAt (μ .store) i) in
         resumed-is μ split ∙ rw (no-element vs j (omega (arith, run .left, z))) (ap ok (sym (dropped-is μ split)))
 
-    module _ (left : 1 ≤ getD e (8 * k + 4) 0) (quiet : Quiet (word c (getD e (8 * k + 3) 0) 0)) where
+    module _ (left : 1 ≤ frameLeft e k) (quiet : Quiet (word c (frameCell e k) 0)) where
       run-resumed : resumed μ ≡ ok (resetTop (running i (suc j)) (elementPushed i j μ))
       unfolding resume elementPushed resetTop push object withExec withStack
       run-resumed =
@@ -137,8 +138,8 @@ module _ {m : Machine} {s e d c l : List ℕ} {μ : Floo.Machine} (R : Rep m s e
 
 -- ---- what a step comes to
 
-module _ {m : Machine} {s e : List ℕ} (some : 1 ≤ m .frames) (kind : getD e (8 * (m .frames - 1)) 0 ≡ 0)
-    (quiet : Quiet (getD e (8 * (m .frames - 1) + 1) 0)) (literal : IsNot 10 (getD e (8 * (m .frames - 1) + 1) 0)) where
+module _ {m : Machine} {s e : List ℕ} (some : 1 ≤ m .frames) (kind : frameKind e (m .frames - 1) ≡ 0)
+    (quiet : Quiet (frameTag e (m .frames - 1))) (literal : IsNot 10 (frameTag e (m .frames - 1))) where
   pub literal-over : length s < 2 * m .depth + 2 → DoesItems resumed m s s e (Fail StackOverflow)
   unfolding returned frameDropped push withExec withStack
   literal-over full =
@@ -158,8 +159,8 @@ module _ {m : Machine} {s e : List ℕ} (some : 1 ≤ m .frames) (kind : getD e 
 
 pub procedure-starts : {m : Machine} {e e′ c : List ℕ}
     → 1 ≤ m .frames
-    → getD e (8 * (m .frames - 1)) 0 ≡ 0
-    → getD e (8 * (m .frames - 1) + 1) 0 ≡ 10
+    → frameKind e (m .frames - 1) ≡ 0
+    → frameTag e (m .frames - 1) ≡ 10
     → Starts m e e′ c
     → length e′ ≡ length e
     → DoesTurn resumed m e e′ c c (Ok m)
@@ -169,8 +170,8 @@ procedure-starts {m} held kind ten S long =
     let x = procedure-resumed R (m .frames - 1) (omega (arith, held)) kind ten in
     record { after = resetTop (running (x .0) 0) μ; gives = x .2; made = refl; stands = S .moves s d l μ R (x .0) (x .1) })
 
-module _ {m : Machine} {e c : List ℕ} (some : 1 ≤ m .frames) (kind : getD e (8 * (m .frames - 1)) 0 ≡ 1) where
-  pub procedure-ends : {r : Machine} {c′ : List ℕ} → getD e (8 * (m .frames - 1) + 4) 0 ≡ 0 → MovesFrames frameDropped m r e e c c′ → DoesTurn resumed m e e c c′ (Ok r)
+module _ {m : Machine} {e c : List ℕ} (some : 1 ≤ m .frames) (kind : frameKind e (m .frames - 1) ≡ 1) where
+  pub procedure-ends : {r : Machine} {c′ : List ℕ} → frameLeft e (m .frames - 1) ≡ 0 → MovesFrames frameDropped m r e e c c′ → DoesTurn resumed m e e c c′ (Ok r)
   unfolding frameDropped withExec
   procedure-ends zero-left M =
       turn-does refl (λ s d l μ R. record {
@@ -180,18 +181,18 @@ module _ {m : Machine} {e c : List ℕ} (some : 1 ≤ m .frames) (kind : getD e 
         stands = M .moves s d l μ R;
       })
 
-  module _ (left : 1 ≤ getD e (8 * (m .frames - 1) + 4) 0) {s : List ℕ} where
+  module _ (left : 1 ≤ frameLeft e (m .frames - 1)) {s : List ℕ} where
     -- The slot is as it was once the element has been pushed.
     pub next-stands : {r : Machine} {s′ c′ : List ℕ}
         → PushesElement m r s s′ e c c′
         → r .frames ≡ m .frames
         → SomewhereAll m s e c
-        → (1 ≤ r .frames) × (getD e (8 * (r .frames - 1)) 0 ≡ 1) × (1 ≤ getD e (8 * (r .frames - 1) + 4) 0) × Somewhere r e c′
+        → (1 ≤ r .frames) × (frameKind e (r .frames - 1) ≡ 1) × (1 ≤ frameLeft e (r .frames - 1)) × Somewhere r e c′
     next-stands {r} {s′} {c′} P same w =
         let x = run-at (w .3) (m .frames - 1) (omega (arith, some)) kind in
         (omega (arith, some, same), rw same kind, rw same left, (s′, w .0, w .1, _, P .moves (w .0) (w .1) (w .2) (w .3) (x .0) (x .1) (x .2)))
 
-    module _ (quiet : Quiet (word c (getD e (8 * (m .frames - 1) + 3) 0) 0)) where
+    module _ (quiet : Quiet (word c (frameCell e (m .frames - 1)) 0)) where
       pub next-over : length s < 2 * m .depth + 2 → DoesFrames resumed m s s e e c c (Fail StackOverflow)
       unfolding elementPushed resetTop push withExec withStack
       next-over full =

@@ -3,7 +3,7 @@
 use mathlib.Core.Path.{_≡_, refl, sym, ap, _∙_}
 use mathlib.Core.Bool.{true, false}
 use mathlib.Core.List.{List, _∷_}
-use Prim.Native.Nat.{ℕ, suc, _+_, _-_, _*_}
+use Prim.Native.Nat.{ℕ, suc, _-_}
 use native.Mathlib.Omega.{arith}
 use lib.ListN.{getD, drop}
 use Rattle.semantics.specs.Words.{signed}
@@ -12,6 +12,7 @@ use Rattle.semantics.specs.Machine as Floo
 use Rattle.semantics.specs.Machine.{Frame, pending, looping, repeating, counting, withStack, withExec, push, enter}
 use Rattle.semantics.specs.Steps.{resume, silent, beyond, following}
 use Rattle.heap.specs.Shape.{Ghost}
+use Rattle.machine.specs.Words.{frameKind, frameNext, frameIncrement, frameFinal}
 use Rattle.machine.specs.Places.{frameValue}
 use Rattle.machine.specs.Rep.{Rep, FrameIs, a-pending, a-running, a-looping, a-repeating, a-counting}
 use Rattle.machine.specs.declared.Machine.{Machine}
@@ -92,42 +93,42 @@ module _ {m : Machine} {s e d c l : List ℕ} {μ : Floo.Machine} (R : Rep m s e
   abbrev rest : List Frame
   rest = slot R k h .rest
 
-  pub loop-resumed : getD e (8 * k) 0 ≡ 2 → resumed μ ≡ ok (bodyPended μ)
+  pub loop-resumed : frameKind e k ≡ 2 → resumed μ ≡ ok (bodyPended μ)
   unfolding resume silent
   loop-resumed q =
       let w = is-loop (slot R k h .words) q in
       let split : μ .exec ≡ looping (w .0) ∷ rest = slot R k h .split ∙ ap (λ f. f ∷ rest) (w .1) in
       resumed-is μ split ∙ ap ok (ap (enter (pending (w .0))) (entered-again μ split) ∙ pended-is μ split)
 
-  pub repeat-ended : getD e (8 * k) 0 ≡ 3 → getD e (8 * k + 3) 0 ≡ 0 → resumed μ ≡ ok (frameDropped μ)
+  pub repeat-ended : frameKind e k ≡ 3 → frameNext e k ≡ 0 → resumed μ ≡ ok (frameDropped μ)
   unfolding resume silent
   repeat-ended q z =
       let w = is-repeat (slot R k h .words) q in
       let split : μ .exec ≡ repeating 0 (w .0) ∷ rest = slot R k h .split ∙ ap (λ f. f ∷ rest) (w .1 ∙ ap (λ n. repeating n (w .0)) z) in
       resumed-is μ split ∙ ap ok (sym (dropped-is μ split))
 
-  pub repeat-resumed : (q : getD e (8 * k) 0 ≡ 3)
-      → (getD e (8 * k + 3) 0 ≡ 0 → ⊥)
-      → resumed μ ≡ ok (bodyPended (resetTop (repeating (getD e (8 * k + 3) 0 - 1) (topValue μ)) μ))
+  pub repeat-resumed : (q : frameKind e k ≡ 3)
+      → (frameNext e k ≡ 0 → ⊥)
+      → resumed μ ≡ ok (bodyPended (resetTop (repeating (frameNext e k - 1) (topValue μ)) μ))
   unfolding resume silent
   repeat-resumed q z =
       let w = is-repeat (slot R k h .words) q in
-      let n = getD e (8 * k + 3) 0 - 1 in
-      let more : getD e (8 * k + 3) 0 ≡ suc n = omega (arith, z) in
+      let n = frameNext e k - 1 in
+      let more : frameNext e k ≡ suc n = omega (arith, z) in
       let split : μ .exec ≡ repeating (suc n) (w .0) ∷ rest = slot R k h .split ∙ ap (λ f. f ∷ rest) (w .1 ∙ ap (λ n. repeating n (w .0)) more) in
       resumed-is μ split
       ∙ ap ok (ap (enter (pending (w .0))) (reset-is μ split (repeating n (w .0))) ∙ pended-reset μ (repeating n (w .0)))
       ∙ ap (λ v. ok (bodyPended (resetTop (repeating n v) μ))) (sym (top-value-is μ split))
 
-  module _ (q : getD e (8 * k) 0 ≡ 4) where
+  module _ (q : frameKind e k ≡ 4) where
     abbrev next : ℕ
-    next = getD e (8 * k + 3) 0
+    next = frameNext e k
 
     abbrev increment : ℕ
-    increment = getD e (8 * k + 4) 0
+    increment = frameIncrement e k
 
     abbrev final : ℕ
-    final = getD e (8 * k + 5) 0
+    final = frameFinal e k
 
     body : (v : Value) × (slot R k h .top ≡ counting next increment final v)
     body = is-for (slot R k h .words) q

@@ -2,7 +2,7 @@
 // Each does exactly what the definition's step does to that slot, and then the definition's test of room.
 ghost use mathlib.Core.Path.{_≡_};
 ghost use Prim.Native.Nat.{_+_, _-_, _*_, _≤_};
-ghost use lib.ListN.{getD};
+ghost use Rattle.machine.specs.Words.{frameKind, frameTag, frameCell, frameLeft};
 ghost use Rattle.semantics.specs.Words.{signed};
 ghost use Rattle.semantics.specs.Steps.{beyond};
 ghost use Rattle.machine.specs.FrameMoves.{Somewhere};
@@ -13,20 +13,23 @@ ghost use Rattle.turns.specs.Turns.{resumed, IsNot, Quiet, DoesTurn, Doe
 use frames::FOR;
 use frames::REPEAT;
 use machine::Did;
+use machine::FRAME_FINAL;
+use machine::FRAME_INCREMENT;
+use machine::FRAME_NEXT;
 use machine::Machine;
 use machine::TAG_INTEGER;
+use semantics::EXEC_WIDTH;
 use semantics::Error;
-
-// The sign bit: from here on a word is a negative integer.
-const SIGN: u32 = 0x8000_0000;
+use semantics::STACK_WIDTH;
+use word::SIGN;
 
 // The body of `loop` becomes pending once more.
 // Ruled out: a loop that goes when its body starts.
 pub fn loop_turn(m: Machine, exec: &mut [u32], cells: &mut [u32]) -> Did
-    requires { ⌜ (1 ≤ m .frames) × (getD (now exec) (8 * (m .frames - 1)) 0 ≡ 2) × Somewhere m (now exec) (now cells) ⌝ }
+    requires { ⌜ (1 ≤ m .frames) × (frameKind (now exec) (m .frames - 1) ≡ 2) × Somewhere m (now exec) (now cells) ⌝ }
     ensures { λ r. ⌜ DoesTurn resumed m (now (exec .entry)) (now (exec .exit)) (now (cells .entry)) (now (cells .exit)) r ⌝ }
 {
-    if exec.len() < 8 * m.frames + 8 {
+    if exec.len() < EXEC_WIDTH * m.frames + EXEC_WIDTH {
         return Did::Fail(Error::ExecStackOverflow);
     }
     Did::Ok(frames::pend_body(m, exec, cells))
@@ -35,18 +38,18 @@ pub fn loop_turn(m: Machine, exec: &mut [u32], cells: &mut [u32]) -> Did
 // The body of `repeat` becomes pending if a repetition is left, else the loop goes.
 // Ruled out: one repetition too many; a count that does not fall.
 pub fn repeat_turn(m: Machine, exec: &mut [u32], cells: &mut [u32]) -> Did
-    requires { ⌜ (1 ≤ m .frames) × (getD (now exec) (8 * (m .frames - 1)) 0 ≡ 3) × Somewhere m (now exec) (now cells) ⌝ }
+    requires { ⌜ (1 ≤ m .frames) × (frameKind (now exec) (m .frames - 1) ≡ 3) × Somewhere m (now exec) (now cells) ⌝ }
     ensures { λ r. ⌜ DoesTurn resumed m (now (exec .entry)) (now (exec .exit)) (now (cells .entry)) (now (cells .exit)) r ⌝ }
 {
     let k = m.frames - 1;
-    let n = exec[8 * k + 3];
+    let n = exec[EXEC_WIDTH * k + FRAME_NEXT];
     if n == 0 {
         return Did::Ok(m.drop_frame(exec, cells));
     }
-    if exec.len() < 8 * m.frames + 8 {
+    if exec.len() < EXEC_WIDTH * m.frames + EXEC_WIDTH {
         return Did::Fail(Error::ExecStackOverflow);
     }
-    let spare = exec[8 * k + 4];
+    let spare = exec[EXEC_WIDTH * k + FRAME_INCREMENT];
     frames::reset_top(m, exec, REPEAT, n - 1, spare);
     Did::Ok(frames::pend_body(m, exec, cells))
 }
@@ -54,19 +57,19 @@ pub fn repeat_turn(m: Machine, exec: &mut [u32], cells: &mut [u32]) -> Did
 // `for` pushes its number and its body becomes pending, or it goes where the number is beyond the final one.
 // Ruled out: a loop that ends one late; the number pushed where the body has no slot.
 pub fn for_turn(m: Machine, stack: &mut [u32], exec: &mut [u32], cells: &mut [u32]) -> Did
-    requires { ⌜ (1 ≤ m .frames) × (getD (now exec) (8 * (m .frames - 1)) 0 ≡ 4) × SomewhereAll m (now stack) (now exec) (now cells) ⌝ }
+    requires { ⌜ (1 ≤ m .frames) × (frameKind (now exec) (m .frames - 1) ≡ 4) × SomewhereAll m (now stack) (now exec) (now cells) ⌝ }
     ensures { λ r. ⌜ DoesFrames resumed m (now (stack .entry)) (now (stack .exit)) (now (exec .entry)) (now (exec .exit)) (now (cells .entry)) (now (cells .exit)) r ⌝ }
 {
     let k = m.frames - 1;
-    let n = exec[8 * k + 3];
-    let increment = exec[8 * k + 4];
-    if is_beyond(n, increment, exec[8 * k + 5]) {
+    let n = exec[EXEC_WIDTH * k + FRAME_NEXT];
+    let increment = exec[EXEC_WIDTH * k + FRAME_INCREMENT];
+    if is_beyond(n, increment, exec[EXEC_WIDTH * k + FRAME_FINAL]) {
         return Did::Ok(m.drop_frame(exec, cells));
     }
-    if exec.len() < 8 * m.frames + 8 {
+    if exec.len() < EXEC_WIDTH * m.frames + EXEC_WIDTH {
         return Did::Fail(Error::ExecStackOverflow);
     }
-    if stack.len() < 2 * m.depth + 2 {
+    if stack.len() < STACK_WIDTH * m.depth + STACK_WIDTH {
         return Did::Fail(Error::StackOverflow);
     }
     let pushed = m.push_scalar(stack, TAG_INTEGER, n);
@@ -77,10 +80,10 @@ pub fn for_turn(m: Machine, stack: &mut [u32], exec: &mut [u32], cells: &mut [u3
 // A pending literal is pushed, and its slot goes.
 // Ruled out: a slot that stays; a literal lost where the stack is full.
 pub fn push_top(m: Machine, stack: &mut [u32], exec: &[u32]) -> Did
-    requires { ⌜ (1 ≤ m .frames) × (getD (now exec) (8 * (m .frames - 1)) 0 ≡ 0) × Quiet (getD (now exec) (8 * (m .frames - 1) + 1) 0) × IsNot 10 (getD (now exec) (8 * (m .frames - 1) + 1) 0) × Represented m (now stack) (now exec) ⌝ }
+    requires { ⌜ (1 ≤ m .frames) × (frameKind (now exec) (m .frames - 1) ≡ 0) × Quiet (frameTag (now exec) (m .frames - 1)) × IsNot 10 (frameTag (now exec) (m .frames - 1)) × Represented m (now stack) (now exec) ⌝ }
     ensures { λ r. ⌜ DoesItems resumed m (now (stack .entry)) (now (stack .exit)) (now (exec .entry)) r ⌝ }
 {
-    if stack.len() < 2 * m.depth + 2 {
+    if stack.len() < STACK_WIDTH * m.depth + STACK_WIDTH {
         return Did::Fail(Error::StackOverflow);
     }
     Did::Ok(m.push_pending(stack, exec))
@@ -88,7 +91,7 @@ pub fn push_top(m: Machine, stack: &mut [u32], exec: &[u32]) -> Did
 
 // A pending procedure starts to run.
 pub fn start(m: Machine, exec: &mut [u32], cells: &[u32]) -> Did
-    requires { ⌜ (1 ≤ m .frames) × (getD (now exec) (8 * (m .frames - 1)) 0 ≡ 0) × (getD (now exec) (8 * (m .frames - 1) + 1) 0 ≡ 10) × Somewhere m (now exec) (now cells) ⌝ }
+    requires { ⌜ (1 ≤ m .frames) × (frameKind (now exec) (m .frames - 1) ≡ 0) × (frameTag (now exec) (m .frames - 1) ≡ 10) × Somewhere m (now exec) (now cells) ⌝ }
     ensures { λ r. ⌜ DoesTurn resumed m (now (exec .entry)) (now (exec .exit)) (now (cells .entry)) (now (cells .entry)) r ⌝ }
 {
     frames::run_top(m, exec, cells);
@@ -97,7 +100,7 @@ pub fn start(m: Machine, exec: &mut [u32], cells: &[u32]) -> Did
 
 // A procedure of which no element is left goes.
 pub fn finish(m: Machine, exec: &[u32], cells: &mut [u32]) -> Did
-    requires { ⌜ (1 ≤ m .frames) × (getD (now exec) (8 * (m .frames - 1)) 0 ≡ 1) × (getD (now exec) (8 * (m .frames - 1) + 4) 0 ≡ 0) × Somewhere m (now exec) (now cells) ⌝ }
+    requires { ⌜ (1 ≤ m .frames) × (frameKind (now exec) (m .frames - 1) ≡ 1) × (frameLeft (now exec) (m .frames - 1) ≡ 0) × Somewhere m (now exec) (now cells) ⌝ }
     ensures { λ r. ⌜ DoesTurn resumed m (now (exec .entry)) (now (exec .entry)) (now (cells .entry)) (now (cells .exit)) r ⌝ }
 {
     Did::Ok(m.drop_frame(exec, cells))
@@ -106,10 +109,10 @@ pub fn finish(m: Machine, exec: &[u32], cells: &mut [u32]) -> Did
 // The next element of a running procedure is pushed, and the procedure goes on.
 // Ruled out: an element that is skipped or pushed twice; a procedure inside that runs at once.
 pub fn push_next(m: Machine, stack: &mut [u32], exec: &mut [u32], cells: &mut [u32]) -> Did
-    requires { ⌜ (1 ≤ m .frames) × (getD (now exec) (8 * (m .frames - 1)) 0 ≡ 1) × (1 ≤ getD (now exec) (8 * (m .frames - 1) + 4) 0) × Quiet (word (now cells) (getD (now exec) (8 * (m .frames - 1) + 3) 0) 0) × SomewhereAll m (now stack) (now exec) (now cells) ⌝ }
+    requires { ⌜ (1 ≤ m .frames) × (frameKind (now exec) (m .frames - 1) ≡ 1) × (1 ≤ frameLeft (now exec) (m .frames - 1)) × Quiet (word (now cells) (frameCell (now exec) (m .frames - 1)) 0) × SomewhereAll m (now stack) (now exec) (now cells) ⌝ }
     ensures { λ r. ⌜ DoesFrames resumed m (now (stack .entry)) (now (stack .exit)) (now (exec .entry)) (now (exec .exit)) (now (cells .entry)) (now (cells .exit)) r ⌝ }
 {
-    if stack.len() < 2 * m.depth + 2 {
+    if stack.len() < STACK_WIDTH * m.depth + STACK_WIDTH {
         return Did::Fail(Error::StackOverflow);
     }
     let r = frames::push_element(m, stack, exec, cells);

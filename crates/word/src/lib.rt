@@ -11,10 +11,10 @@ ghost use Rattle.semantics.specs.Words.{signed, word, shift};
 ghost use Rattle.word.specs.Answers.{quotientOf, dividedWords, isCorner};
 
 // The sign bit alone: the least integer, -2147483648.
-const SIGN: u32 = 0x8000_0000;
+pub const SIGN: u32 = 0x8000_0000;
 
 // Every bit: -1.
-const ALL_ONES: u32 = 0xFFFF_FFFF;
+pub const ALL_ONES: u32 = 0xFFFF_FFFF;
 
 const WIDTH: u32 = 32;
 

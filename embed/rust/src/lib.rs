@@ -33,6 +33,9 @@ pub use refusal::Refusal;
 pub use report::Report;
 pub use token::{token, Kind, Token, TokenError};
 
+/// The names that every dictionary begins with, each in a slot of its own.
+pub const PREDEFINED_NAMES: usize = 58;
+
 /// Fuel that is accepted at most.
 pub const FUEL_MAX: u32 = 1_000_000;
 
@@ -43,7 +46,7 @@ pub struct Sizes {
     pub stack: usize,
     /// Execution slots, 4 to 128.
     pub execution: usize,
-    /// Dictionary slots, 58 to 512.
+    /// Dictionary slots, [`PREDEFINED_NAMES`] to 512.
     pub dictionary: usize,
     /// Arena cells, 1 to 32,768: an array of n takes n + 1, a string of at most m bytes 1 + m/8, rounded up.
     pub cells: usize,

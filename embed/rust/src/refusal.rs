@@ -15,7 +15,7 @@ pub enum Refusal {
     StackSlots = 4,
     /// The execution slots are not 4 to 128.
     ExecutionSlots = 5,
-    /// The dictionary slots are not 58 to 512.
+    /// The dictionary slots are fewer than the predefined names, or over 512.
     DictionarySlots = 6,
     /// The arena cells are not 1 to 32,768.
     Cells = 7,
@@ -60,7 +60,7 @@ impl fmt::Display for Refusal {
             Refusal::TooMuchFuel => "the fuel is over 1000000",
             Refusal::StackSlots => "the stack slots are not 8 to 256",
             Refusal::ExecutionSlots => "the execution slots are not 4 to 128",
-            Refusal::DictionarySlots => "the dictionary slots are not 58 to 512",
+            Refusal::DictionarySlots => "the dictionary slots are fewer than the predefined names, or over 512",
             Refusal::Cells => "the cells are not 1 to 32768",
             Refusal::LogTooLong => "the log is over 65536 bytes",
             Refusal::OutcomeTooShort => "the outcome is under 256 + 136 x stack slots bytes",

@@ -157,7 +157,7 @@ fn refusals() {
     let limits: [(u32, Set, usize, usize); 4] = [
         (4, |sizes, n| sizes.stack = n, 8, 256),
         (5, |sizes, n| sizes.execution = n, 4, 128),
-        (6, |sizes, n| sizes.dictionary = n, 58, 512),
+        (6, |sizes, n| sizes.dictionary = n, floo::PREDEFINED_NAMES, 512),
         (7, |sizes, n| sizes.cells = n, 1, 32_768),
     ];
     for (number, set, least, most) in limits {

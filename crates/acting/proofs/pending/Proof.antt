@@ -40,8 +40,8 @@ forget-frame-requires c κs = search needs
 
 rare-requires : tie.Need-rare-requires
 rare-requires c κs =
-    let w = operator-ready (c .before .before .before .before .before .before .before .before .before .before .before .before .before .before .pre .3 .1) (c .before .before .before .before .before .before .before .before .before .before .before .before .before .before .pre .0) (c .before .before .before .before .before .before .before .before .before .before .before .before .before .before .pre .1) (c .before .before .before .before .forget-frame .ensures .0) (c .before .before .before .before .before .if1 .taken) in
-    (c .before .before .before .before .before .before .before .before .before .before .before .before .before .before .pre .2 .pending (c .before .before .before .before .before .before .before .before .before .before .before .before .before .before .pre .1) (c .before .before .before .before .before .if1 .taken), w .0, (_, w .1))
+    let w = operator-ready (c .before .before .before .before .before .before .before .before .before .before .before .before .before .before .before .pre .3 .1) (c .before .before .before .before .before .before .before .before .before .before .before .before .before .before .before .pre .0) (c .before .before .before .before .before .before .before .before .before .before .before .before .before .before .before .pre .1) (c .before .before .before .before .before .forget-frame .ensures .0) (c .before .before .before .before .before .before .if1 .taken) in
+    (c .before .before .before .before .before .before .before .before .before .before .before .before .before .before .before .pre .2 .pending (c .before .before .before .before .before .before .before .before .before .before .before .before .before .before .before .pre .1) (c .before .before .before .before .before .before .if1 .taken), w .0, w .1)
 
 settled-requires : tie.Need-settled-requires
 settled-requires c κs = search needs
@@ -58,14 +58,14 @@ same-length-3 c = search needs
 same-length-4 : tie.Need-same-length-4
 same-length-4 c = search needs
 
+same-length-5 : tie.Need-same-length-5
+same-length-5 c = search needs
+
 returns : tie.Need-returns
-returns c = operator-does _ (c .before .before .before .before .before .before .before .before .before .before .before .before .before .before .before .before .before .before .before .before .before .before .before .before .pre .0) (c .before .before .before .before .before .before .before .before .before .before .before .before .before .before .before .before .before .before .before .before .before .before .before .before .pre .1) (c .before .before .before .before .before .before .before .before .before .before .before .before .before .before .before .if1 .taken) (c .before .before .before .before .before .before .before .before .before .before .before .before .before .before .forget-frame .ensures .0) (settled-does (c .settled .ensures) (c .before .before .before .before .before .before .before .before .before .rare .ensures) _)
+returns c = operator-does _ (c .before .before .before .before .before .before .before .before .before .before .before .before .before .before .before .before .before .before .before .before .before .before .before .before .before .before .before .pre .0) (c .before .before .before .before .before .before .before .before .before .before .before .before .before .before .before .before .before .before .before .before .before .before .before .before .before .before .before .pre .1) (c .before .before .before .before .before .before .before .before .before .before .before .before .before .before .before .before .before .before .if1 .taken) (c .before .before .before .before .before .before .before .before .before .before .before .before .before .before .before .before .before .forget-frame .ensures .0) (settled-does (c .settled .ensures) (c .before .before .before .before .before .before .before .before .before .before .before .rare .ensures))
 
 name-pending-requires : tie.Need-name-pending-requires
 name-pending-requires c κs = (c .before .before .before .before .before .before .before .before .before .before .before .before .before .pre .0, c .before .before .before .before .before .before .before .before .before .before .before .before .before .pre .1, c .before .before .before .if2 .taken, (_, _, _, c .before .before .before .before .before .before .before .before .before .before .before .before .before .pre .3 .1))
-
-same-length-5 : tie.Need-same-length-5
-same-length-5 c = search needs
 
 same-length-6 : tie.Need-same-length-6
 same-length-6 c = search needs
@@ -73,17 +73,20 @@ same-length-6 c = search needs
 same-length-7 : tie.Need-same-length-7
 same-length-7 c = search needs
 
+same-length-8 : tie.Need-same-length-8
+same-length-8 c = search needs
+
 returns-2 : tie.Need-returns-2
 returns-2 c = binding-all _ (c .before .before .before .before .name-pending .ensures) _ _
 
 start-requires : tie.Need-start-requires
 start-requires c κs = (c .before .before .before .before .before .before .before .before .before .before .before .before .before .pre .0, c .before .before .before .before .before .before .before .before .before .before .before .before .before .pre .1, c .before .before .if3 .taken, (_, _, _, _, c .before .before .before .before .before .before .before .before .before .before .before .before .before .pre .3 .1))
 
-same-length-8 : tie.Need-same-length-8
-same-length-8 c = search needs
-
 same-length-9 : tie.Need-same-length-9
 same-length-9 c = search needs
+
+same-length-10 : tie.Need-same-length-10
+same-length-10 c = search needs
 
 returns-3 : tie.Need-returns-3
 returns-3 c = frames-all _ (turn-frames _ (c .before .before .start .ensures) _) _ _
@@ -91,11 +94,11 @@ returns-3 c = frames-all _ (turn-frames _ (c .before .before .start .ensures) _)
 push-top-requires : tie.Need-push-top-requires
 push-top-requires c κs = (c .before .before .before .before .before .before .before .before .before .before .before .before .before .pre .0, c .before .before .before .before .before .before .before .before .before .before .before .before .before .pre .1, (c .before .before .before .before .if1 .left, c .before .before .before .if2 .left), c .before .before .if3 .left, (_, _, _, _, c .before .before .before .before .before .before .before .before .before .before .before .before .before .pre .3 .1))
 
-same-length-10 : tie.Need-same-length-10
-same-length-10 c = search needs
-
 same-length-11 : tie.Need-same-length-11
 same-length-11 c = search needs
+
+same-length-12 : tie.Need-same-length-12
+same-length-12 c = search needs
 
 returns-4 : tie.Need-returns-4
 returns-4 c = frames-all _ (items-frames _ (c .before .before .push-top .ensures) _) _ _
@@ -120,17 +123,18 @@ pending-spec =
     same-length-2
     same-length-3
     same-length-4
+    same-length-5
     returns
     name-pending-requires
-    same-length-5
     same-length-6
     same-length-7
+    same-length-8
     returns-2
     start-requires
-    same-length-8
     same-length-9
+    same-length-10
     returns-3
     push-top-requires
-    same-length-10
     same-length-11
+    same-length-12
     returns-4)

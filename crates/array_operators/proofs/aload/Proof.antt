@@ -38,7 +38,7 @@ returns-3 : tie.Need-returns-3
 returns-3 c = aload-over (c .before .before .before .before .before .before .before .before .if1 .left) (_, c .before .before .before .before .before .if2 .left, c .before .before .before .before .before .before .tag-of .ensures) (c .before .before .size-of .ensures) (c .if3 .taken)
 
 spread-requires : tie.Need-spread-requires
-spread-requires c κs = (c .before .before .before .before .before .before .before .before .before .before .if1 .left, omega (arith, c .before .before .if3 .left, c .before .before .before .before .before .before .before .before .before .before .before .before .before .before .pre .4 .stack-room), first-there (_, c .before .before .before .before .before .before .before .if2 .left, c .before .before .before .before .before .before .before .before .tag-of .ensures) (c .before .before .before .before .size-of .ensures) (c .before .before .before .before .before .before .before .before .before .before .before .before .before .before .pre))
+spread-requires c κs = (c .before .before .before .before .before .before .before .before .before .before .if1 .left, omega (arith, c .before .before .if3 .left, c .before .before .before .before .before .before .before .before .before .before .before .before .before .before .pre .4 .rooms .stack-fits), first-there (_, c .before .before .before .before .before .before .before .if2 .left, c .before .before .before .before .before .before .before .before .tag-of .ensures) (c .before .before .before .before .size-of .ensures) (c .before .before .before .before .before .before .before .before .before .before .before .before .before .before .pre))
 
 same-length-4 : tie.Need-same-length-4
 same-length-4 c = search needs

@@ -42,7 +42,7 @@ store-items-requires : tie.Need-store-items-requires
 store-items-requires c κs = (c .before .before .before .before .before .before .before .before .before .before .if1 .left, omega (arith, c .before .before .before .before .before .before .before .before .before .before .if1 .left, c .before .before .if3 .left), omega arith, first-there (_, c .before .before .before .before .before .before .before .if2 .left, c .before .before .before .before .before .before .before .before .tag-of .ensures) (c .before .before .before .before .size-of .ensures) (c .before .before .before .before .before .before .before .before .before .before .before .before .before .before .pre))
 
 swap-requires : tie.Need-swap-requires
-swap-requires c κs = (omega (arith, c .before .before .before .before .before .before .before .before .before .before .before .before .before .before .if1 .left, c .before .before .before .store-items .ensures .1), omega (arith, c .before .before .before .before .before .before .before .before .before .before .before .before .before .before .if1 .left, c .before .before .before .before .before .before .if3 .left, c .before .before .before .store-items .ensures .1), omega (arith, c .before .before .before .store-items .ensures .1, c .before .before .before .before .before .before .before .before .before .before .before .before .before .before .before .before .before .before .pre .4 .stack-room))
+swap-requires c κs = (omega (arith, c .before .before .before .before .before .before .before .before .before .before .before .before .before .before .if1 .left, c .before .before .before .store-items .ensures .1), omega (arith, c .before .before .before .before .before .before .before .before .before .before .before .before .before .before .if1 .left, c .before .before .before .before .before .before .if3 .left, c .before .before .before .store-items .ensures .1), omega (arith, c .before .before .before .store-items .ensures .1, c .before .before .before .before .before .before .before .before .before .before .before .before .before .before .before .before .before .before .pre .4 .rooms .stack-fits))
 
 drop-items-requires : tie.Need-drop-items-requires
 drop-items-requires c κs = (omega (arith, c .before .before .before .before .before .before .before .before .before .before .before .before .before .before .before .before .before .before .before .if1 .left, c .before .before .before .before .before .before .before .before .before .before .before .if3 .left, c .before .before .before .before .before .before .before .before .store-items .ensures .1, c .before .before .before .before .swap .ensures .1), elsewhere (then-heap (c .before .before .before .before .before .before .before .before .store-items .ensures .0) (stack-heap (c .before .before .before .before .swap .ensures .0))) (c .before .before .before .before .before .before .before .before .before .before .before .before .before .before .before .before .before .before .before .before .before .before .before .pre))

@@ -2,6 +2,7 @@
 -- Assumes nothing.
 use Rattle.array_operators.proofs.Getting.{get-beyond, get-byte-done}
 use borrow.Author.Needs.{needs}
+use native.Mathlib.Omega.{arith}
 use Rattle.elements.proofs.Tags.{string-there}
 use Rattle.array_operators.proofs.get_from_string.Statement.{statement}
 use Rattle.array_operators.proofs.get_from_string.Tie as tie
@@ -25,7 +26,7 @@ drop-items-requires : tie.Need-drop-items-requires
 drop-items-requires c κs = search needs
 
 push-scalar-requires : tie.Need-push-scalar-requires
-push-scalar-requires c κs = search needs
+push-scalar-requires c κs = let start = c .before .before .before .before .before .before .before .before .before .before .before .before .before .before .before in omega (arith, c .before .before .before .drop-items .ensures .1, start .pre .0, start .pre .4 .4 .rooms .stack-fits)
 
 same-length-3 : tie.Need-same-length-3
 same-length-3 c = search needs

@@ -23,7 +23,7 @@ swap-requires : tie.Need-swap-requires Inv-loop μ-loop
 swap-requires c κs = (omega (arith, c .before .before .before .push-scalar .ensures .1), omega (arith, c .before .before .before .push-scalar .ensures .1, c .before .before .before .before .before .before .loop .inv .deep, c .before .before .before .before .before .before .before .before .before .pre .0), omega (arith, c .before .before .before .push-scalar .ensures .1, c .before .before .before .push-scalar .kept .1 .0, c .before .before .before .before .before .before .loop .inv .deep, c .before .before .before .before .before .before .loop .inv .long, c .before .before .before .before .before .loop-test .taken, c .before .before .before .before .before .before .before .before .before .pre .1))
 
 cast-copy-element : tie.Need-cast-copy-element Inv-loop μ-loop
-cast-copy-element c = omega (arith, c .before .before .before .before .before .before .before .before .before .before .loop-test .taken, c .before .before .before .before .before .before .before .before .before .before .before .before .before .before .pre .1, c .before .before .before .before .before .before .before .before .before .before .before .before .before .before .pre .2 .4 .stack-few)
+cast-copy-element c = omega (arith, c .before .before .before .before .before .before .before .before .before .before .loop-test .taken, c .before .before .before .before .before .before .before .before .before .before .before .before .before .before .pre .1, c .before .before .before .before .before .before .before .before .before .before .before .before .before .before .pre .2 .4 .rooms .stack-few)
 
 copy-element-requires : tie.Need-copy-element-requires Inv-loop μ-loop
 copy-element-requires c κs = (omega (arith, c .before .before .before .before .swap .ensures .1, c .before .before .before .before .before .before .before .before .push-scalar .ensures .1), omega (arith, c .before .before .before .before .swap .ensures .1, c .before .before .before .before .before .before .before .before .push-scalar .ensures .1, c .before .before .before .before .before .before .before .before .before .before .before .loop .inv .deep, c .before .before .before .before .before .before .before .before .before .before .before .before .before .before .pre .0), next-element (c .before .before .before .before .before .before .before .before .before .before .before .before .before .before .pre .0) (c .before .before .before .before .before .before .before .before .before .before .before .before .before .before .pre .2) (c .before .before .before .before .before .before .before .before .before .before .before .loop .inv) (c .before .before .before .before .before .before .before .before .before .before .loop-test .taken) (c .before .before .before .before .before .before .before .before .push-scalar .ensures .0) (c .before .before .before .before .swap .ensures .0))

@@ -16,7 +16,7 @@ loop-holds : tie.Need-loop-holds Inv-loop μ-loop
 loop-holds c = begin (c .before .before .pre .0) (c .before .before .pre .3)
 
 cast-put-element : tie.Need-cast-put-element Inv-loop μ-loop
-cast-put-element c = omega (arith, c .before .loop-test .taken, c .before .before .before .before .before .pre .1, c .before .before .before .before .before .pre .2, c .before .before .before .before .before .pre .3 .4 .stack-room, c .before .before .before .before .before .pre .3 .4 .stack-few)
+cast-put-element c = omega (arith, c .before .loop-test .taken, c .before .before .before .before .before .pre .1, c .before .before .before .before .before .pre .2, c .before .before .before .before .before .pre .3 .4 .rooms .stack-fits, c .before .before .before .before .before .pre .3 .4 .rooms .stack-few)
 
 sub-put-element : tie.Need-sub-put-element Inv-loop μ-loop
 sub-put-element c = omega (arith, c .before .loop-test .taken, c .before .before .before .before .before .pre .2)

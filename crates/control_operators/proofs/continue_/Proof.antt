@@ -7,7 +7,7 @@ use Rattle.control_operators.proofs.continue_.Statement.{statement}
 use Rattle.control_operators.proofs.continue_.Tie as tie
 
 find-loop-requires : tie.Need-find-loop-requires
-find-loop-requires c κs = c .before .before .pre .4 .exec-room
+find-loop-requires c κs = c .before .before .pre .4 .rooms .exec-fits
 
 stop-requires : tie.Need-stop-requires
 stop-requires c κs = search needs

@@ -66,7 +66,7 @@ pend-top-requires-2 : tie.Need-pend-top-requires-2
 pend-top-requires-2 c κs =
     let P = c .before .before .before .before .before .before .before .before .before .before .before .before .before .before .before .before .before .pre in
     let D = c .before .before .before .drop2 .ensures in
-    (omega (arith, c .before .before .before .before .before .before .before .before .before .before .before .before .if1 .left, D .1), omega (arith, D .1, P .3 .stack-room), omega (arith, c .before .before .before .before .before .before .before .if3 .left, same-frames (P .3) (D .0 .moves _ (P .0) (P .1) (P .2) (P .3))))
+    (omega (arith, c .before .before .before .before .before .before .before .before .before .before .before .before .if1 .left, D .1), omega (arith, D .1, P .3 .rooms .stack-fits), omega (arith, c .before .before .before .before .before .before .before .if3 .left, same-frames (P .3) (D .0 .moves _ (P .0) (P .1) (P .2) (P .3))))
 
 forget-requires-2 : tie.Need-forget-requires-2
 forget-requires-2 c κs = search needs

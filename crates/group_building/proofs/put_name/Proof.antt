@@ -8,7 +8,7 @@ use Rattle.group_building.proofs.put_name.Tie as tie
 find-requires : tie.Need-find-requires
 find-requires c κs =
     let start = c .before .before .before in
-    (start .pre .11, start .pre .9 .rep .dict-room, start .pre .9 .rep .dict-few)
+    (start .pre .11, start .pre .9 .rep .rooms .dict-fits, start .pre .9 .rep .rooms .dict-few)
 
 cast-set-plain : tie.Need-cast-set-plain
 cast-set-plain c = search needs

@@ -9,7 +9,7 @@ use Rattle.group_taking.proofs.construct.Statement.{statement}
 use Rattle.group_taking.proofs.construct.Tie as tie
 
 push-words-requires : tie.Need-push-words-requires
-push-words-requires c κs = (c .before .before .before .before .before .pre .2 .5 .stack, c .before .before .before .before .before .pre .2 .5 .rep .stack-few)
+push-words-requires c κs = (c .before .before .before .before .before .pre .2 .5 .stack, c .before .before .before .before .before .pre .2 .5 .rep .rooms .stack-few)
 
 cast-new-array : tie.Need-cast-new-array
 cast-new-array c = omega (arith, c .before .before .before .before .before .before .before .before .before .before .pre .1)
@@ -18,22 +18,22 @@ new-array-requires : tie.Need-new-array-requires
 new-array-requires c κs = (omega (arith, words-depth (c .before .before .before .before .push-words .ensures)), omega (arith, words-free (c .before .before .before .before .before .before .before .before .before .before .args .cells .now) (c .before .before .before .before .push-words .ensures), c .before .before .before .before .before .before .before .before .before .before .pre .2 .5 .cells, c .before .before .before .before .before .before .before .before .before .before .pre .2 .6), null-there (c .before .before .before .before .before .before .before .before .before .before .pre .2 .5 .stack) (c .before .before .before .before .push-words .ensures) (_, _, _, _, c .before .before .before .before .before .before .before .before .before .before .pre .2 .5 .rep))
 
 mul-stack : tie.Need-mul-stack
-mul-stack c = omega (arith, c .before .before .before .before .before .before .before .before .before .before .before .before .before .before .before .pre .2 .5 .stack, c .before .before .before .before .before .before .before .before .before .before .before .before .before .before .before .pre .2 .5 .rep .stack-few)
+mul-stack c = omega (arith, c .before .before .before .before .before .before .before .before .before .before .before .before .before .before .before .pre .2 .5 .stack, c .before .before .before .before .before .before .before .before .before .before .before .before .before .before .before .pre .2 .5 .rep .rooms .stack-few)
 
 mul-stack-2 : tie.Need-mul-stack-2
-mul-stack-2 c = omega (arith, c .before .before .before .before .before .before .before .before .before .before .before .before .before .before .before .pre .2 .5 .stack, c .before .before .before .before .before .before .before .before .before .before .before .before .before .before .before .pre .2 .5 .rep .stack-few)
+mul-stack-2 c = omega (arith, c .before .before .before .before .before .before .before .before .before .before .before .before .before .before .before .pre .2 .5 .stack, c .before .before .before .before .before .before .before .before .before .before .before .before .before .before .before .pre .2 .5 .rep .rooms .stack-few)
 
 slice-write-stack : tie.Need-slice-write-stack
 slice-write-stack c = omega (arith, c .before .before .before .before .before .before .before .before .before .before .before .before .before .before .before .pre .2 .5 .stack, c .before .before .before .before .new-array .kept .1 .0, c .before .before .before .before .before .before .before .before .before .push-words .kept .1 .0)
 
 mul-first-cell : tie.Need-mul-first-cell
-mul-first-cell c = omega (arith, c .before .before .before .before .before .before .before .before .before .before .before .before .before .before .before .before .pre .2 .5 .stack, c .before .before .before .before .before .before .before .before .before .before .before .before .before .before .before .before .pre .2 .5 .rep .stack-few)
+mul-first-cell c = omega (arith, c .before .before .before .before .before .before .before .before .before .before .before .before .before .before .before .before .pre .2 .5 .stack, c .before .before .before .before .before .before .before .before .before .before .before .before .before .before .before .before .pre .2 .5 .rep .rooms .stack-few)
 
 add-first-cell : tie.Need-add-first-cell
-add-first-cell c = omega (arith, c .before .before .before .before .before .before .before .before .before .before .before .before .before .before .before .before .pre .2 .5 .stack, c .before .before .before .before .before .before .before .before .before .before .before .before .before .before .before .before .pre .2 .5 .rep .stack-few)
+add-first-cell c = omega (arith, c .before .before .before .before .before .before .before .before .before .before .before .before .before .before .before .before .pre .2 .5 .stack, c .before .before .before .before .before .before .before .before .before .before .before .before .before .before .before .before .pre .2 .5 .rep .rooms .stack-few)
 
 mul-first-cell-2 : tie.Need-mul-first-cell-2
-mul-first-cell-2 c = omega (arith, c .before .before .before .before .before .before .before .before .before .before .before .before .before .before .before .before .pre .2 .5 .stack, c .before .before .before .before .before .before .before .before .before .before .before .before .before .before .before .before .pre .2 .5 .rep .stack-few)
+mul-first-cell-2 c = omega (arith, c .before .before .before .before .before .before .before .before .before .before .before .before .before .before .before .before .pre .2 .5 .stack, c .before .before .before .before .before .before .before .before .before .before .before .before .before .before .before .before .pre .2 .5 .rep .rooms .stack-few)
 
 slice-read-first-cell : tie.Need-slice-read-first-cell
 slice-read-first-cell c = simp length-set (omega (arith, c .before .before .before .before .before .before .before .before .before .before .before .before .before .before .before .before .before .pre .2 .5 .stack, c .before .before .before .before .before .before .new-array .kept .1 .0, c .before .before .before .before .before .before .before .before .before .before .before .push-words .kept .1 .0))

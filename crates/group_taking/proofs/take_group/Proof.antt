@@ -41,10 +41,10 @@ returns-2 : tie.Need-returns-2
 returns-2 c = group-full (c .before .before .before .before .before .before .before .before .before .before .before .before .before .before .before .pre .0) (c .before .before .before .before .before .before .before .before .before .before .before .before .before .before .before .pre .1) (judged-good (c .before .before .before .before .before .before .before .before .before .before .judge .ensures) (c .before .before .before .before .before .before .before .before .judged .given .1) .1) (c .before .before .before .before .before .add-names .ensures) (c .before .before .before .before .before .add-names .kept .1 .0) (c .before .enum-told2 .given .1) (c .fault-of2 .ensures)
 
 mul-if1 : tie.Need-mul-if1
-mul-if1 c = omega (arith, c .before .before .before .before .before .before .before .before .before .before .before .before .before .before .before .before .pre .3 .3 .stack-room, c .before .before .before .before .before .before .before .before .before .before .before .before .before .before .before .before .pre .3 .3 .stack-few)
+mul-if1 c = omega (arith, c .before .before .before .before .before .before .before .before .before .before .before .before .before .before .before .before .pre .3 .3 .rooms .stack-fits, c .before .before .before .before .before .before .before .before .before .before .before .before .before .before .before .before .pre .3 .3 .rooms .stack-few)
 
 add-if1 : tie.Need-add-if1
-add-if1 c = omega (arith, c .before .before .before .before .before .before .before .before .before .before .before .before .before .before .before .before .pre .3 .3 .stack-room, c .before .before .before .before .before .before .before .before .before .before .before .before .before .before .before .before .pre .3 .3 .stack-few)
+add-if1 c = omega (arith, c .before .before .before .before .before .before .before .before .before .before .before .before .before .before .before .before .pre .3 .3 .rooms .stack-fits, c .before .before .before .before .before .before .before .before .before .before .before .before .before .before .before .before .pre .3 .3 .rooms .stack-few)
 
 same-length-2 : tie.Need-same-length-2
 same-length-2 c = c .before .before .before .before .before .before .before .add-names .kept .1 .0

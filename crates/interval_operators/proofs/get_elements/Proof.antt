@@ -54,7 +54,7 @@ copy-elements-requires c κs =
 retag-requires : tie.Need-retag-requires
 retag-requires c κs =
     let W = elsewhere (c .before .before .before .before .before .copy-elements .ensures .0) (elsewhere (c .before .before .before .before .before .before .before .before .before .before .before .before .new-array .ensures .0) (c .before .before .before .before .before .before .before .before .before .before .before .before .before .before .before .before .before .before .before .before .before .before .before .before .pre .6)) in
-    (omega (arith, c .before .before .before .before .before .before .before .before .before .before .before .before .before .before .before .before .before .before .before .before .before .before .before .before .pre .0, c .before .before .before .before .before .before .before .before .before .before .before .before .new-array .ensures .1, c .before .before .before .before .before .copy-elements .ensures .1), W .4 .stack-room)
+    (omega (arith, c .before .before .before .before .before .before .before .before .before .before .before .before .before .before .before .before .before .before .before .before .before .before .before .before .pre .0, c .before .before .before .before .before .before .before .before .before .before .before .before .new-array .ensures .1, c .before .before .before .before .before .copy-elements .ensures .1), W .4 .rooms .stack-fits)
 
 leave-result-requires : tie.Need-leave-result-requires
 leave-result-requires c κs =

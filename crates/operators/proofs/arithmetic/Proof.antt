@@ -32,35 +32,35 @@ same-length c = search needs
 
 returns : tie.Need-returns
 unfolding titles table _is_
-returns c = stack-named 6 _ (c .before .before .before .before .match .keys1) refl (c .before .before .add .ensures)
+returns c = stack-named _ _ (c .before .before .before .before .match .keys1) refl (c .before .before .add .ensures)
 
 same-length-2 : tie.Need-same-length-2
 same-length-2 c = search needs
 
 returns-2 : tie.Need-returns-2
 unfolding titles table _is_
-returns-2 c = stack-named 7 _ (c .before .before .before .before .match .keys2) refl (c .before .before .sub .ensures)
+returns-2 c = stack-named _ _ (c .before .before .before .before .match .keys2) refl (c .before .before .sub .ensures)
 
 same-length-3 : tie.Need-same-length-3
 same-length-3 c = search needs
 
 returns-3 : tie.Need-returns-3
 unfolding titles table _is_
-returns-3 c = stack-named 8 _ (c .before .before .before .before .match .keys3) refl (c .before .before .mul .ensures)
+returns-3 c = stack-named _ _ (c .before .before .before .before .match .keys3) refl (c .before .before .mul .ensures)
 
 same-length-4 : tie.Need-same-length-4
 same-length-4 c = search needs
 
 returns-4 : tie.Need-returns-4
 unfolding titles table _is_
-returns-4 c = stack-named 9 _ (c .before .before .before .before .match .keys4) refl (c .before .before .idiv .ensures)
+returns-4 c = stack-named _ _ (c .before .before .before .before .match .keys4) refl (c .before .before .idiv .ensures)
 
 same-length-5 : tie.Need-same-length-5
 same-length-5 c = search needs
 
 returns-5 : tie.Need-returns-5
 unfolding titles table _is_
-returns-5 c = stack-named 10 _ (c .before .before .before .before .match .keys5) refl (c .before .before .rem .ensures)
+returns-5 c = stack-named _ _ (c .before .before .before .before .match .keys5) refl (c .before .before .rem .ensures)
 
 same-length-6 : tie.Need-same-length-6
 same-length-6 c = search needs

@@ -29,7 +29,7 @@ same-length-3 c = search needs
 
 returns : tie.Need-returns
 unfolding titles table _is_
-returns c = dictionary-named 24 _ (c .before .before .before .before .before .before .before .before .match .keys1) refl (c .before .before .before .before .def .ensures)
+returns c = dictionary-named _ _ (c .before .before .before .before .before .before .before .before .match .keys1) refl (c .before .before .before .before .def .ensures)
 
 same-length-4 : tie.Need-same-length-4
 same-length-4 c = search needs
@@ -42,7 +42,7 @@ same-length-6 c = search needs
 
 returns-2 : tie.Need-returns-2
 unfolding titles table _is_
-returns-2 c = dictionary-named 25 _ (c .before .before .before .before .before .before .before .before .match .keys2) refl (c .before .before .before .before .load .ensures)
+returns-2 c = dictionary-named _ _ (c .before .before .before .before .before .before .before .before .match .keys2) refl (c .before .before .before .before .load .ensures)
 
 same-length-7 : tie.Need-same-length-7
 same-length-7 c = search needs

@@ -32,35 +32,35 @@ same-length c = search needs
 
 returns : tie.Need-returns
 unfolding titles table _is_
-returns c = stack-named 12 _ (c .before .before .before .before .match .keys1) refl (c .before .before .neg .ensures)
+returns c = stack-named _ _ (c .before .before .before .before .match .keys1) refl (c .before .before .neg .ensures)
 
 same-length-2 : tie.Need-same-length-2
 same-length-2 c = search needs
 
 returns-2 : tie.Need-returns-2
 unfolding titles table _is_
-returns-2 c = stack-named 13 _ (c .before .before .before .before .match .keys2) refl (c .before .before .bitshift .ensures)
+returns-2 c = stack-named _ _ (c .before .before .before .before .match .keys2) refl (c .before .before .bitshift .ensures)
 
 same-length-3 : tie.Need-same-length-3
 same-length-3 c = search needs
 
 returns-3 : tie.Need-returns-3
 unfolding titles table _is_
-returns-3 c = stack-named 14 _ (c .before .before .before .before .match .keys3) refl (c .before .before .bit-not .ensures)
+returns-3 c = stack-named _ _ (c .before .before .before .before .match .keys3) refl (c .before .before .bit-not .ensures)
 
 same-length-4 : tie.Need-same-length-4
 same-length-4 c = search needs
 
 returns-4 : tie.Need-returns-4
 unfolding titles table _is_
-returns-4 c = stack-named 15 _ (c .before .before .before .before .match .keys4) refl (c .before .before .bit-and .ensures)
+returns-4 c = stack-named _ _ (c .before .before .before .before .match .keys4) refl (c .before .before .bit-and .ensures)
 
 same-length-5 : tie.Need-same-length-5
 same-length-5 c = search needs
 
 returns-5 : tie.Need-returns-5
 unfolding titles table _is_
-returns-5 c = stack-named 16 _ (c .before .before .before .before .match .keys5) refl (c .before .before .bit-or .ensures)
+returns-5 c = stack-named _ _ (c .before .before .before .before .match .keys5) refl (c .before .before .bit-or .ensures)
 
 same-length-6 : tie.Need-same-length-6
 same-length-6 c = search needs

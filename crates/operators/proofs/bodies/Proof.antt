@@ -33,7 +33,7 @@ same-length c = search needs
 
 returns : tie.Need-returns
 unfolding titles table _is_
-returns c = frames-named 27 _ (c .before .before .before .before .match .keys1) refl (slots-frames _ (c .before .before .exec- .ensures) _)
+returns c = frames-named _ _ (c .before .before .before .before .match .keys1) refl (slots-frames _ (c .before .before .exec- .ensures) _)
 
 same-length-2 : tie.Need-same-length-2
 same-length-2 c = search needs
@@ -43,7 +43,7 @@ same-length-3 c = search needs
 
 returns-2 : tie.Need-returns-2
 unfolding titles table _is_
-returns-2 c = frames-named 28 _ (c .before .before .before .before .before .before .before .match .keys2) refl (c .before .before .before .before .if- .ensures)
+returns-2 c = frames-named _ _ (c .before .before .before .before .before .before .before .match .keys2) refl (c .before .before .before .before .if- .ensures)
 
 same-length-4 : tie.Need-same-length-4
 same-length-4 c = search needs
@@ -53,21 +53,21 @@ same-length-5 c = search needs
 
 returns-3 : tie.Need-returns-3
 unfolding titles table _is_
-returns-3 c = frames-named 29 _ (c .before .before .before .before .before .before .before .match .keys3) refl (c .before .before .before .before .ifelse .ensures)
+returns-3 c = frames-named _ _ (c .before .before .before .before .before .before .before .match .keys3) refl (c .before .before .before .before .ifelse .ensures)
 
 same-length-6 : tie.Need-same-length-6
 same-length-6 c = search needs
 
 returns-4 : tie.Need-returns-4
 unfolding titles table _is_
-returns-4 c = frames-named 30 _ (c .before .before .before .before .match .keys4) refl (slots-frames _ (c .before .before .loop- .ensures) _)
+returns-4 c = frames-named _ _ (c .before .before .before .before .match .keys4) refl (slots-frames _ (c .before .before .loop- .ensures) _)
 
 same-length-7 : tie.Need-same-length-7
 same-length-7 c = search needs
 
 returns-5 : tie.Need-returns-5
 unfolding titles table _is_
-returns-5 c = frames-named 31 _ (c .before .before .before .before .match .keys5) refl (slots-frames _ (c .before .before .repeat- .ensures) _)
+returns-5 c = frames-named _ _ (c .before .before .before .before .match .keys5) refl (slots-frames _ (c .before .before .repeat- .ensures) _)
 
 same-length-8 : tie.Need-same-length-8
 same-length-8 c = search needs

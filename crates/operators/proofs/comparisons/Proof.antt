@@ -26,21 +26,21 @@ same-length c = search needs
 
 returns : tie.Need-returns
 unfolding titles table _is_
-returns c = stack-named 20 _ (c .before .before .before .before .match .keys1) refl (c .before .before .lt .ensures)
+returns c = stack-named _ _ (c .before .before .before .before .match .keys1) refl (c .before .before .lt .ensures)
 
 same-length-2 : tie.Need-same-length-2
 same-length-2 c = search needs
 
 returns-2 : tie.Need-returns-2
 unfolding titles table _is_
-returns-2 c = stack-named 21 _ (c .before .before .before .before .match .keys2) refl (c .before .before .le .ensures)
+returns-2 c = stack-named _ _ (c .before .before .before .before .match .keys2) refl (c .before .before .le .ensures)
 
 same-length-3 : tie.Need-same-length-3
 same-length-3 c = search needs
 
 returns-3 : tie.Need-returns-3
 unfolding titles table _is_
-returns-3 c = stack-named 22 _ (c .before .before .before .before .match .keys3) refl (c .before .before .gt .ensures)
+returns-3 c = stack-named _ _ (c .before .before .before .before .match .keys3) refl (c .before .before .gt .ensures)
 
 same-length-4 : tie.Need-same-length-4
 same-length-4 c = search needs

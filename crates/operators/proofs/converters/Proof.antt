@@ -32,21 +32,21 @@ same-length-3 c = search needs
 
 returns : tie.Need-returns
 unfolding titles table _is_
-returns c = dictionary-named 47 _ (c .before .before .before .before .before .before .before .before .match .keys1) refl (named-dictionary _ (c .before .before .before .before .cvs .ensures))
+returns c = dictionary-named _ _ (c .before .before .before .before .before .before .before .before .match .keys1) refl (named-dictionary _ (c .before .before .before .before .cvs .ensures))
 
 same-length-4 : tie.Need-same-length-4
 same-length-4 c = search needs
 
 returns-2 : tie.Need-returns-2
 unfolding titles table _is_
-returns-2 c = dictionary-named 48 _ (c .before .before .before .before .match .keys2) refl (stack-dictionary _ (c .before .before .cvx .ensures) _ _)
+returns-2 c = dictionary-named _ _ (c .before .before .before .before .match .keys2) refl (stack-dictionary _ (c .before .before .cvx .ensures) _ _)
 
 same-length-5 : tie.Need-same-length-5
 same-length-5 c = search needs
 
 returns-3 : tie.Need-returns-3
 unfolding titles table _is_
-returns-3 c = dictionary-named 49 _ (c .before .before .before .before .match .keys3) refl (stack-dictionary _ (c .before .before .cvlit .ensures) _ _)
+returns-3 c = dictionary-named _ _ (c .before .before .before .before .match .keys3) refl (stack-dictionary _ (c .before .before .cvlit .ensures) _ _)
 
 same-length-6 : tie.Need-same-length-6
 same-length-6 c = search needs

@@ -23,14 +23,14 @@ same-length c = search needs
 
 returns : tie.Need-returns
 unfolding titles table _is_
-returns c = cells-named 33 _ (c .before .before .before .before .match .keys1) refl (c .before .before .exit .ensures)
+returns c = cells-named _ _ (c .before .before .before .before .match .keys1) refl (c .before .before .exit .ensures)
 
 same-length-2 : tie.Need-same-length-2
 same-length-2 c = search needs
 
 returns-2 : tie.Need-returns-2
 unfolding titles table _is_
-returns-2 c = cells-named 34 _ (c .before .before .before .before .match .keys2) refl (c .before .before .continue- .ensures)
+returns-2 c = cells-named _ _ (c .before .before .before .before .match .keys2) refl (c .before .before .continue- .ensures)
 
 returns-3 : tie.Need-returns-3
 unfolding titles table _is_

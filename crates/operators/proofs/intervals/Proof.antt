@@ -32,7 +32,7 @@ same-length-2 c = search needs
 
 returns : tie.Need-returns
 unfolding titles table _is_
-returns c = heap-named 42 _ (c .before .before .before .before .before .before .before .match .keys1) refl (c .before .before .before .before .getinterval .ensures)
+returns c = heap-named _ _ (c .before .before .before .before .before .before .before .match .keys1) refl (c .before .before .before .before .getinterval .ensures)
 
 same-length-3 : tie.Need-same-length-3
 same-length-3 c = search needs
@@ -42,7 +42,7 @@ same-length-4 c = search needs
 
 returns-2 : tie.Need-returns-2
 unfolding titles table _is_
-returns-2 c = heap-named 43 _ (c .before .before .before .before .before .before .before .match .keys2) refl (c .before .before .before .before .putinterval .ensures)
+returns-2 c = heap-named _ _ (c .before .before .before .before .before .before .before .match .keys2) refl (c .before .before .before .before .putinterval .ensures)
 
 same-length-5 : tie.Need-same-length-5
 same-length-5 c = search needs
@@ -52,7 +52,7 @@ same-length-6 c = search needs
 
 returns-3 : tie.Need-returns-3
 unfolding titles table _is_
-returns-3 c = heap-named 44 _ (c .before .before .before .before .before .before .before .match .keys3) refl (c .before .before .before .before .aload .ensures)
+returns-3 c = heap-named _ _ (c .before .before .before .before .before .before .before .match .keys3) refl (c .before .before .before .before .aload .ensures)
 
 same-length-7 : tie.Need-same-length-7
 same-length-7 c = search needs
@@ -62,7 +62,7 @@ same-length-8 c = search needs
 
 returns-4 : tie.Need-returns-4
 unfolding titles table _is_
-returns-4 c = heap-named 45 _ (c .before .before .before .before .before .before .before .match .keys4) refl (c .before .before .before .before .astore .ensures)
+returns-4 c = heap-named _ _ (c .before .before .before .before .before .before .before .match .keys4) refl (c .before .before .before .before .astore .ensures)
 
 same-length-9 : tie.Need-same-length-9
 same-length-9 c = search needs

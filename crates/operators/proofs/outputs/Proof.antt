@@ -26,7 +26,7 @@ same-length-2 c = search needs
 
 returns : tie.Need-returns
 unfolding titles table _is_
-returns c = log-named 51 _ (c .before .before .before .before .before .before .before .match .keys1) refl (c .before .before .before .before .echo .ensures)
+returns c = log-named _ _ (c .before .before .before .before .before .before .before .match .keys1) refl (c .before .before .before .before .echo .ensures)
 
 same-length-3 : tie.Need-same-length-3
 same-length-3 c = search needs
@@ -36,7 +36,7 @@ same-length-4 c = search needs
 
 returns-2 : tie.Need-returns-2
 unfolding titles table _is_
-returns-2 c = log-named 52 _ (c .before .before .before .before .before .match .keys2) refl (c .before .before .echostack .ensures)
+returns-2 c = log-named _ _ (c .before .before .before .before .before .match .keys2) refl (c .before .before .echostack .ensures)
 
 same-length-5 : tie.Need-same-length-5
 same-length-5 c = search needs

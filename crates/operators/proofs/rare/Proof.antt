@@ -15,7 +15,7 @@ same-length-2 : tie.Need-same-length-2
 same-length-2 c = search needs
 
 returns : tie.Need-returns
-returns c = record { all = λ e. heap-all _ (c .before .before .before .before .intervals .ensures) e _ _ }
+returns c = heap-all _ (c .before .before .before .before .intervals .ensures) _ _ _
 
 converters-requires : tie.Need-converters-requires
 converters-requires c κs = search needs
@@ -30,7 +30,7 @@ same-length-5 : tie.Need-same-length-5
 same-length-5 c = search needs
 
 returns-2 : tie.Need-returns-2
-returns-2 c = record { all = λ e. dictionary-all _ (c .before .before .before .before .before .before .converters .ensures) e _ }
+returns-2 c = dictionary-all _ (c .before .before .before .before .before .before .converters .ensures) _ _
 
 outputs-requires : tie.Need-outputs-requires
 outputs-requires c κs = search needs
@@ -48,7 +48,7 @@ same-length-9 : tie.Need-same-length-9
 same-length-9 c = search needs
 
 returns-3 : tie.Need-returns-3
-returns-3 c = record { all = λ e. log-all _ (c .before .before .before .before .outputs .ensures) e }
+returns-3 c = log-all _ (c .before .before .before .before .outputs .ensures) _
 
 pub rare-spec : {M : Type 1} → statement M
 rare-spec =

@@ -35,14 +35,14 @@ same-length-2 c = search needs
 
 returns : tie.Need-returns
 unfolding titles table _is_
-returns c = heap-named 0 _ (c .before .before .before .before .before .before .before .match .keys1) refl (c .before .before .before .before .dup .ensures)
+returns c = heap-named _ _ (c .before .before .before .before .before .before .before .match .keys1) refl (c .before .before .before .before .dup .ensures)
 
 same-length-3 : tie.Need-same-length-3
 same-length-3 c = search needs
 
 returns-2 : tie.Need-returns-2
 unfolding titles table _is_
-returns-2 c = heap-named 1 _ (c .before .before .before .before .match .keys2) refl (stack-does _ (c .before .before .exch .ensures) _)
+returns-2 c = heap-named _ _ (c .before .before .before .before .match .keys2) refl (stack-does _ (c .before .before .exch .ensures) _)
 
 same-length-4 : tie.Need-same-length-4
 same-length-4 c = search needs
@@ -52,7 +52,7 @@ same-length-5 c = search needs
 
 returns-3 : tie.Need-returns-3
 unfolding titles table _is_
-returns-3 c = heap-named 2 _ (c .before .before .before .before .before .before .before .match .keys3) refl (c .before .before .before .before .pop .ensures)
+returns-3 c = heap-named _ _ (c .before .before .before .before .before .before .before .match .keys3) refl (c .before .before .before .before .pop .ensures)
 
 same-length-6 : tie.Need-same-length-6
 same-length-6 c = search needs
@@ -62,7 +62,7 @@ same-length-7 c = search needs
 
 returns-4 : tie.Need-returns-4
 unfolding titles table _is_
-returns-4 c = heap-named 3 _ (c .before .before .before .before .before .before .before .match .keys4) refl (c .before .before .before .before .index .ensures)
+returns-4 c = heap-named _ _ (c .before .before .before .before .before .before .before .match .keys4) refl (c .before .before .before .before .index .ensures)
 
 same-length-8 : tie.Need-same-length-8
 same-length-8 c = search needs
@@ -72,7 +72,7 @@ same-length-9 c = search needs
 
 returns-5 : tie.Need-returns-5
 unfolding titles table _is_
-returns-5 c = heap-named 4 _ (c .before .before .before .before .before .before .before .match .keys5) refl (c .before .before .before .before .copy .ensures)
+returns-5 c = heap-named _ _ (c .before .before .before .before .before .before .before .match .keys5) refl (c .before .before .before .before .copy .ensures)
 
 same-length-10 : tie.Need-same-length-10
 same-length-10 c = search needs

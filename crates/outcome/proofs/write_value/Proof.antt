@@ -7,31 +7,31 @@ use Rattle.outcome.proofs.write_value.Statement.{statement}
 use Rattle.outcome.proofs.write_value.Tie as tie
 
 sub-k : tie.Need-sub-k
-sub-k c = omega (arith, c .before .before .before .before .before .pre .1 .inside, c .before .before .before .before .before .pre .1 .rep .stack-room, c .before .before .before .before .before .pre .1 .rep .stack-few)
+sub-k c = omega (arith, c .before .before .before .before .before .pre .1 .inside, c .before .before .before .before .before .pre .1 .rep .rooms .stack-fits, c .before .before .before .before .before .pre .1 .rep .rooms .stack-few)
 
 sub-k-2 : tie.Need-sub-k-2
-sub-k-2 c = omega (arith, c .before .before .before .before .before .pre .1 .inside, c .before .before .before .before .before .pre .1 .rep .stack-room, c .before .before .before .before .before .pre .1 .rep .stack-few)
+sub-k-2 c = omega (arith, c .before .before .before .before .before .pre .1 .inside, c .before .before .before .before .before .pre .1 .rep .rooms .stack-fits, c .before .before .before .before .before .pre .1 .rep .rooms .stack-few)
 
 mul-tag : tie.Need-mul-tag
-mul-tag c = omega (arith, c .before .before .before .before .before .pre .1 .inside, c .before .before .before .before .before .pre .1 .rep .stack-room, c .before .before .before .before .before .pre .1 .rep .stack-few)
+mul-tag c = omega (arith, c .before .before .before .before .before .pre .1 .inside, c .before .before .before .before .before .pre .1 .rep .rooms .stack-fits, c .before .before .before .before .before .pre .1 .rep .rooms .stack-few)
 
 mul-tag-2 : tie.Need-mul-tag-2
-mul-tag-2 c = omega (arith, c .before .before .before .before .before .pre .1 .inside, c .before .before .before .before .before .pre .1 .rep .stack-room, c .before .before .before .before .before .pre .1 .rep .stack-few)
+mul-tag-2 c = omega (arith, c .before .before .before .before .before .pre .1 .inside, c .before .before .before .before .before .pre .1 .rep .rooms .stack-fits, c .before .before .before .before .before .pre .1 .rep .rooms .stack-few)
 
 shared-slice-read-tag : tie.Need-shared-slice-read-tag
-shared-slice-read-tag c = omega (arith, c .before .before .before .before .before .before .pre .1 .inside, c .before .before .before .before .before .before .pre .1 .rep .stack-room, c .before .before .before .before .before .before .pre .1 .rep .stack-few)
+shared-slice-read-tag c = omega (arith, c .before .before .before .before .before .before .pre .1 .inside, c .before .before .before .before .before .before .pre .1 .rep .rooms .stack-fits, c .before .before .before .before .before .before .pre .1 .rep .rooms .stack-few)
 
 mul-pay : tie.Need-mul-pay
-mul-pay c = omega (arith, c .before .before .before .before .before .before .pre .1 .inside, c .before .before .before .before .before .before .pre .1 .rep .stack-room, c .before .before .before .before .before .before .pre .1 .rep .stack-few)
+mul-pay c = omega (arith, c .before .before .before .before .before .before .pre .1 .inside, c .before .before .before .before .before .before .pre .1 .rep .rooms .stack-fits, c .before .before .before .before .before .before .pre .1 .rep .rooms .stack-few)
 
 add-pay : tie.Need-add-pay
-add-pay c = omega (arith, c .before .before .before .before .before .before .pre .1 .inside, c .before .before .before .before .before .before .pre .1 .rep .stack-room, c .before .before .before .before .before .before .pre .1 .rep .stack-few)
+add-pay c = omega (arith, c .before .before .before .before .before .before .pre .1 .inside, c .before .before .before .before .before .before .pre .1 .rep .rooms .stack-fits, c .before .before .before .before .before .before .pre .1 .rep .rooms .stack-few)
 
 mul-pay-2 : tie.Need-mul-pay-2
-mul-pay-2 c = omega (arith, c .before .before .before .before .before .before .pre .1 .inside, c .before .before .before .before .before .before .pre .1 .rep .stack-room, c .before .before .before .before .before .before .pre .1 .rep .stack-few)
+mul-pay-2 c = omega (arith, c .before .before .before .before .before .before .pre .1 .inside, c .before .before .before .before .before .before .pre .1 .rep .rooms .stack-fits, c .before .before .before .before .before .before .pre .1 .rep .rooms .stack-few)
 
 shared-slice-read-pay : tie.Need-shared-slice-read-pay
-shared-slice-read-pay c = omega (arith, c .before .before .before .before .before .before .before .pre .1 .inside, c .before .before .before .before .before .before .before .pre .1 .rep .stack-room, c .before .before .before .before .before .before .before .pre .1 .rep .stack-few)
+shared-slice-read-pay c = omega (arith, c .before .before .before .before .before .before .before .pre .1 .inside, c .before .before .before .before .before .before .before .pre .1 .rep .rooms .stack-fits, c .before .before .before .before .before .before .before .pre .1 .rep .rooms .stack-few)
 
 write-kind-requires : tie.Need-write-kind-requires
 write-kind-requires c κs = omega (arith, c .before .before .before .before .before .before .before .before .pre .0)

@@ -6,6 +6,7 @@ use native.Mathlib.Omega.{arith}
 use mathlib.Core.Path.{sym, ap, _∙_}
 use mathlib.Core.Bool.{not}
 use Prim.Native.Nat.{ℕ, _/_, _≤_}
+use Rattle.semantics.specs.Sizes.{stackLeast, stackMost}
 use Rattle.setup.specs.Lending.{lentOf}
 use Rattle.setup.proofs.Refusing.{Passed, untested, fails, holds, none-holds, from-to}
 use Rattle.setup.proofs.refusal.Statement.{statement}
@@ -44,7 +45,7 @@ passed-9 c = fails (passed-8 (c .before .before)) (le-ltb _ _ (c .if9 .left))
 
 -- Few enough slots for the product.
 few : (c : tie.Else4) → c .before .before .before .before .before .before .before .before .args .lent .stack / 2 ≤ 256
-few c = from-to 8 256 _ (sym (c .before .outside .ensures) ∙ c .if4 .left) .1
+few c = from-to stackLeast stackMost _ (sym (c .before .outside .ensures) ∙ c .if4 .left) .1
 
 returns : tie.Need-returns
 returns c = holds (untested _ _ _) (lt-ltb _ _ (c .if1 .taken))

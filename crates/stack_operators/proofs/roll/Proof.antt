@@ -72,7 +72,7 @@ exchange-requires : tie.Need-exchange-requires
 exchange-requires c κs =
     let first = c .before .before .before .before .before .before .before .before .before .before .before .drop .ensures .1 in
     let second = c .before .before .before .before .before .before .drop2 .ensures .1 in
-    (omega (arith, first, second, c .before .before .before .before .before .before .before .before .before .before .before .before .before .before .before .before .before .before .before .before .before .before .before .before .pre .4 .stack-room), omega (arith, first, second, c .before .before .before .before .before .before .before .before .before .before .before .before .before .before .if2 .left, c .before .before .modulo .ensures .1))
+    (omega (arith, first, second, c .before .before .before .before .before .before .before .before .before .before .before .before .before .before .before .before .before .before .before .before .before .before .before .before .pre .4 .rooms .stack-fits), omega (arith, first, second, c .before .before .before .before .before .before .before .before .before .before .before .before .before .before .if2 .left, c .before .before .modulo .ensures .1))
 
 same-length-7 : tie.Need-same-length-7
 same-length-7 c = search needs

@@ -1,5 +1,6 @@
 -- `write_names` meets its contract: the loop keeps `Filling`, that the first k slots are right and the rest of the list has the other names.
 -- Assumes nothing.
+use Rattle.semantics.specs.Sizes.{nameCount}
 use Rattle.start.proofs.Filling.{Filling, fill-begin, fill-inside, fill-short, fill-again, fill-end}
 use lib.ListN.{length-set}
 use Prim.Native.Nat.{_-_}
@@ -12,7 +13,7 @@ abbrev Inv-loop : tie.InvT-loop
 Inv-loop dict₀ list at₀ k₀ dict at k = Filling list dict₀ dict at k
 
 abbrev μ-loop : tie.MeasureT-loop
-μ-loop dict₀ list at₀ k₀ dict at k = 58 - k
+μ-loop dict₀ list at₀ k₀ dict at k = nameCount - k
 
 loop-holds : tie.Need-loop-holds Inv-loop μ-loop
 loop-holds c = fill-begin (c .before .before .pre .0)

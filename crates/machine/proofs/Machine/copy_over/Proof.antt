@@ -84,7 +84,7 @@ mul-stack-4 : tie.Need-mul-stack-4
 mul-stack-4 c = search needs
 
 slice-write-stack-2 : tie.Need-slice-write-stack-2
-slice-write-stack-2 c = simp length-set (omega (arith, c .before .before .before .before .before .before .before .before .before .before .before .pre .0, c .before .before .before .before .before .before .before .before .before .before .before .pre .2 .4 .stack-room))
+slice-write-stack-2 c = simp length-set (omega (arith, c .before .before .before .before .before .before .before .before .before .before .before .pre .0, c .before .before .before .before .before .before .before .before .before .before .before .pre .2 .4 .rooms .stack-fits))
 
 same-length : tie.Need-same-length
 same-length c = search needs

@@ -33,7 +33,7 @@ enum-known-read : tie.Need-enum-known-read
 enum-known-read c = c .match2 .keys1
 
 take-integer-requires : tie.Need-take-integer-requires
-take-integer-requires c κs = (c .before .before .before .before .before .before .before .before .before .before .before .before .before .before .before .pre .1 .machine .1 .stack-room, c .before .before .before .before .before .before .before .before .before .before .before .before .before .before .before .pre .1 .machine .1 .stack-few)
+take-integer-requires c κs = (c .before .before .before .before .before .before .before .before .before .before .before .before .before .before .before .pre .1 .machine .1 .rooms .stack-fits, c .before .before .before .before .before .before .before .before .before .before .before .before .before .before .before .pre .1 .machine .1 .rooms .stack-few)
 
 ended-requires-2 : tie.Need-ended-requires-2
 ended-requires-2 c κs = c .before .before .before .before .before .before .before .before .before .before .before .before .before .before .before .before .before .before .pre .1 .few
