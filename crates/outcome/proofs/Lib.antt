@@ -4,3 +4,4 @@ pub mod Valuing
 pub mod Lining
 pub mod Commands
 pub mod Reporting
+pub mod Readable

@@ -3,9 +3,9 @@
 -- Assumes nothing.
 use mathlib.Core.Path.{_≡_, refl, sym, ap, _∙_, subst}
 use mathlib.Core.List.{List, [], _∷_, _++_}
-use Prim.Native.Nat.{ℕ, zero, suc, _+_, _≤_, _<_}
+use Prim.Native.Nat.{ℕ, suc, _+_, _≤_, _<_}
 use native.Mathlib.Omega.{arith}
-use lib.ListN.{length, getD, take, length-append}
+use lib.ListN.{length, getD, take, length-append, List·getD-append}
 use lib.Seq.{take-suc}
 use Rattle.semantics.specs.Machine as Floo
 use Rattle.semantics.specs.Steps as steps
@@ -67,6 +67,10 @@ module _ {script : List ℕ} {first : Moment} where
   pub chain-some : {xs : List Moment} {x : Moment} → Chain script first xs x → 0 < length xs
   chain-some start = omega arith
   chain-some (then {xs = xs} {y = y} C L) = omega (arith, length-append xs (y ∷ []))
+
+  pub chain-first : {xs : List Moment} {x : Moment} → Chain script first xs x → (d : Moment) → getD xs 0 d ≡ first
+  chain-first start d = refl
+  chain-first (then {xs = xs} {y = y} C L) d = List·getD-append xs (y ∷ []) d 0 (chain-some C) ∙ chain-first C d
 
   pub chain-last : {xs : List Moment} {x : Moment} → Chain script first xs x → (d : Moment) → last d xs ≡ x
   unfolding last

@@ -9,6 +9,7 @@ use lib.Seq.{length-take-le, length-front, take-at, drop-at}
 use Rattle.semantics.specs.Steps as steps
 use Rattle.semantics.specs.Steps.{Limits, Run, run, initial}
 use Rattle.semantics.specs.Outcome.{outcome}
+use Rattle.semantics.specs.AsciiLaws.{Ascii}
 use Rattle.semantics.specs.Setup.{limits, refusal}
 use Rattle.semantics.specs.RunLaws.{run-steps}
 use Rattle.text.specs.Writing.{Written}
@@ -121,6 +122,7 @@ module _ (script : List ℕ) (fuel : ℕ) (s e d c l o : List ℕ) where
           };
           room = room;
           counted = many ∙ ap (λ (x : Limits). run x script fuel σ₀ .final .steps + 1) room ∙ ap (λ n. n + 1) (sym steps);
+          ascii = λ b. subst (λ (x : Run). Ascii (outcome x)) run-same (C .ascii b);
           state = C .state;
         }
 

@@ -6,11 +6,13 @@ use Prim.Native.Nat.{ℕ, _+_, _-_, _*_, _/_, _≤_}
 use native.Mathlib.Omega.{arith}
 use lib.ListN.{length, getD, take, drop, length-drop, take-append-drop}
 use lib.Seq.{length-take-le, getD-drop, ext-getD}
+use Rattle.semantics.specs.Sizes.{headRoom, itemRoom}
 use Rattle.semantics.specs.Machine as Floo
 use Rattle.semantics.specs.Steps as steps
 use Rattle.semantics.specs.Steps.{Limits, Run, run, initial}
 use Rattle.semantics.specs.NameLaws.{name-count}
 use Rattle.semantics.specs.Outcome.{outcome}
+use Rattle.semantics.specs.AsciiLaws.{Ascii}
 use Rattle.semantics.specs.Setup.{limits}
 use Rattle.semantics.specs.ObjectOperators.{pasted}
 use Rattle.ending.specs.Endings.{endingOf}
@@ -23,9 +25,10 @@ use Rattle.text.specs.Writing.{Written}
 use Rattle.start.specs.Begins.{Begins}
 use Rattle.step.specs.Stepping.{stateOf}
 use Rattle.step.specs.declared.State.{State}
-use Rattle.run_loop.specs.History.{moment, Begun, Ends, EndsFrom}
+use Rattle.run_loop.specs.History.{moment, Ends, EndsFrom}
 use Rattle.outcome.specs.Reports as reports
 use Rattle.outcome.specs.Reports.{WritesOutcome}
+use Rattle.outcome.proofs.Readable.{readable}
 use Rattle.runner.specs.Promise.{lentOf, theRun, Ready, CarriesOut, MayProceed, ProceedsFrom, Proceeds}
 use Rattle.runner.specs.declared.Proceeded.{Proceeded}
 
@@ -60,8 +63,8 @@ module _ {script : List ℕ} {fuel : ℕ} {st : State} {s e d c l o : List ℕ} 
       let E = A .ends (G .begun .machine .0) (G .begun .machine .1) in
       record {
         offset = omega (arith, E .within, G .begun .short);
-        log-few = omega (arith, E .rep .log-room, ll, G .log);
-        fits = subst (λ n. 256 + 136 * (n / 2) ≤ length o) (sym ls) (G .outcome);
+        log-few = omega (arith, E .rep .logging .fits, ll, G .log);
+        fits = subst (λ n. headRoom + itemRoom * (n / 2) ≤ length o) (sym ls) (G .outcome);
         exec = e′;
         log = l′;
         machine = E .machine;
@@ -79,8 +82,9 @@ module _ {script : List ℕ} {fuel : ℕ} {st : State} {s e d c l o : List ℕ} 
     from-one {o′} {n} W = record {
       ended = E;
       log = subst (λ (r : Run). Written 0 (r .final .machine .log) l l′ (τ .machine .written)) (sym run-is)
-          (written-first l l′ (E .machine .log) (τ .machine .written) (E .rep .logged) (E .rep .log-room) (E .rest));
+          (written-first l l′ (E .machine .log) (τ .machine .written) (E .rep .logging .logged) (E .rep .logging .fits) (E .rest));
       outcome = subst (λ (r : Run). Written 0 (outcome r) o o′ n) (sym run-is) (W .says e′ l′ (E .machine) (τ .next) (E .rep));
+      ascii = λ b. subst (λ (r : Run). Ascii (outcome r)) (sym run-is) (readable (E .rep) b ending (τ .next) (τ .at) (τ .steps) (E .named));
       reported = (refl, refl);
     }
 
@@ -129,5 +133,6 @@ module _ {script : List ℕ} {fuel : ℕ} {s e d c l o : List ℕ} (G : Ready sc
         holds = (refl, refl, refl, refl, refl);
         history = E .history;
         room = room-is s e d d₁ c l o long;
+        ascii = λ b. subst (λ (x : Run). Ascii (outcome x)) runs (F .ascii b);
         state = (E .same .0 ∙ sym (F .reported .0), E .same .1 ∙ sym (F .reported .1));
       }

@@ -1,4 +1,5 @@
 pub mod Carrying
 pub mod Answering
 pub mod Prefixes
+pub mod Consequences
 pub mod Starting

@@ -4,11 +4,13 @@ use mathlib.Core.Path.{_≡_}
 use mathlib.Core.List.{List}
 use Prim.Native.Nat.{ℕ, _+_, _*_, _/_, _≤_, _<_}
 use lib.ListN.{length, take, drop}
+use Rattle.semantics.specs.Sizes.{scriptMost, fuelMost, cellsMost, logMost, headRoom, itemRoom, stackWordsMost, execWordsMost, nameWords, dictionaryWordsMost}
 use Rattle.semantics.specs.Machine as Floo
 use Rattle.semantics.specs.Held.{heldCells}
 use Rattle.semantics.specs.Steps as steps
 use Rattle.semantics.specs.Steps.{Run, run, initial}
 use Rattle.semantics.specs.Outcome.{outcome}
+use Rattle.semantics.specs.AsciiLaws.{Ascii, Bytes}
 use Rattle.semantics.specs.Setup.{Lent, limits, refusal}
 use Rattle.text.specs.Writing.{Written}
 use Rattle.machine.specs.Rep.{Rep}
@@ -59,6 +61,8 @@ pub record RunIs (script : List ℕ) (fuel : ℕ) (σ₀ : steps.State) (touched
   pub steps : r .steps ≡ theRun script fuel (lentOf s e d c l o) σ₀ .final .steps
   pub fueled : r .steps ≤ σ₀ .steps + fuel
   pub log : Written 0 (theRun script fuel (lentOf s e d c l o) σ₀ .final .machine .log) l l′ (r .log)
+  -- of a script of bytes the outcome's text is ASCII
+  pub ascii : Bytes script → Ascii (outcome (theRun script fuel (lentOf s e d c l o) σ₀))
   pub outcome : Written 0 (outcome (theRun script fuel (lentOf s e d c l o) σ₀)) o o′ (r .outcome)
   pub unused : (past 2 s′ ≡ past 2 s) × (past 8 e′ ≡ past 8 e) × (past 12 d′ ≡ past 12 d) × (past 4 c′ ≡ past 4 c)
   pub recorded : Recorded script fuel σ₀ touched s s′ e e′ d d′ c c′ l l′
@@ -82,19 +86,20 @@ pub record Runs (script : List ℕ) (fuel : ℕ) (s s′ e e′ d d′ c c′ l 
 
 -- Whole slots, within the limits.
 pub record Ready (script : List ℕ) (fuel : ℕ) (s e d c l o : List ℕ) : Type 0 where
-  pub short : length script ≤ 32768
-  pub fueled : fuel ≤ 1000000
-  pub stack : length s ≤ 512
-  pub exec : length e ≤ 1024
-  pub dict : (696 ≤ length d) × (length d ≤ 6144)
-  pub cells : length c / 4 ≤ 32768
-  pub log : length l ≤ 65536
-  pub outcome : 256 + 136 * (length s / 2) ≤ length o
+  pub short : length script ≤ scriptMost
+  pub fueled : fuel ≤ fuelMost
+  pub stack : length s ≤ stackWordsMost
+  pub exec : length e ≤ execWordsMost
+  pub dict : (nameWords ≤ length d) × (length d ≤ dictionaryWordsMost)
+  pub cells : length c / 4 ≤ cellsMost
+  pub log : length l ≤ logMost
+  pub outcome : headRoom + itemRoom * (length s / 2) ≤ length o
 
 -- The run from σ₀ with the words of whole slots.
 pub record CarriesOut (script : List ℕ) (fuel : ℕ) (σ₀ : steps.State) (touched : ℕ) (s s′ e e′ d d′ c c′ l l′ o o′ : List ℕ) (r : Report) : Type 0 where
   pub steps : r .steps ≡ theRun script fuel (lentOf s e d c l o) σ₀ .final .steps
   pub log : Written 0 (theRun script fuel (lentOf s e d c l o) σ₀ .final .machine .log) l l′ (r .log)
+  pub ascii : Bytes script → Ascii (outcome (theRun script fuel (lentOf s e d c l o) σ₀))
   pub outcome : Written 0 (outcome (theRun script fuel (lentOf s e d c l o) σ₀)) o o′ (r .outcome)
   pub first : Moment
   pub last : Moment
@@ -109,13 +114,14 @@ pub record CarriesOut (script : List ℕ) (fuel : ℕ) (σ₀ : steps.State) (to
 -- The words of whole slots stand for a machine, and there is room for the outcome.
 pub record MayProceed (script : List ℕ) (fuel : ℕ) (st : State) (s e d c l o : List ℕ) : Type 0 where
   pub begun : Begun script fuel st s e d c l
-  pub log : length l ≤ 65536
-  pub outcome : 256 + 136 * (length s / 2) ≤ length o
+  pub log : length l ≤ logMost
+  pub outcome : headRoom + itemRoom * (length s / 2) ≤ length o
 
 -- The run from the machine μ, and what is reported of it.
 pub record ProceedsFrom (script : List ℕ) (fuel : ℕ) (st : State) (μ : Floo.Machine) (s s′ e e′ d d′ c c′ l l′ o o′ : List ℕ) (r : Proceeded) : Type 0 where
   pub ended : EndsFrom script fuel st μ s s′ e e′ d d′ c c′ l l′ (r .state) (r .ending)
   pub log : Written 0 (theRun script fuel (lentOf s e d c l o) (stateOf st μ) .final .machine .log) l l′ (r .report .log)
+  pub ascii : Bytes script → Ascii (outcome (theRun script fuel (lentOf s e d c l o) (stateOf st μ)))
   pub outcome : Written 0 (outcome (theRun script fuel (lentOf s e d c l o) (stateOf st μ))) o o′ (r .report .outcome)
   pub reported : (r .report .machine ≡ r .state .machine) × (r .report .steps ≡ r .state .steps)
 

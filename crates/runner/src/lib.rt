@@ -3,6 +3,10 @@ ghost use Rattle.runner.specs.Promise.{Runs, Ready, CarriesOut, MayProce
 ghost use Rattle.semantics.specs.Steps.{initial};
 use ending::Ending;
 use machine::Machine;
+use semantics::CELL_WIDTH;
+use semantics::DICTIONARY_WIDTH;
+use semantics::EXEC_WIDTH;
+use semantics::STACK_WIDTH;
 use setup::Lent;
 use step::State;
 
@@ -47,10 +51,10 @@ pub fn run(
         return Answer::Refused(number);
     }
     // words past whole slots are not lent on
-    let a = stack.len() / 2 * 2;
-    let b = exec.len() / 8 * 8;
-    let c = dict.len() / 12 * 12;
-    let d = cells.len() / 4 * 4;
+    let a = stack.len() / STACK_WIDTH * STACK_WIDTH;
+    let b = exec.len() / EXEC_WIDTH * EXEC_WIDTH;
+    let c = dict.len() / DICTIONARY_WIDTH * DICTIONARY_WIDTH;
+    let d = cells.len() / CELL_WIDTH * CELL_WIDTH;
     let report = carry_out(
         script,
         fuel,
