@@ -1,4 +1,4 @@
-//! The 54 operators (000, 6.2 to 6.10; R1), a module for each section. A rule looks for its errors
+//! The operators (000, 6.2 to 6.10; R1), a module for each section. A rule looks for its errors
 //! in the order of 01, "Order within a step"; what the sizes decide is tested after it, in
 //! `Change::fits`.
 
@@ -21,7 +21,7 @@ pub type Rule = fn(&Machine, &mut Change) -> Result<(), Error>;
 #[derive(Clone, Copy, Debug, PartialEq, Eq)]
 pub struct Operator(usize);
 
-const TABLE: [(&str, Rule); 54] = [
+const TABLE: &[(&str, Rule)] = &[
     // `[` is bound to it too (R2).
     ("mark", array::mark),
     ("dup", stack::dup),
