@@ -3,7 +3,7 @@
 use mathlib.Core.Path.{_≡_, refl, sym, ap}
 use mathlib.Core.Bool.{Bool, true, false}
 use mathlib.Core.Logic.{_⊎_, inl, inr, ⊎-elim}
-use mathlib.Core.List.{List, [], _∷_, _++_, append-assoc, append-nil}
+use mathlib.Core.List.{List, [], _∷_, _++_, append-assoc}
 use Prim.Native.Nat.{ℕ, zero, suc, _+_, _-_, _/_, _%_, _^_, _≤_, _<_}
 use native.Mathlib.Nat.{mod-eq-of-lt, pow-succ'}
 use native.Mathlib.Omega.{arith}
@@ -16,7 +16,7 @@ use Rattle.semantics.specs.Text.{decimalOnto, decimal}
 use Rattle.semantics.specs.Words.{signed, decimalZ}
 use Rattle.semantics.specs.TextLaws.{decimal-length}
 use Rattle.text.specs.Writing.{Written}
-use Rattle.text.proofs.Pasting.{nothing, before}
+use Rattle.text.proofs.Pasting.{one, last, respelt}
 
 lt-or-ge : (a b : ℕ) → (a < b) ⊎ (b ≤ a)
 lt-or-ge a b = by (ltb a b) refl
@@ -73,28 +73,19 @@ decimal-some n h =
 
 -- ---- the writer of digits
 
--- The last digits of n stand before r; those of `rest` are still to be written, the last of them at i.
-pub record Tail (n rest i : ℕ) (old new : List ℕ) (r : ℕ) : Type 0 where
-  pub digits : List ℕ
-  pub whole : decimal n ≡ decimal rest ++ digits
-  pub written : Written (i + 1) digits old new r
+-- One digit is the whole number.
+pub digit-written : (n : ℕ) {at : ℕ} {old : List ℕ} → n < 10 → at < length old → Written at (decimal n) old (set old at (48 + n)) (at + 1)
+digit-written n l room = respelt (decimal-digit n l) (one room)
 
-pub tail-none : (n i : ℕ) (old : List ℕ) {r : ℕ} → r ≡ i + 1 → Tail n n i old old r
-tail-none n i old e = record { digits = []; whole = sym (append-nil (decimal n)); written = rw e (nothing (i + 1) old) }
-
-pub tail-more : (n rest i : ℕ) {old new : List ℕ} {r : ℕ} → 10 ≤ rest → rest < 2 ^ 32 → 1 ≤ i → i < length old → Tail n rest i old new r
-    → Tail n (rest / 10) (i - 1) old (set new i (48 + rest % 10)) r
-tail-more n rest i g h some room x =
-    let back : i - 1 + 1 ≡ i = omega arith in
-    record {
-      digits = (48 + rest % 10) ∷ x .digits;
-      whole = rw (x .whole, decimal-more rest g h, append-assoc);
-      written = rw back (before room (x .written));
-    }
-
-pub tail-all : (n rest i at : ℕ) {old new : List ℕ} {r : ℕ} → rest < 10 → i ≡ at → i < length old → Tail n rest i old new r
-    → Written at (decimal n) old (set new i (48 + rest)) r
-tail-all n rest i at l e room x = rw (← e, x .whole, decimal-digit rest l) (before room (x .written))
+-- The last digit goes after the others.
+pub digits-written : (n : ℕ) {at r : ℕ} {old mid : List ℕ}
+    → 10 ≤ n
+    → n < 2 ^ 32
+    → at ≤ length old
+    → r < length mid
+    → Written at (decimal (n / 10)) old mid r
+    → Written at (decimal n) old (set mid r (48 + n % 10)) (r + 1)
+digits-written n g h low room W = respelt (decimal-more n g h) (last (48 + n % 10) low room W)
 
 -- ---- integers
 

@@ -44,21 +44,6 @@ pub set-pasted : (at v : ℕ) (old : List ℕ) → at < length old → set old a
 unfolding pasted
 set-pasted at v old h = rw (set-split, append-snoc, add-one)
 
--- a byte before a text
-pub set-before : (at v : ℕ) (t old : List ℕ) → at < length old → set (pasted (at + 1) t old) at v ≡ pasted at (v ∷ t) old
-unfolding pasted
-set-before at v t old h =
-    let e : length (take at old) ≡ at = length-take-le at old (omega arith) in
-    rw (
-      add-one,
-      take-suc old at 0,
-      append-assoc (take at old ++ (getD old at 0 ∷ [])),
-      append-assoc (take at old),
-      set-at (take at old) (getD old at 0) (t ++ drop (suc at + length t) old) v at e,
-      suc-add,
-      add-suc,
-    ) (simp append-assoc)
-
 -- ---- as writers do it
 
 pub nothing : (at : ℕ) (old : List ℕ) → Written at [] old old at
@@ -77,10 +62,6 @@ first at v old h w = then (omega arith) (one h) w
 -- a text, then a byte
 pub last : {at r : ℕ} {t old mid : List ℕ} (v : ℕ) → at ≤ length old → r < length mid → Written at t old mid r → Written at (t ++ (v ∷ [])) old (set mid r v) (r + 1)
 last v h k w = then h w (one k)
-
--- a text, then the byte before it
-pub before : {at v r : ℕ} {t old mid : List ℕ} → at < length old → Written (at + 1) t old mid r → Written at (v ∷ t) old (set mid at v) r
-before h x = record { end = omega arith; bytes = rw (x .bytes, set-before) }
 
 pub kept : {at r : ℕ} {t old new : List ℕ} → at + length t ≤ length old → Written at t old new r → length new ≡ length old
 kept h x = ap length (x .bytes) ∙ length-pasted _ _ _ h

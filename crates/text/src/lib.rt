@@ -37,22 +37,20 @@ pub fn decimal_length(n: u32) -> usize
     count
 }
 
-// The length says where the last digit goes, so each is written in its place, from the last to the first.
+// The number without its last digit, then that digit. The one writer of numbers, for log, cvs and outcome: that it calls itself, ten deep at most, keeps the
+// compiler from copying it to each of its callers.
 // Wrong would be: the digits in the order in which division gives them; `00` or nothing for 0.
 pub fn write_decimal(out: &mut [u8], at: usize, n: u32) -> usize
     requires { ⌜ at + length (decimal n) ≤ length (now out) ⌝ }
     ensures { λ r. ⌜ Written at (decimal n) (now (out .entry)) (now (out .exit)) r ⌝ }
 {
-    let after = at + decimal_length(n);
-    let mut rest = n;
-    let mut i = after - 1;
-    while 10 <= rest {
-        out[i] = 48 + (rest % 10) as u8;
-        rest = rest / 10;
-        i -= 1;
+    if n < 10 {
+        out[at] = 48 + n as u8;
+        return at + 1;
     }
-    out[i] = 48 + rest as u8;
-    after
+    let last = write_decimal(out, at, n / 10);
+    out[last] = 48 + (n % 10) as u8;
+    last + 1
 }
 
 // The integer that the 32 bits stand for.
