@@ -14,6 +14,7 @@ mod readings;
 mod shown;
 
 use floo_reference::setup::PREDEFINED_NAMES;
+use floo_reference::value::Object;
 use floo_reference::{run, Answer, Sizes};
 use lent::Lent;
 use random::Random;
@@ -28,6 +29,8 @@ pub struct Tally {
     pub objects: usize,
     /// Of these, the ones that only circles name.
     pub circled: usize,
+    /// Runs in which the least number is written into the log, into a string, and into the outcome.
+    pub least: [usize; 3],
     pub readings: Readings,
 }
 
@@ -90,9 +93,19 @@ fn compare_run(script: &[u8], random: &mut Random, tally: &mut Tally) -> Result<
             let shown = shown::check(&lent, &mut machine).map_err(|what| told(&what))?;
             tally.objects += shown.objects;
             tally.circled += shown.circled;
+            let in_string = |object: &Object| matches!(object, Object::String(bytes) if has_least(bytes));
+            let least = [has_least(&log), machine.store.iter().any(in_string), has_least(&outcome)];
+            for (count, met) in tally.least.iter_mut().zip(least) {
+                *count += usize::from(met);
+            }
         }
     }
     Ok(())
+}
+
+fn has_least(text: &[u8]) -> bool {
+    const LEAST: &[u8] = b"-2147483648";
+    text.windows(LEAST.len()).any(|part| part == LEAST)
 }
 
 fn fuel(random: &mut Random) -> u32 {

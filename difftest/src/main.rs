@@ -16,6 +16,8 @@ fn main() -> ExitCode {
                 "{} scripts from seed {seed}, {} refused, {} steps, {} objects, {} of them in circles alone: no difference",
                 tally.scripts, tally.refused, tally.steps, tally.objects, tally.circled
             );
+            let [log, string, outcome] = tally.least;
+            println!("the least number written into {log} logs, by {string} runs into strings, into {outcome} outcomes");
             let read = tally.readings;
             let [integers, strings, literal, executable, open, close, ends] = read.kinds;
             println!(

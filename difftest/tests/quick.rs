@@ -9,6 +9,7 @@ fn the_runner_and_the_token_reading_agree_with_the_reference() {
     assert!(tally.steps > 200_000, "{} steps", tally.steps);
     assert!(tally.objects > 10_000, "{} objects", tally.objects);
     assert!(tally.circled > 500, "{} in circles alone", tally.circled);
+    assert!(tally.least.iter().all(|&count| count > 100), "{:?} with the least number in log, string, outcome", tally.least);
     let read = tally.readings;
     assert!(read.total() > 2_000_000, "{} tokens", read.total());
     assert!(read.kinds.iter().all(|&count| count > 20_000), "{:?} of each kind", read.kinds);

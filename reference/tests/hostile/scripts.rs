@@ -96,6 +96,8 @@ const OBJECTS: &[&str] = &[
     "{ exit }",
     "{ { 1 } /a \"x\" }",
     "1 1 9 { } for",
+    "-2147483648 echo",
+    "-2147483648 16 string cvs",
     "/a [ 7 ] def",
     "/b { 2 copy } def 1 2 b",
     "/c 1 array def c 0 c put c",
