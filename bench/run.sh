@@ -1,7 +1,9 @@
 #!/usr/bin/env bash
-# Proves and builds the library and the program, and times them. Ghostscript is Debian's package ghostscript.
+# Proves and builds the libraries and the program, and times them. Ghostscript is Debian's package ghostscript; `bench/run.sh scans` prints the table of the floor
+# rule alone, and needs none.
 set -euo pipefail
 cd "$(dirname "${BASH_SOURCE[0]}")/.."
 rt staticlib floo_c
+rt staticlib floor_c
 rt check floo
-exec cargo run --quiet --release --manifest-path bench/Cargo.toml
+exec cargo run --quiet --release --manifest-path bench/Cargo.toml -- "$@"

@@ -1,14 +1,25 @@
 #!/usr/bin/env bash
-# Proves and builds the static library, unless FLOO_LIB_DIR names the folder of one; builds the example in C over it and runs it, and tries the exported functions
-# at lengths of every kind.
+# Proves and builds the static libraries, unless FLOO_LIB_DIR names the folder of both; builds the examples in C over them and runs them, and tries the exported
+# functions at lengths of every kind. examples/scan is linked with libfloor_c.a alone, which is all that it needs.
 set -euo pipefail
 cd "$(dirname "${BASH_SOURCE[0]}")/.."
-[ -n "${FLOO_LIB_DIR:-}" ] || rt staticlib floo_c
-library=${FLOO_LIB_DIR:-target/staticlib}/libfloo_c.a
+if [ -z "${FLOO_LIB_DIR:-}" ]; then
+    rt staticlib floo_c
+    rt staticlib floor_c
+fi
+floo=${FLOO_LIB_DIR:-target/staticlib}/libfloo_c.a
+floor=${FLOO_LIB_DIR:-target/staticlib}/libfloor_c.a
 mkdir -p target/embed
-for name in examples/embed embed/lengths; do
-    "${CC:-cc}" -std=c11 -O2 -Wall -Wextra -Wpedantic -Werror -Iinclude "$name.c" "$library" -o "target/embed/$(basename "$name")"
-done
+
+build() {
+    "${CC:-cc}" -std=c11 -O2 -Wall -Wextra -Wpedantic -Werror -Iinclude "$1.c" "${@:2}" -o "target/embed/$(basename "$1")"
+}
+
+build examples/embed "$floo"
+build examples/scan "$floor"
+build embed/lengths "$floo" "$floor"
 target/embed/embed | tee target/embed/embed.out
 cmp target/embed/embed.out embed/embed.expected
+target/embed/scan examples/scan.floo | tee target/embed/scan.out
+cmp target/embed/scan.out examples/scan.expected
 target/embed/lengths

@@ -1,6 +1,9 @@
 #!/usr/bin/env bash
-# Proves and builds the static library, unless FLOO_LIB_DIR names the folder of one; then tests the Rust crate over it.
+# Proves and builds the static libraries, unless FLOO_LIB_DIR names the folder of both; then tests the Rust crate over them.
 set -euo pipefail
 cd "$(dirname "${BASH_SOURCE[0]}")/.."
-[ -n "${FLOO_LIB_DIR:-}" ] || rt staticlib floo_c
+if [ -z "${FLOO_LIB_DIR:-}" ]; then
+    rt staticlib floo_c
+    rt staticlib floor_c
+fi
 exec cargo test --manifest-path embed/rust/Cargo.toml

@@ -1,8 +1,9 @@
-//! The proved runner against Ghostscript and the reference interpreter, on the same programs in one run; how its time grows with the length of arrays; the size of
-//! its code. A program counts only if all three leave the same integer.
+//! The proved runner against Ghostscript and the reference interpreter, on the same programs in one run; how its time grows with the length of arrays; the floor rule
+//! against a run; the size of the code. A program counts only if all three leave the same integer. `floo-bench scans` prints the table of the floor rule alone.
 
 mod ghostscript;
 mod growth;
+mod scans;
 mod timing;
 
 use std::fs;
@@ -33,7 +34,8 @@ const PROGRAMS: [(&str, &str); 7] = [
 ];
 
 fn main() -> ExitCode {
-    match report() {
+    let scans_alone = std::env::args().nth(1).is_some_and(|word| word == "scans");
+    match if scans_alone { scans::table() } else { report() } {
         Ok(()) => ExitCode::SUCCESS,
         Err(error) => {
             eprintln!("bench: {error}");
@@ -48,8 +50,9 @@ fn report() -> io::Result<()> {
     let least = programs()?;
     let start = start()?;
     let get = growth::table();
-    let text = text_bytes()?;
-    println!("\nCode: {text} bytes of .text in libfloo_c.a.\n");
+    scans::table()?;
+    let text = text_bytes("libfloo_c.a")?;
+    println!("\nCode: {text} bytes of .text in libfloo_c.a, {} in libfloor_c.a.\n", text_bytes("libfloor_c.a")?);
     target(&format!("at least {TIMES_GHOSTSCRIPT} times as fast as Ghostscript in each program"), least >= TIMES_GHOSTSCRIPT, format!("least {least:.2}"));
     target("start of a run under 3 microseconds", start < START_SECONDS, format!("{:.2}", start * 1e6));
     target("at most 98,304 bytes of .text", text <= TEXT_BYTES, text.to_string());
@@ -204,9 +207,9 @@ fn integer(item: Option<&str>) -> String {
     digits.expect("the program leaves an integer").to_owned()
 }
 
-/// The bytes of all sections of code in the static library, as binutils counts them.
-fn text_bytes() -> io::Result<usize> {
-    let library = root().join("target/staticlib/libfloo_c.a");
+/// The bytes of all sections of code in a static library, as binutils counts them.
+fn text_bytes(name: &str) -> io::Result<usize> {
+    let library = root().join("target/staticlib").join(name);
     let output = Command::new("size").arg("-A").arg(library).output()?;
     let listed = String::from_utf8_lossy(&output.stdout).into_owned();
     let sections = listed.lines().map(|line| line.split_whitespace().collect::<Vec<_>>());

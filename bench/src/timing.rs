@@ -5,7 +5,7 @@ use std::time::{Duration, Instant};
 const ROUNDS: usize = 4;
 const ROUND: Duration = Duration::from_millis(50);
 
-/// Rounds of a difference: it is small against what it is a difference of.
+/// Rounds of a pair: their difference is small against what it is a difference of.
 const PAIRS: usize = 30;
 
 /// Seconds that one call takes, in the best of the rounds.
@@ -16,15 +16,22 @@ pub fn seconds(mut call: impl FnMut()) -> f64 {
         .fold(f64::INFINITY, f64::min)
 }
 
-/// Seconds that the first call takes more than the second. Their rounds alternate, so that both meet the same disturbances.
-pub fn difference(mut more: impl FnMut(), mut less: impl FnMut()) -> f64 {
-    let count = calls_in(ROUND, &mut more);
-    let (mut with, mut without) = (Duration::MAX, Duration::MAX);
+/// Seconds that each of two calls takes. Their rounds alternate, so that both meet the same disturbances.
+pub fn pair(mut one: impl FnMut(), mut other: impl FnMut()) -> (f64, f64) {
+    let count = calls_in(ROUND, &mut one);
+    let (mut first, mut second) = (Duration::MAX, Duration::MAX);
     for _ in 0..PAIRS {
-        with = with.min(time(count, &mut more));
-        without = without.min(time(count, &mut less));
+        first = first.min(time(count, &mut one));
+        second = second.min(time(count, &mut other));
     }
-    (with.as_secs_f64() - without.as_secs_f64()) / f64::from(count)
+    let seconds = |all: Duration| all.as_secs_f64() / f64::from(count);
+    (seconds(first), seconds(second))
+}
+
+/// Seconds that the first call takes more than the second.
+pub fn difference(more: impl FnMut(), less: impl FnMut()) -> f64 {
+    let (with, without) = pair(more, less);
+    with - without
 }
 
 fn calls_in(round: Duration, call: &mut impl FnMut()) -> u32 {

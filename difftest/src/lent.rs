@@ -1,10 +1,10 @@
 //! Lent buffers: words and bytes of any earlier contents, with more of them before and after that nobody lends.
 
-use floo::{run_lent, Reply};
+use floo::floor::Record;
+use floo::{run_lent, scan_lent, Reply, ScanReply};
 use floo_reference::Sizes;
 
 use crate::random::Random;
-use crate::sizes;
 
 const MARGIN: usize = 24;
 
@@ -17,7 +17,7 @@ pub struct Buffer<T> {
 }
 
 impl<T: Copy + PartialEq> Buffer<T> {
-    fn new(length: usize, mut fill: impl FnMut() -> T) -> Buffer<T> {
+    pub fn new(length: usize, mut fill: impl FnMut() -> T) -> Buffer<T> {
         Buffer {
             all: (0..length + 2 * MARGIN).map(|_| fill()).collect(),
         }
@@ -31,7 +31,7 @@ impl<T: Copy + PartialEq> Buffer<T> {
         &self.all[MARGIN..MARGIN + self.len()]
     }
 
-    fn lend(&mut self) -> &mut [T] {
+    pub fn lend(&mut self) -> &mut [T] {
         let end = MARGIN + self.len();
         &mut self.all[MARGIN..end]
     }
@@ -73,8 +73,7 @@ pub struct Lent {
 }
 
 impl Lent {
-    pub fn new(random: &mut Random) -> Lent {
-        let sizes = sizes(random);
+    pub fn new(sizes: &Sizes, random: &mut Random) -> Lent {
         let words = |random: &mut Random, slots: usize, width: usize| {
             let length = slots * width + random.below(width);
             Buffer::new(length, || random.below(usize::MAX) as u32)
@@ -121,6 +120,22 @@ impl Lent {
             self.cells.lend(),
             self.log.lend(),
             self.outcome.lend(),
+        )
+    }
+
+    pub fn scan(&mut self, script: &[u8], fuel: u32, label: &[u8], book: &mut Buffer<Record>, count: usize) -> ScanReply {
+        scan_lent(
+            script,
+            fuel,
+            label,
+            self.stack.lend(),
+            self.exec.lend(),
+            self.dictionary.lend(),
+            self.cells.lend(),
+            self.log.lend(),
+            self.outcome.lend(),
+            book.lend(),
+            count,
         )
     }
 

@@ -1,5 +1,6 @@
 //! Random scripts, fuel and room, run by the proved runner and by the reference interpreter: the answers, every lent byte outside what is promised to
-//! change, and the objects that the runner's words show. And the tokens of these scripts and of rows of bytes, read by both at every offset.
+//! change, and the objects that the runner's words show. The tokens of these scripts and of rows of bytes, read by both at every offset. And random scans by the
+//! exported floor rule and the reference's, with their books.
 
 #![forbid(unsafe_code)]
 
@@ -8,17 +9,21 @@ pub mod random;
 #[path = "../../reference/tests/hostile/scripts.rs"]
 pub mod scripts;
 
+mod asked;
 mod circles;
 mod lent;
 mod readings;
+mod scans;
 mod shown;
 
 use floo_reference::setup::PREDEFINED_NAMES;
 use floo_reference::value::Object;
-use floo_reference::{run, Answer, Sizes};
+use floo_reference::{run, Answer, Machine, Ran, Sizes};
 use lent::Lent;
 use random::Random;
+use shown::Shown;
 pub use readings::Readings;
+pub use scans::{answer_of, from_reference, to_reference, Scans};
 
 /// What was compared.
 #[derive(Default)]
@@ -32,6 +37,7 @@ pub struct Tally {
     /// Runs in which the least number is written into the log, into a string, and into the outcome.
     pub least: [usize; 3],
     pub readings: Readings,
+    pub scans: Scans,
 }
 
 /// One case, or how the two differ.
@@ -51,7 +57,7 @@ pub fn compare(random: &mut Random, tally: &mut Tally) -> Result<(), String> {
 
 fn compare_run(script: &[u8], random: &mut Random, tally: &mut Tally) -> Result<(), String> {
     let fuel = fuel(random);
-    let mut lent = Lent::new(random);
+    let mut lent = Lent::new(&sizes(random), random);
     let sizes = lent.sizes();
     let before = lent.clone();
     let reply = lent.run(script, fuel);
@@ -72,12 +78,12 @@ fn compare_run(script: &[u8], random: &mut Random, tally: &mut Tally) -> Result<
                 return Err(told("a refusal changed a lent byte"));
             }
         }
-        Answer::Run {
+        Answer::Run(Ran {
             log,
             outcome,
             mut machine,
             ..
-        } => {
+        }) => {
             tally.steps += machine.steps;
             if reply.refused != 0 {
                 return Err(told(&format!("refused {}", reply.refused)));
@@ -85,12 +91,7 @@ fn compare_run(script: &[u8], random: &mut Random, tally: &mut Tally) -> Result<
             if u64::from(reply.steps) != machine.steps {
                 return Err(told(&format!("{} steps and not {}", reply.steps, machine.steps)));
             }
-            lent.log.check("log", reply.log, &log, &before.log).map_err(|what| told(&what))?;
-            lent.outcome
-                .check("outcome", reply.outcome, &outcome, &before.outcome)
-                .map_err(|what| told(&what))?;
-            lent.check_tails(&before).map_err(|what| told(&what))?;
-            let shown = shown::check(&lent, &mut machine).map_err(|what| told(&what))?;
+            let shown = check_left(&lent, &before, [reply.log, reply.outcome], [&log, &outcome], &mut machine).map_err(|what| told(&what))?;
             tally.objects += shown.objects;
             tally.circled += shown.circled;
             let in_string = |object: &Object| matches!(object, Object::String(bytes) if has_least(bytes));
@@ -101,6 +102,14 @@ fn compare_run(script: &[u8], random: &mut Random, tally: &mut Tally) -> Result<
         }
     }
     Ok(())
+}
+
+/// What a run leaves: log and outcome by their counts, the words past whole slots, and the objects that the words show.
+fn check_left(lent: &Lent, before: &Lent, counts: [usize; 2], texts: [&[u8]; 2], machine: &mut Machine) -> Result<Shown, String> {
+    lent.log.check("log", counts[0], texts[0], &before.log)?;
+    lent.outcome.check("outcome", counts[1], texts[1], &before.outcome)?;
+    lent.check_tails(before)?;
+    shown::check(lent, machine)
 }
 
 fn has_least(text: &[u8]) -> bool {
@@ -118,12 +127,20 @@ fn fuel(random: &mut Random) -> u32 {
     }
 }
 
-/// As many cases as asked, from a seed; stops at the first difference.
+/// Cases for each scan.
+const SCAN_EVERY: usize = 4;
+
+/// As many cases as asked, from a seed; stops at the first difference. The scans have numbers of their own, so that the cases are the same with and without them.
 pub fn compare_all(count: usize, seed: u64) -> Result<Tally, String> {
     let mut random = Random::new(seed);
+    let mut scanning = Random::new(seed.rotate_left(32) | 1);
     let mut tally = Tally::default();
     for case in 0..count {
-        compare(&mut random, &mut tally).map_err(|what| format!("case {case}, seed {seed}: {what}"))?;
+        let mut compared = compare(&mut random, &mut tally);
+        if case % SCAN_EVERY == 0 {
+            compared = compared.and_then(|()| scans::compare(case / SCAN_EVERY, &mut scanning, &mut tally.scans));
+        }
+        compared.map_err(|what| format!("case {case}, seed {seed}: {what}"))?;
     }
     Ok(tally)
 }

@@ -1,8 +1,8 @@
-//! `floo-difftest N SEED`: N random cases, runs and token readings, and what was compared.
+//! `floo-difftest N SEED`: N random cases, runs and token readings, a scan for every fourth, and what was compared.
 
 use std::process::ExitCode;
 
-use floo_difftest::compare_all;
+use floo_difftest::{compare_all, Scans};
 
 fn main() -> ExitCode {
     let numbers: Vec<u64> = std::env::args().skip(1).filter_map(|word| word.parse().ok()).collect();
@@ -29,6 +29,7 @@ fn main() -> ExitCode {
                 read.too_long,
                 read.past_end
             );
+            print_scans(&tally.scans);
             ExitCode::SUCCESS
         }
         Err(what) => {
@@ -36,4 +37,20 @@ fn main() -> ExitCode {
             ExitCode::FAILURE
         }
     }
+}
+
+fn print_scans(scans: &Scans) {
+    let [refused, malformed, too_long, no_slot, no_cells, not_finished, bad_stack, late, no_room, replaced, added] = scans.answers;
+    println!(
+        "{} scans, {} steps, {} objects: {refused} refused by setup, {malformed} book malformed, {too_long} label over 512 bytes, {no_slot} no slot, \
+         {no_cells} no cells, {not_finished} run not finished, {bad_stack} stack not of this form, {late} late ({} by an equal time, {} by an earlier), \
+         {no_room} no room, {replaced} replaced ({} in a full book), {added} added; {} runs with records past the 64th: no difference",
+        scans.total(),
+        scans.steps,
+        scans.objects,
+        scans.late_equal,
+        scans.late_earlier,
+        scans.replaced_in_full,
+        scans.past_64
+    );
 }

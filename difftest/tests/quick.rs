@@ -3,13 +3,28 @@
 use floo_difftest::compare_all;
 
 #[test]
-fn the_runner_and_the_token_reading_agree_with_the_reference() {
+fn runs_readings_and_scans_agree_with_the_reference() {
     let tally = compare_all(20_000, 0x0F10_0F10_0F10_0F10).unwrap();
     assert!(tally.refused > 1_000 && tally.refused < 10_000, "{} refused", tally.refused);
     assert!(tally.steps > 200_000, "{} steps", tally.steps);
     assert!(tally.objects > 10_000, "{} objects", tally.objects);
     assert!(tally.circled > 500, "{} in circles alone", tally.circled);
     assert!(tally.least.iter().all(|&count| count > 100), "{:?} with the least number in log, string, outcome", tally.least);
+    let scans = &tally.scans;
+    assert_eq!(scans.total(), 5_000);
+    let [refused, malformed, too_long, no_slot, no_cells, not_finished, bad_stack, late, no_room, replaced, added] = scans.answers;
+    assert!(refused > 150 && scans.refusals.iter().all(|&count| count > 5), "{:?} refused by setup", scans.refusals);
+    assert!(malformed > 200, "{malformed} book malformed");
+    assert!(too_long > 50, "{too_long} label over 512 bytes");
+    assert!(no_slot > 200 && no_cells > 200, "{no_slot} no slot, {no_cells} no cells");
+    assert!(not_finished > 500 && bad_stack > 300, "{not_finished} not finished, {bad_stack} stack not of this form");
+    assert!(late > 250 && scans.late_equal > 100 && scans.late_earlier > 50, "{} and {} late", scans.late_equal, scans.late_earlier);
+    assert!(no_room > 100, "{no_room} no room");
+    assert!(replaced > 250 && scans.replaced_in_full > 100, "{replaced} replaced, {} in a full book", scans.replaced_in_full);
+    assert!(added > 150, "{added} added");
+    assert!((0..=520).all(|length| scans.lengths.contains(&length)), "{} lengths of labels", scans.lengths.len());
+    assert!(scans.past_64 > 300, "{} runs with records past the 64th", scans.past_64);
+    assert!(scans.steps > 100_000 && scans.objects > 3_000, "{} steps, {} objects in scans", scans.steps, scans.objects);
     let read = tally.readings;
     assert!(read.total() > 2_000_000, "{} tokens", read.total());
     assert!(read.kinds.iter().all(|&count| count > 20_000), "{:?} of each kind", read.kinds);

@@ -1,4 +1,4 @@
-//! Links `libfloo_c.a`: from the folder that `FLOO_LIB_DIR` names, or from `target/staticlib` of this repository, where `rt staticlib floo_c` puts it.
+//! Links `libfloo_c.a` and `libfloor_c.a`: from the folder that `FLOO_LIB_DIR` names, or from `target/staticlib` of this repository, where `rt staticlib` puts them.
 
 use std::env;
 use std::path::PathBuf;
@@ -9,14 +9,16 @@ fn main() {
         Some(folder) => PathBuf::from(folder),
         None => PathBuf::from(env!("CARGO_MANIFEST_DIR")).join("../../target/staticlib"),
     };
-    let library = folder.join("libfloo_c.a");
-    if !library.is_file() {
-        panic!(
-            "{} is not there: run `rt staticlib floo_c`, or name its folder in FLOO_LIB_DIR",
-            library.display()
-        );
-    }
-    println!("cargo:rerun-if-changed={}", library.display());
     println!("cargo:rustc-link-search=native={}", folder.display());
-    println!("cargo:rustc-link-lib=static=floo_c");
+    for name in ["floo_c", "floor_c"] {
+        let library = folder.join(format!("lib{name}.a"));
+        if !library.is_file() {
+            panic!(
+                "{} is not there: run `rt staticlib {name}`, or name its folder in FLOO_LIB_DIR",
+                library.display()
+            );
+        }
+        println!("cargo:rerun-if-changed={}", library.display());
+        println!("cargo:rustc-link-lib=static={name}");
+    }
 }

@@ -1,9 +1,12 @@
 //! Reads the corpus, in the format of ../corpus/README.md.
 
+mod scans;
+
 use std::fs;
 use std::path::{Path, PathBuf};
 
 use crate::Sizes;
+pub use scans::{read_scans, ScanCase};
 
 /// What a case asks for.
 pub enum Question {
@@ -33,59 +36,75 @@ pub fn repository() -> PathBuf {
 
 /// All cases of all files, in the order of the files' names, or what is malformed.
 pub fn read_all() -> Result<Vec<Case>, String> {
-    let unread = |error: std::io::Error| format!("the corpus cannot be read: {error}");
-    let mut files = Vec::new();
-    for entry in fs::read_dir(repository().join("corpus")).map_err(unread)? {
-        let path = entry.map_err(unread)?.path();
-        if path.extension().is_some_and(|extension| extension == "txt") {
-            files.push(path);
-        }
-    }
-    files.sort();
     let mut cases = Vec::new();
-    for file in files {
-        cases.extend(read_cases(&file, &fs::read(&file).map_err(unread)?)?);
+    for (file, text) in texts(&repository().join("corpus"))? {
+        cases.extend(read_cases(&file, &text)?);
     }
     Ok(cases)
 }
 
+/// The files of a folder, in the order of their names.
+fn texts(folder: &Path) -> Result<Vec<(PathBuf, Vec<u8>)>, String> {
+    let unread = |error: std::io::Error| format!("the corpus cannot be read: {error}");
+    let mut texts = Vec::new();
+    for entry in fs::read_dir(folder).map_err(unread)? {
+        let path = entry.map_err(unread)?.path();
+        if path.extension().is_some_and(|extension| extension == "txt") {
+            let text = fs::read(&path).map_err(unread)?;
+            texts.push((path, text));
+        }
+    }
+    texts.sort();
+    Ok(texts)
+}
+
 /// All cases of a file, or what is malformed: `file:line: what`.
 pub fn read_cases(file: &Path, text: &[u8]) -> Result<Vec<Case>, String> {
+    cases_of(file, text, read_case)
+}
+
+/// A title and what `read` makes of the lines after it, one after another to the file's end.
+fn cases_of<T>(
+    file: &Path,
+    text: &[u8],
+    read: fn(String, &mut Lines) -> Result<T, String>,
+) -> Result<Vec<T>, String> {
     let body = text.strip_suffix(b"\n").unwrap_or(text);
     let mut lines = Lines {
         file,
         lines: body.split(|&byte| byte == b'\n').collect(),
         next: 0,
     };
-    let mut cases: Vec<Case> = Vec::new();
+    let mut titles = Vec::new();
+    let mut cases = Vec::new();
     while let Some(line) = lines.peek() {
         if line.is_empty() || line.starts_with(b"--") {
             lines.next += 1;
             continue;
         }
-        let case = read_case(&mut lines)?;
-        if cases.iter().any(|other| other.title == case.title) {
-            return Err(lines.malformed(&format!("the title {:?} stands twice", case.title)));
+        let title = match lines.keyword("case ") {
+            Some(title) if !title.is_empty() => title,
+            _ => return Err(lines.malformed("expected `case TITLE`")),
+        };
+        cases.push(read(title.clone(), &mut lines)?);
+        if titles.contains(&title) {
+            return Err(lines.malformed(&format!("the title {title:?} stands twice")));
         }
-        cases.push(case);
+        titles.push(title);
     }
     Ok(cases)
 }
 
-fn read_case(lines: &mut Lines) -> Result<Case, String> {
-    let title = match lines.keyword("case ") {
-        Some(title) if !title.is_empty() => title,
-        _ => return Err(lines.malformed("expected `case TITLE`")),
-    };
-    let question = if let Some(words) = lines.keyword("with ") {
-        sizes_of(&words).ok_or_else(|| lines.malformed("expected `with KEY=N ..`"))?
-    } else if let Some(offset) = lines.keyword("token ") {
+fn read_case(title: String, lines: &mut Lines) -> Result<Case, String> {
+    let question = if let Some(offset) = lines.keyword("token ") {
         let offset = offset
             .parse()
             .map_err(|_| lines.malformed("expected `token OFFSET`"))?;
         Question::Token { offset }
     } else {
-        sizes_of("").expect("no sizes named is well formed")
+        let words = lines.keyword("with ").unwrap_or_default();
+        let (fuel, sizes) = sizes_of(words.split(' ')).ok_or_else(|| lines.bad_with())?;
+        Question::Run { fuel, sizes }
     };
     Ok(Case {
         file: lines.file.to_path_buf(),
@@ -96,10 +115,10 @@ fn read_case(lines: &mut Lines) -> Result<Case, String> {
     })
 }
 
-/// `KEY=N ..`; "what is not named is as in the program".
-fn sizes_of(words: &str) -> Option<Question> {
+/// Fuel and sizes from `KEY=N ..`; "what is not named is as in the program".
+fn sizes_of<'w>(words: impl Iterator<Item = &'w str>) -> Option<(u64, Sizes)> {
     let (mut fuel, mut sizes, mut outcome) = (1_000_000, Sizes::default(), None);
-    for word in words.split(' ').filter(|word| !word.is_empty()) {
+    for word in words.filter(|word| !word.is_empty()) {
         let (key, number) = word.split_once('=')?;
         match key {
             "fuel" => fuel = number.parse().ok()?,
@@ -108,7 +127,7 @@ fn sizes_of(words: &str) -> Option<Question> {
         }
     }
     sizes.outcome = outcome.unwrap_or(Sizes::least_outcome(sizes.stack));
-    Some(Question::Run { fuel, sizes })
+    Some((fuel, sizes))
 }
 
 impl<'t> Lines<'t> {
@@ -118,6 +137,10 @@ impl<'t> Lines<'t> {
 
     fn malformed(&self, what: &str) -> String {
         format!("{}:{}: {what}", self.file.display(), self.next + 1)
+    }
+
+    fn bad_with(&self) -> String {
+        self.malformed("expected `with KEY=N ..`")
     }
 
     /// The rest of the next line, if it begins with `word`.
@@ -136,11 +159,7 @@ impl<'t> Lines<'t> {
             _ => return Err(self.malformed(&format!("expected `{word}`, `{word}-` or `{word}%`"))),
         };
         self.next += 1;
-        let mut rows = Vec::new();
-        while let Some(row) = self.peek().and_then(|line| line.strip_prefix(b"    ")) {
-            rows.push(row);
-            self.next += 1;
-        }
+        let rows = self.rows();
         let mut bytes = rows.join(&b'\n');
         if form == b"" && !rows.is_empty() {
             bytes.push(b'\n');
@@ -149,6 +168,16 @@ impl<'t> Lines<'t> {
             return expand(&bytes).ok_or_else(|| self.malformed("bad `%` in the block above"));
         }
         Ok(bytes)
+    }
+
+    /// The next lines that are indented, without their four blanks.
+    fn rows(&mut self) -> Vec<&'t [u8]> {
+        let mut rows = Vec::new();
+        while let Some(row) = self.peek().and_then(|line| line.strip_prefix(b"    ")) {
+            rows.push(row);
+            self.next += 1;
+        }
+        rows
     }
 }
 

@@ -1,13 +1,15 @@
 //! A small reference interpreter for Floo 0.5, written from the papers alone to be compared with
 //! other programs. "01" is the scope paper, "000" the Floo document and R1 to R100 the settled
 //! readings. A step is worked out as a `Change` (change.rs) by the rules of run.rs and operators/,
-//! tested for fit in the paper's order, and then applied to the `Machine` (machine.rs).
+//! tested for fit in the paper's order, and then applied to the `Machine` (machine.rs). The floor
+//! rule of the change requests ("02") is a library on top of the run (floor.rs).
 
 #![forbid(unsafe_code)]
 
 pub mod change;
 pub mod corpus;
 pub mod error;
+pub mod floor;
 pub mod machine;
 pub mod operators;
 pub mod print;
@@ -23,28 +25,43 @@ pub use run::Ending;
 pub use setup::Sizes;
 pub use token::{read_token, Kind, Reading, TokenAnswer};
 
-/// The answer to a script: the number of a refusal, or what a run gives and the state it leaves.
+/// The answer to a script: the number of a refusal, or a run.
 pub enum Answer {
     Refused(u8),
-    Run {
-        log: Vec<u8>,
-        outcome: Vec<u8>,
-        ending: Ending,
-        machine: Box<Machine>,
-    },
+    Run(Ran),
+}
+
+/// What a run gives, and the state that it leaves.
+pub struct Ran {
+    pub log: Vec<u8>,
+    pub outcome: Vec<u8>,
+    pub ending: Ending,
+    pub machine: Box<Machine>,
 }
 
 pub fn run(script: &[u8], fuel: u64, sizes: &Sizes) -> Answer {
-    if let Some(number) = setup::refusal(script, fuel, sizes) {
-        return Answer::Refused(number);
+    match setup::refusal(script, fuel, sizes) {
+        Some(number) => Answer::Refused(number),
+        None => Answer::Run(run_from(Machine::new(sizes), script, fuel)),
     }
-    let mut machine = Box::new(Machine::new(sizes));
+}
+
+/// The run from a machine before step 1, in sizes that setup accepts.
+pub fn run_from(start: Machine, script: &[u8], fuel: u64) -> Ran {
+    let mut machine = Box::new(start);
     let ending = run::run_to_end(&mut machine, script, fuel);
-    Answer::Run {
+    Ran {
         log: machine.log.clone(),
         outcome: print::outcome(&mut machine, &ending),
         ending,
         machine,
+    }
+}
+
+impl Ran {
+    /// "log, then outcome"
+    pub fn printed(&self) -> Vec<u8> {
+        [&self.log[..], &self.outcome].concat()
     }
 }
 
@@ -53,7 +70,7 @@ impl Answer {
     pub fn printed(&self) -> Vec<u8> {
         match self {
             Answer::Refused(number) => format!("refused={number}\n").into_bytes(),
-            Answer::Run { log, outcome, .. } => [&log[..], outcome].concat(),
+            Answer::Run(ran) => ran.printed(),
         }
     }
 }

@@ -76,6 +76,14 @@ impl Machine {
         }
     }
 
+    /// A string made and bound before step 1, to a name that has no slot yet (02, W3).
+    pub fn lend(&mut self, name: &[u8], bytes: &[u8]) {
+        let binding = Some(Value::String(self.store.len()));
+        self.add_object(Object::String(bytes.to_vec()));
+        let name = name.to_vec();
+        self.dictionary.push(Entry { name, binding });
+    }
+
     /// The top `N` stack items, bottom first: an operator's fixed operands.
     pub fn operands<const N: usize>(&self) -> Result<[Value; N], Error> {
         let top = self.stack.last_chunk::<N>();

@@ -77,8 +77,8 @@ fn answer(script: &[u8], options: &Options) -> Vec<u8> {
     }
     let mut answer = run(script, options.fuel, &options.sizes);
     let mut output = answer.printed();
-    if let (true, Answer::Run { machine, .. }) = (options.state, &mut answer) {
-        output.extend(state_lines(machine).into_bytes());
+    if let (true, Answer::Run(ran)) = (options.state, &mut answer) {
+        output.extend(state_lines(&mut ran.machine).into_bytes());
     }
     output
 }

@@ -1,6 +1,6 @@
 //! The library's own interface, and runs that must not take long.
 
-use floo_reference::{printed, read_token, run, Answer, Sizes, TokenAnswer};
+use floo_reference::{printed, read_token, run, Answer, Ran, Sizes, TokenAnswer};
 
 #[test]
 fn words_are_divided_and_rounded_down() {
@@ -10,7 +10,7 @@ fn words_are_divided_and_rounded_down() {
 
 #[test]
 fn a_run_gives_its_final_state() {
-    let Answer::Run { log, machine, .. } =
+    let Answer::Run(Ran { log, machine, .. }) =
         run(b"#FLOO\n1 [ 2 ] \"x\" print", 99, &Sizes::default())
     else {
         panic!("the script is accepted");

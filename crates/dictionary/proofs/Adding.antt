@@ -9,7 +9,7 @@ use Prim.Native.Nat.{ℕ, zero, suc, _+_, _*_, _/_, _%_, _≤_, _<_}
 use native.Mathlib.Omega.{arith}
 use lib.ListN.{length, getD, take, set, getElem?, length-append, length-take, length-set}
 use lib.Seq.{getD-set-same, getD-set-other}
-use Rattle.semantics.specs.Sizes.{operatorCount, nameMost}
+use Rattle.semantics.specs.Sizes.{operatorCount, nameMost, dictionaryWordsMost}
 use Rattle.semantics.specs.Values.{Value}
 use Rattle.semantics.specs.Machine as Floo
 use Rattle.semantics.specs.Machine.{Slot, withDictionary, intern}
@@ -34,10 +34,11 @@ use Rattle.dictionary.proofs.Dictionaries.{keysOf, Absent, absent, slot
 
 pub kept-rep : {m : Machine} {s e d d′ c l : List ℕ} {μ : Floo.Machine}
     → Rep m s e d c l μ
-    → length d′ ≡ length d
+    → 12 * m .names ≤ length d′
+    → length d′ ≤ dictionaryWordsMost
     → Kept (12 * m .names) d d′
     → Rep m s e d′ c l μ
-kept-rep {m} R long K =
+kept-rep {m} R fits few K =
     record {
       world = R .world;
       stored = R .stored;
@@ -50,10 +51,10 @@ kept-rep {m} R long K =
       rooms = record {
         stack-fits = R .rooms .stack-fits;
         exec-fits = R .rooms .exec-fits;
-        dict-fits = omega (arith, R .rooms .dict-fits);
+        dict-fits = fits;
         stack-few = R .rooms .stack-few;
         exec-few = R .rooms .exec-few;
-        dict-few = omega (arith, R .rooms .dict-few);
+        dict-few = few;
       };
     }
 

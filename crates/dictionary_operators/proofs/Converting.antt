@@ -1,5 +1,4 @@
--- cvn in its two parts. The loop reads the string's bytes, and its current bytes are the first of them, so that what is read is the name; the item gives way to the
--- name by its slot, which is found or added.
+-- cvn: the string's current bytes are read, and the item gives way to the name of these bytes by its slot, which is found or added.
 -- Assumes nothing.
 use mathlib.Core.Path.{_≡_, refl, sym, ap, _∙_, subst}
 use mathlib.Core.Bool.{Bool, false}
@@ -33,52 +32,16 @@ use Rattle.machine.proofs.Operands.{pop1-some, pop1-under}
 use Rattle.machine.proofs.Outcomes.{stack-depth, first-item}
 use Rattle.elements.specs.Elements.{HasString, HasByte, SomewhereThat, ByteOf}
 use Rattle.elements.proofs.Tags.{string-tagged}
-use Rattle.strings.specs.Strings.{HasBytes, CurrentSize}
+use Rattle.strings.specs.Strings.{HasBytes, CurrentSize, ReadsBytes}
 use Rattle.dictionary.specs.Names.{Finds, Adds}
 use Rattle.dictionary.specs.Bindings.{NamedStack, PutsName}
 use Rattle.dictionary_operators.specs.Promises.{Represented, DoesDictionary}
-use Rattle.dictionary_operators.specs.Interning.{itemNamed, ReadsBytes}
+use Rattle.dictionary_operators.specs.Interning.{itemNamed}
 use Rattle.dictionary_operators.proofs.Promising.{fails, does, alike}
 use Rattle.dictionary.proofs.Lookups.{room-slots}
 use Rattle.dictionary.proofs.Interning.{found-key, found-same, new-slot, new-key, new-slot-lacks}
-use Rattle.strings.proofs.Prefixes.{current-few, current-byte}
-
--- ---- the loop: the first q bytes are read
-
-pub record Reads (out₀ : List ℕ) (m : Machine) (s c out : List ℕ) (q : ℕ) : Type 0 where
-  pub long : length out ≡ length out₀
-  pub bytes : ReadsBytes q m s c out
-
-pub begin : (m : Machine) (s c out : List ℕ) → Reads out m s c out 0
-begin m s c out = record { long = refl; bytes = record { says = λ e d l μ R id x q h. absurd (omega arith) } }
-
-pub has-byte : {m : Machine} {s c : List ℕ} {n q : ℕ} → SomewhereThat (HasBytes 0 0 n) m s c → q < n → SomewhereThat (HasByte 0 q) m s c
-has-byte (e, d, l, μ, R, a) h = (e, d, l, μ, R, record { string = a .string; inside = omega (arith, h, a .inside) })
-
-pub again : {out₀ : List ℕ} {m : Machine} {s c out : List ℕ} {q b : ℕ}
-    → Reads out₀ m s c out q
-    → q < length out₀
-    → ByteOf 0 q m s c b
-    → Reads out₀ m s c (set out q b) (q + 1)
-again {out₀} {m} {s} {c} {out} {q} {b} S inside B =
-    record {
-      long = length-set out q b ∙ S .long;
-      bytes = record {
-        says = λ e d l μ R id x j h.
-            ⊎-elim
-            (λ (z : j < q). getD-set-other out q j b 0 (λ w. omega arith) ∙ S .bytes .says e d l μ R id x j z)
-            (λ (z : q ≤ j).
-            let here : j ≡ q = omega arith in
-            ap (λ w. getD (set out q b) w 0) here
-            ∙ getD-set-same out q b 0 (omega (arith, S .long))
-            ∙ B .says e d l μ R id x
-            ∙ ap (λ w. getD (bytesOf (object μ id)) w 0) (sym here))
-            (lt-or-le j q);
-      };
-    }
-
-pub finish : {n q : ℕ} {m : Machine} {s c out : List ℕ} → n ≤ q → ReadsBytes q m s c out → ReadsBytes n m s c out
-finish h S = record { says = λ e d l μ R id x j z. S .says e d l μ R id x j (omega arith) }
+use Rattle.strings.proofs.Prefixes.{current-few}
+use Rattle.strings.proofs.Reading.{read-all}
 
 -- ---- the item becomes the name
 
@@ -215,24 +178,6 @@ module _ (μ : Floo.Machine) where
         ∙ ap (λ t. check t LimitCheck >>= λ u. ok (push (name false text) (intern text (withStack rest μ)))) (le-leb (length text) nameMost q)
         ∙ sym (ap (λ (t : List Value). ok (withStack (set t 0 (name false text)) (intern text μ))) (first-item (μ .stack) h .2)))
 
--- ---- what is read is the name
-
-read-all : {n : ℕ} {m : Machine} {s e d c l out : List ℕ} {μ : Floo.Machine}
-    → Rep m s e d c l μ
-    → (id : ℕ)
-    → getD (μ .stack) 0 null ≡ string id
-    → n ≡ length (current (bytesOf (object μ id)))
-    → n ≤ length out
-    → ReadsBytes n m s c out
-    → take n out ≡ current (bytesOf (object μ id))
-read-all {n} {e = e} {d = d} {l = l} {out = out} {μ = μ} R id x size room B =
-    let long = length-take-le n out room in
-    let bs = bytesOf (object μ id) in
-    ext-getD 0 (take n out) (current bs) (long ∙ size)
-    (λ j h.
-    let low : j < n = omega (arith, long) in
-    getD-take n out j 0 low ∙ B .says e d l μ R id x j low ∙ sym (current-byte bs j (omega (arith, size))))
-
 -- ---- the returns
 
 module _ {m : Machine} {s d c : List ℕ} where
@@ -264,7 +209,7 @@ module _ {m : Machine} {s d c : List ℕ} where
             let x = has-string R in
             (e, d, l, μ, R, record { string = x; inside = omega (arith, Z .says e d l μ R (x .id) (x .item), current-few (bytesOf (object μ (x .id)))) })
 
-        module _ (h : n ≤ nameMost) {out : List ℕ} (B : ReadsBytes n m s c out) (long : n ≤ length out) where
+        module _ (h : n ≤ nameMost) {out₀ out : List ℕ} (B : ReadsBytes 0 n m s c out₀ out) (long : n ≤ length out) where
           pub cvn-good : {s′ d′ c′ : List ℕ} (r : Did)
               → DoesDictionary (itemNamed (take (n - 0) out)) m s s′ d d′ c c′ r
               → DoesDictionary (perform (bytes "cvn")) m s s′ d d′ c c′ r

@@ -6,11 +6,9 @@ ghost use lib.ListN.{length};
 ghost use Rattle.semantics.specs.Sizes.{nameMost};
 ghost use Rattle.semantics.specs.Text.{bytes};
 ghost use Rattle.semantics.specs.Operators.{perform};
-ghost use Rattle.elements.specs.Elements.{SomewhereThat};
-ghost use Rattle.strings.specs.Strings.{HasBytes};
 ghost use Rattle.dictionary_operators.specs.Promises.{Represented, DoesDictionary};
 ghost use Rattle.dictionary_operators.specs.Binding.{HasProcedure, HasElementAt, BindsElement, BindsElements};
-ghost use Rattle.dictionary_operators.specs.Interning.{itemNamed, ReadsBytes};
+ghost use Rattle.dictionary_operators.specs.Interning.{itemNamed};
 use machine::Did;
 use machine::ITEM_PAYLOAD;
 use machine::Machine;
@@ -92,7 +90,7 @@ pub fn cvn(m: Machine, stack: &mut [u32], dict: &mut [u32], cells: &mut [u32]) -
         return Did::Fail(Error::LimitCheck);
     }
     let mut name = [0u8; NAME_MOST];
-    read_bytes(m, stack, cells, size, &mut name);
+    strings::read_bytes(m, stack, cells, 0, size, &mut name);
     name_item(m, stack, dict, cells, &name[0..size as usize])
 }
 
@@ -110,18 +108,6 @@ fn name_item(m: Machine, stack: &mut [u32], dict: &mut [u32], cells: &mut [u32],
     }
     let r = dictionary::add(m, dict, name);
     Did::Ok(dictionary::put_name(r, stack, cells, slot as u32, 0))
-}
-
-// The first n bytes of the string that is item 0 go to the front of out.
-fn read_bytes(m: Machine, stack: &[u32], cells: &[u32], n: u32, out: &mut [u8])
-    requires { ⌜ (1 ≤ m .depth) × (n ≤ length (now out)) × SomewhereThat (HasBytes 0 0 n) m (now stack) (now cells) ⌝ }
-    ensures { λ _. ⌜ ReadsBytes n m (now (stack .entry)) (now (cells .entry)) (now (out .exit)) ⌝ }
-{
-    let mut q = 0;
-    while q < n {
-        out[q as usize] = elements::get_byte(m, stack, cells, 0, q);
-        q = q + 1;
-    }
 }
 
 // Each element of the procedure that is item 0 is bound.

@@ -103,7 +103,7 @@ module _ {script : List ℕ} {from : ℕ} (first : 1 ≤ from) (inside : from �
     named-as {s} {e} {c} {l} {μ} R = N .adds (names ns) (parsed-flat P) s e c l μ R
 
     stays : {s e c l : List ℕ} {μ : Floo.Machine} → Rep m s e d c l μ → Rep m s e d′ c l μ
-    stays R = kept-rep R long (N .kept)
+    stays R = kept-rep R (omega (arith, long, R .rooms .dict-fits)) (omega (arith, long, R .rooms .dict-few)) (N .kept)
 
     pub group-full : {s c : List ℕ} {x y : Error} → r ≡ named.Bad x → y ≡ faultIn r → TakesGroup script from m s s d d′ c c (Fail y)
     unfolding lent push withStack filled grown change opened make withStore withDictionary

@@ -75,7 +75,7 @@ module _ (script : List ℕ) (fuel : ℕ) (s e d c l o : List ℕ) where
       }
 
   -- The room is the same, for it goes by slots,
-  room-same : limits (lentOf (whole 2 s) (whole 8 e) (whole 12 d) (whole 4 c) l o) ≡ limits (lentOf s e d c l o)
+  pub room-same : limits (lentOf (whole 2 s) (whole 8 e) (whole 12 d) (whole 4 c) l o) ≡ limits (lentOf s e d c l o)
   unfolding limits
   room-same =
       let a : length (whole 2 s) / 2 ≡ length s / 2 = omega (arith, long-s) in
@@ -85,7 +85,7 @@ module _ (script : List ℕ) (fuel : ℕ) (s e d c l o : List ℕ) where
       rw (a, b, f, g) refl
 
   -- and so is the run, from every state.
-  module _ (σ₀ : steps.State) (touched : ℕ) where
+  module _ (σ₀ : steps.State) (touched worked : ℕ) where
     run-same : theRun script fuel (lentOf (whole 2 s) (whole 8 e) (whole 12 d) (whole 4 c) l o) σ₀ ≡ theRun script fuel (lentOf s e d c l o) σ₀
     run-same = ap (λ (x : Limits). run x script fuel σ₀) room-same
 
@@ -95,8 +95,8 @@ module _ (script : List ℕ) (fuel : ℕ) (s e d c l o : List ℕ) where
         → length yd ≡ length (whole 12 d)
         → length yc ≡ length (whole 4 c)
         → {r : Report}
-        → CarriesOut script fuel σ₀ touched (whole 2 s) ys (whole 8 e) ye (whole 12 d) yd (whole 4 c) yc l l′ o o′ r
-        → RunIs script fuel σ₀ touched s (ys ++ past 2 s) e (ye ++ past 8 e) d (yd ++ past 12 d) c (yc ++ past 4 c) l l′ o o′ r
+        → CarriesOut script fuel σ₀ touched worked (whole 2 s) ys (whole 8 e) ye (whole 12 d) yd (whole 4 c) yc l l′ o o′ r
+        → RunIs script fuel σ₀ touched worked s (ys ++ past 2 s) e (ye ++ past 8 e) d (yd ++ past 12 d) c (yc ++ past 4 c) l l′ o o′ r
     whole-run {ys} {ye} {yd} {yc} {l′} {o′} ks ke kd kc {r} C =
         let H = C .holds in
         let S = whole-is 2 s ys ks (omega arith) in
@@ -133,8 +133,8 @@ module _ (script : List ℕ) (fuel : ℕ) (s e d c l o : List ℕ) where
       → length yd ≡ length (whole 12 d)
       → length yc ≡ length (whole 4 c)
       → {r : Report}
-      → CarriesOut script fuel initial 0 (whole 2 s) ys (whole 8 e) ye (whole 12 d) yd (whole 4 c) yc l l′ o o′ r
+      → CarriesOut script fuel initial 0 0 (whole 2 s) ys (whole 8 e) ye (whole 12 d) yd (whole 4 c) yc l l′ o o′ r
       → Runs script fuel s (ys ++ past 2 s) e (ye ++ past 8 e) d (yd ++ past 12 d) c (yc ++ past 4 c) l l′ o o′ (Ran r)
   answered {n} q none ks ke kd kc C =
       let zero : n ≡ 0 = omega (arith, none) in
-      record { answers = (sym q ∙ zero, whole-run initial 0 ks ke kd kc C) }
+      record { answers = (sym q ∙ zero, whole-run initial 0 0 ks ke kd kc C) }

@@ -22,7 +22,7 @@ use Rattle.runner.specs.Promise.{lentOf, theRun, RunIs}
 use Rattle.runner.specs.declared.Report.{Report}
 use Rattle.runner.proofs.Prefixes.{statesOf}
 
-module _ {script : List ℕ} {k : ℕ} {σ₀ : steps.State} {touched : ℕ} {s s′ e e′ d d′ c c′ l l′ o o′ : List ℕ} {r : Report} (R : RunIs script k σ₀ touched s s′ e e′ d d′ c c′ l l′ o o′ r) where
+module _ {script : List ℕ} {k : ℕ} {σ₀ : steps.State} {touched worked : ℕ} {s s′ e e′ d d′ c c′ l l′ o o′ : List ℕ} {r : Report} (R : RunIs script k σ₀ touched worked s s′ e e′ d d′ c c′ l l′ o o′ r) where
   first-exact : Exactly (R .recorded .first) σ₀
   first-exact =
       let H = R .recorded .history in

@@ -31,7 +31,7 @@ moment-by : {x y : Moment} {σ : steps.State} → x .state .machine ≡ y .state
     → x .stack ≡ y .stack → x .exec ≡ y .exec → x .dict ≡ y .dict → x .cells ≡ y .cells → x .log ≡ y .log → Exactly x σ → Exactly y σ
 moment-by m n a k s e d c l E = rw (sym m, sym n, sym a, sym k, sym s, sym e, sym d, sym c, sym l) E
 
-module _ {script : List ℕ} {k : ℕ} {σ₀ : steps.State} {touched : ℕ} {s s′ e e′ d d′ c c′ l l′ o o′ : List ℕ} {r : Report} (R : RunIs script k σ₀ touched s s′ e e′ d d′ c c′ l l′ o o′ r) (fuel : ℕ) (more : k ≤ fuel) where
+module _ {script : List ℕ} {k : ℕ} {σ₀ : steps.State} {touched worked : ℕ} {s s′ e e′ d d′ c c′ l l′ o o′ : List ℕ} {r : Report} (R : RunIs script k σ₀ touched worked s s′ e e′ d d′ c c′ l l′ o o′ r) (fuel : ℕ) (more : k ≤ fuel) where
   -- The history's states are the first of those with more fuel.
   first-states : trace (limitsOf (R .recorded .first)) script k σ₀ ≡ take (suc k) (statesOf script fuel σ₀ s e d c l o)
   first-states = ap (λ (m : Limits). trace m script k σ₀) (R .room) ∙ trace-take (limits (lentOf s e d c l o)) script k fuel σ₀ more

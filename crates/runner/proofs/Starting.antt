@@ -5,17 +5,12 @@ use mathlib.Core.List.{List}
 use Prim.Native.Nat.{ℕ, _*_}
 use lib.ListN.{drop}
 use Rattle.semantics.specs.Sizes.{nameWords}
-use Rattle.semantics.specs.Held.{heldCells, held, sumOf, pruned, prune, below}
 use Rattle.semantics.specs.Steps.{initial}
 use Rattle.semantics.specs.NameLaws.{name-count}
 use Rattle.runner.specs.Promise.{whole, RunIs}
 use Rattle.runner.specs.declared.Report.{Report}
 
-nothing-held : heldCells (initial .machine) ≡ 0
-unfolding initial heldCells held sumOf pruned prune below
-nothing-held = refl
-
-module _ {script : List ℕ} {fuel : ℕ} {s s′ e e′ d d′ c c′ l l′ o o′ : List ℕ} {r : Report} (R : RunIs script fuel initial 0 s s′ e e′ d d′ c c′ l l′ o o′ r) where
+module _ {script : List ℕ} {fuel : ℕ} {s s′ e e′ d d′ c c′ l l′ o o′ : List ℕ} {r : Report} (R : RunIs script fuel initial 0 0 s s′ e e′ d d′ c c′ l l′ o o′ r) where
   pub first-lent : (R .recorded .first .stack ≡ whole 2 s) × (R .recorded .first .exec ≡ whole 8 e) × (R .recorded .first .cells ≡ whole 4 c) × (R .recorded .first .log ≡ l)
       × (drop nameWords (R .recorded .first .dict) ≡ drop nameWords (whole 12 d))
   unfolding initial
@@ -23,7 +18,7 @@ module _ {script : List ℕ} {fuel : ℕ} {s s′ e e′ d d′ c c′ l l′ o 
       let L = R .recorded .lends in (
         L .stack,
         L .exec,
-        subst (λ n. drop (4 * n) (R .recorded .first .cells) ≡ drop (4 * n) (whole 4 c)) nothing-held (L .cells),
+        L .cells,
         L .log,
         subst (λ n. drop (12 * n) (R .recorded .first .dict) ≡ drop (12 * n) (whole 12 d)) name-count (L .dict),
       )

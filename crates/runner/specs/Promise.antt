@@ -6,13 +6,14 @@ use Prim.Native.Nat.{ℕ, _+_, _*_, _/_, _≤_, _<_}
 use lib.ListN.{length, take, drop}
 use Rattle.semantics.specs.Sizes.{scriptMost, fuelMost, cellsMost, logMost, headRoom, itemRoom, stackWordsMost, execWordsMost, nameWords, dictionaryWordsMost}
 use Rattle.semantics.specs.Machine as Floo
-use Rattle.semantics.specs.Held.{heldCells}
 use Rattle.semantics.specs.Steps as steps
 use Rattle.semantics.specs.Steps.{Run, run, initial}
 use Rattle.semantics.specs.Outcome.{outcome}
 use Rattle.semantics.specs.AsciiLaws.{Ascii, Bytes}
 use Rattle.semantics.specs.Setup.{Lent, limits, refusal}
+use Rattle.ending.specs.Endings.{endingOf}
 use Rattle.text.specs.Writing.{Written}
+use Rattle.machine.specs.Places.{keys}
 use Rattle.machine.specs.Rep.{Rep}
 use Rattle.step.specs.Stepping.{stateOf}
 use Rattle.step.specs.declared.State.{State}
@@ -37,27 +38,27 @@ whole width words = take (length words / width * width) words
 abbrev pub past : ℕ → List ℕ → List ℕ
 past width words = drop (length words / width * width) words
 
--- The first moment is what was lent, past what the start itself uses: its execution slots, names, held cells and log bytes, and `touched` words of the stack.
-pub record Lends (touched : ℕ) (m : Floo.Machine) (first : Moment) (s e d c l : List ℕ) : Type 0 where
+-- The first moment is what was lent, past what the start itself uses: its execution slots, names and log bytes, and so many words of the stack and of the cells.
+pub record Lends (touched worked : ℕ) (m : Floo.Machine) (first : Moment) (s e d c l : List ℕ) : Type 0 where
   pub stack : drop touched (first .stack) ≡ drop touched s
   pub exec : drop (8 * length (m .exec)) (first .exec) ≡ drop (8 * length (m .exec)) e
   pub dict : drop (12 * length (m .dictionary)) (first .dict) ≡ drop (12 * length (m .dictionary)) d
-  pub cells : drop (4 * heldCells m) (first .cells) ≡ drop (4 * heldCells m) c
+  pub cells : drop worked (first .cells) ≡ drop worked c
   pub log : drop (length (m .log)) (first .log) ≡ drop (length (m .log)) l
   pub lengths : (length (first .stack) ≡ length s) × (length (first .exec) ≡ length e) × (length (first .dict) ≡ length d) × (length (first .cells) ≡ length c) × (length (first .log) ≡ length l)
 
 -- Demand 3: the history of the run begins with what was lent and ends with what the buffers hold. At the start of `run` nothing is used but the slots of the
 -- predefined names.
-pub record Recorded (script : List ℕ) (fuel : ℕ) (σ₀ : steps.State) (touched : ℕ) (s s′ e e′ d d′ c c′ l l′ : List ℕ) : Type 0 where
+pub record Recorded (script : List ℕ) (fuel : ℕ) (σ₀ : steps.State) (touched worked : ℕ) (s s′ e e′ d d′ c c′ l l′ : List ℕ) : Type 0 where
   pub first : Moment
   pub last : Moment
-  pub lends : Lends touched (σ₀ .machine) first (whole 2 s) (whole 8 e) (whole 12 d) (whole 4 c) l
+  pub lends : Lends touched worked (σ₀ .machine) first (whole 2 s) (whole 8 e) (whole 12 d) (whole 4 c) l
   pub holds : (last .stack ≡ whole 2 s′) × (last .exec ≡ whole 8 e′) × (last .dict ≡ whole 12 d′) × (last .cells ≡ whole 4 c′) × (last .log ≡ l′)
   pub history : History script fuel σ₀ first last
 
 -- A run from σ₀: the definition's steps, log and outcome, and its history. The log past its count, the outcome past its end and the words past whole slots are
 -- unchanged.
-pub record RunIs (script : List ℕ) (fuel : ℕ) (σ₀ : steps.State) (touched : ℕ) (s s′ e e′ d d′ c c′ l l′ o o′ : List ℕ) (r : Report) : Type 0 where
+pub record RunIs (script : List ℕ) (fuel : ℕ) (σ₀ : steps.State) (touched worked : ℕ) (s s′ e e′ d d′ c c′ l l′ o o′ : List ℕ) (r : Report) : Type 0 where
   pub steps : r .steps ≡ theRun script fuel (lentOf s e d c l o) σ₀ .final .steps
   pub fueled : r .steps ≤ σ₀ .steps + fuel
   pub log : Written 0 (theRun script fuel (lentOf s e d c l o) σ₀ .final .machine .log) l l′ (r .log)
@@ -65,7 +66,7 @@ pub record RunIs (script : List ℕ) (fuel : ℕ) (σ₀ : steps.State) (touched
   pub ascii : Bytes script → Ascii (outcome (theRun script fuel (lentOf s e d c l o) σ₀))
   pub outcome : Written 0 (outcome (theRun script fuel (lentOf s e d c l o) σ₀)) o o′ (r .outcome)
   pub unused : (past 2 s′ ≡ past 2 s) × (past 8 e′ ≡ past 8 e) × (past 12 d′ ≡ past 12 d) × (past 4 c′ ≡ past 4 c)
-  pub recorded : Recorded script fuel σ₀ touched s s′ e e′ d d′ c c′ l l′
+  pub recorded : Recorded script fuel σ₀ touched worked s s′ e e′ d d′ c c′ l l′
   -- the history is of this run: its room is what is lent, and it has a moment more than there are steps
   pub room : limitsOf (recorded .first) ≡ limits (lentOf s e d c l o)
   pub counted : length (recorded .history .moments) + σ₀ .steps ≡ r .steps + 1
@@ -77,7 +78,7 @@ abbrev pub AnswerIs : List ℕ → ℕ → List ℕ → List ℕ → List ℕ �
 AnswerIs script fuel s s′ e e′ d d′ c c′ l l′ o o′ (Refused n) =
     (refusal script fuel (lentOf s e d c l o) ≡ n) × (0 < n) × (s′ ≡ s) × (e′ ≡ e) × (d′ ≡ d) × (c′ ≡ c) × (l′ ≡ l) × (o′ ≡ o)
 AnswerIs script fuel s s′ e e′ d d′ c c′ l l′ o o′ (Ran r) =
-    (refusal script fuel (lentOf s e d c l o) ≡ 0) × RunIs script fuel initial 0 s s′ e e′ d d′ c c′ l l′ o o′ r
+    (refusal script fuel (lentOf s e d c l o) ≡ 0) × RunIs script fuel initial 0 0 s s′ e e′ d d′ c c′ l l′ o o′ r
 
 pub record Runs (script : List ℕ) (fuel : ℕ) (s s′ e e′ d d′ c c′ l l′ o o′ : List ℕ) (r : Answer) : Type 0 where
   pub answers : AnswerIs script fuel s s′ e e′ d d′ c c′ l l′ o o′ r
@@ -96,18 +97,24 @@ pub record Ready (script : List ℕ) (fuel : ℕ) (s e d c l o : List ℕ) : Typ
   pub outcome : headRoom + itemRoom * (length s / 2) ≤ length o
 
 -- The run from σ₀ with the words of whole slots.
-pub record CarriesOut (script : List ℕ) (fuel : ℕ) (σ₀ : steps.State) (touched : ℕ) (s s′ e e′ d d′ c c′ l l′ o o′ : List ℕ) (r : Report) : Type 0 where
+pub record CarriesOut (script : List ℕ) (fuel : ℕ) (σ₀ : steps.State) (touched worked : ℕ) (s s′ e e′ d d′ c c′ l l′ o o′ : List ℕ) (r : Report) : Type 0 where
   pub steps : r .steps ≡ theRun script fuel (lentOf s e d c l o) σ₀ .final .steps
   pub log : Written 0 (theRun script fuel (lentOf s e d c l o) σ₀ .final .machine .log) l l′ (r .log)
   pub ascii : Bytes script → Ascii (outcome (theRun script fuel (lentOf s e d c l o) σ₀))
   pub outcome : Written 0 (outcome (theRun script fuel (lentOf s e d c l o) σ₀)) o o′ (r .outcome)
   pub first : Moment
   pub last : Moment
-  pub lends : Lends touched (σ₀ .machine) first s e d c l
+  pub lends : Lends touched worked (σ₀ .machine) first s e d c l
   pub holds : (last .stack ≡ s′) × (last .exec ≡ e′) × (last .dict ≡ d′) × (last .cells ≡ c′) × (last .log ≡ l′)
   pub history : History script fuel σ₀ first last
   pub room : limitsOf first ≡ limits (lentOf s e d c l o)
   pub state : (last .state .machine ≡ r .machine) × (last .state .steps ≡ r .steps)
+
+-- The words stand for the machine at the end of the run from σ₀, which ended so.
+pub record Reaches (script : List ℕ) (fuel : ℕ) (σ₀ : steps.State) (s s′ e e′ d d′ c c′ l l′ o : List ℕ) (r : Proceeded) : Type 0 where
+  pub machine : Floo.Machine
+  pub rep : Rep (r .state .machine) s′ e′ d′ c′ l′ machine
+  pub runs : theRun script fuel (lentOf s e d c l o) σ₀ ≡ record { ending = endingOf script (keys machine) (r .ending); final = stateOf (r .state) machine }
 
 -- ---- from any state
 

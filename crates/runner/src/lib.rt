@@ -80,7 +80,7 @@ fn carry_out(
     outcome: &mut [u8],
 ) -> Report
     requires { ⌜ Ready (now script) fuel (now stack) (now exec) (now dict) (now cells) (now log) (now outcome) ⌝ }
-    ensures { λ r. ⌜ CarriesOut (now (script .entry)) fuel initial 0 (now (stack .entry)) (now (stack .exit)) (now (exec .entry)) (now (exec .exit)) (now (dict .entry)) (now (dict .exit)) (now (cells .entry)) (now (cells .exit)) (now (log .entry)) (now (log .exit)) (now (outcome .entry)) (now (outcome .exit)) r ⌝ }
+    ensures { λ r. ⌜ CarriesOut (now (script .entry)) fuel initial 0 0 (now (stack .entry)) (now (stack .exit)) (now (exec .entry)) (now (exec .exit)) (now (dict .entry)) (now (dict .exit)) (now (cells .entry)) (now (cells .exit)) (now (log .entry)) (now (log .exit)) (now (outcome .entry)) (now (outcome .exit)) r ⌝ }
 {
     let m = start::begin(dict, cells);
     let st = State {

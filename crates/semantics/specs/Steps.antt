@@ -10,8 +10,8 @@ use lib.ListN.{length, drop, getElem?}
 use lib.Dec.{leb, eqb}
 use Rattle.semantics.specs.Text.{bytes}
 use Rattle.semantics.specs.Words.{signed, word}
-use Rattle.semantics.specs.Values.{Result, ok, fault, _>>=_, check, given, Value, integer, boolean, null, mark, operator, name, string, array, cells}
-use Rattle.semantics.specs.Machine.{Machine, Frame, pending, running, looping, repeating, counting, Slot, withExec, push, enter, object, elementsOf, lookup}
+use Rattle.semantics.specs.Values.{Result, ok, fault, _>>=_, check, given, Value, integer, boolean, null, mark, operator, name, string, array, text, cells}
+use Rattle.semantics.specs.Machine.{Machine, Frame, pending, running, looping, repeating, counting, Slot, withDictionary, withExec, push, enter, object, elementsOf, make, made, lookup, assign}
 use Rattle.semantics.specs.Printing.{nameText}
 use Rattle.semantics.specs.Operators.{perform, table, Entry}
 use Rattle.semantics.specs.Held.{heldCells, sumOf}
@@ -220,17 +220,21 @@ predefined =
     ∷ slot (bytes "null") null
     ∷ [])
 
+-- The state before step 1 of a run of this machine.
+abbrev pub startOf : Machine → State
+startOf m = record { machine = m; next = 0; at = 0; steps = 0 }
+
 -- Both stacks empty, the predefined names and no object.
 unfoldable pub initial : State
-initial =
-    record {
-      machine = record { stack = []; dictionary = predefined; exec = []; store = []; log = []; stopped = false };
-      next = 0;
-      at = 0;
-      steps = 0;
-    }
+initial = startOf (record { stack = []; dictionary = predefined; exec = []; store = []; log = []; stopped = false })
+
+-- A string is made and bound to a name before step 1 (02, W3).
+unfoldable pub lending : List ℕ → List ℕ → Machine → Machine
+lending n contents m =
+    let τ = make (text contents) m in
+    withDictionary (assign n (string (made m)) (τ .dictionary)) τ
 
 -- Opens every definition of this file.
 unfoldable pub stepping : Unit {0}
-unfolding commandOf execute isProcedure treat silent beyond following resume newCells cellsFor roomFor ended moved tokenMove offsetAfter stepOn step isEmpty isFinished finish goOn run slot predefined initial
+unfolding commandOf execute isProcedure treat silent beyond following resume newCells cellsFor roomFor ended moved tokenMove offsetAfter stepOn step isEmpty isFinished finish goOn run slot predefined initial lending
 stepping = tt

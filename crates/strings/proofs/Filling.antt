@@ -97,7 +97,7 @@ module _ {m : Machine} {s e d c l : List ℕ} {μ : Floo.Machine} (R : Rep m s e
         }
 
 -- One byte more goes to the front.
-front-puts : {h q b : ℕ} {done c₀ c c′ : List ℕ}
+pub front-puts : {h q b : ℕ} {done c₀ c c′ : List ℕ}
     → length done ≡ q
     → FillsString h done c₀ c
     → PutsByte h q b c c′
@@ -112,6 +112,27 @@ front-puts {h} {q} {b} {done} {c′ = c′} count F B =
           let same = ap (λ k. byteSet id k b (stringFilled id done μ)) (sym count) ∙ filled-more id μ (made R I) done b (omega (arith, room, more)) in
           subst (λ (τ : Floo.Machine). (R′ : Rep m s e d c′ l τ) × (R′ .world ≡ R .world)) same (Y .0, Y .1 ∙ X .1);
     }
+
+-- Nothing has gone there yet.
+pub fills-none : (h : ℕ) (c : List ℕ) → FillsString h [] c c
+fills-none h c =
+    record {
+      fills = λ {m = m} {s = s} {e = e} {d = d} {l = l} {μ = μ} R id I _.
+          subst (λ (τ : Floo.Machine). (R′ : Rep m s e d c l τ) × (R′ .world ≡ R .world)) (sym (filled-none id μ (whole R I))) (R, refl);
+    }
+
+-- There is room for no more bytes than a heap has.
+pub room-few : {h n : ℕ} {c : List ℕ} → HasRoom h n c → n ≤ 262144
+room-few W = omega (arith, W .inside, few (W .rep) (W .string))
+
+-- The cell of the next byte is there.
+pub room-next : {h n q : ℕ} {done c₀ c : List ℕ} → HasRoom h n c₀ → FillsString h done c₀ c → length done ≡ q → q < n → HasCell c h (q / 8)
+room-next {h} {q = q} {done = done} W F count less =
+    let low : length done ≤ length (bytesOf (object (W .state) (W .id))) = omega (arith, W .inside, less, count) in
+    let X = F .fills (W .rep) (W .id) (W .string) low in
+    let long = filled-long (W .id) (W .state) (made (W .rep) (W .string)) done low in
+    let I = string-still (W .rep) (W .string) done (X .0) (X .1) in
+    byte-here (X .0) h (W .id) q (string-here (X .0) I) (omega (arith, long, W .inside, less))
 
 -- ---- the loop
 
@@ -141,15 +162,12 @@ begin {c = c} F =
       count = refl;
       left = F .reads;
       long = refl;
-      fills = record {
-        fills = λ {m = m} {s = s} {e = e} {d = d} {l = l} {μ = μ} R id I _.
-            subst (λ (τ : Floo.Machine). (R′ : Rep m s e d c l τ) × (R′ .world ≡ R .world)) (sym (filled-none id μ (whole R I))) (R, refl);
-      };
+      fills = fills-none _ c;
     }
 
 module _ {h : ℕ} {c₀ c script : List ℕ} {start at q : ℕ} (F : Filling h c₀ c script start at q) where
   pub few-bytes : length (F .bytes) ≤ 262144
-  few-bytes = let W = F .room in omega (arith, W .inside, few (W .rep) (W .string))
+  few-bytes = room-few (F .room)
 
   module _ {r : Unescaped} (U : Unescapes script at r) where
     module _ {b next : ℕ} (e : r ≡ unescaped.Byte b next) where
@@ -166,13 +184,7 @@ module _ {h : ℕ} {c₀ c script : List ℕ} {start at q : ℕ} (F : Filling h 
       nearer = omega (arith, gives .3, gives .2 .past, gives .2 .inside)
 
       pub byte-room : HasCell c h (q / 8)
-      byte-room =
-          let W = F .room in
-          let low : length (F .done) ≤ length (bytesOf (object (W .state) (W .id))) = omega (arith, W .inside, one-left, F .count) in
-          let X = F .fills .fills (W .rep) (W .id) (W .string) low in
-          let long = filled-long (W .id) (W .state) (made (W .rep) (W .string)) (F .done) low in
-          let I = string-still (W .rep) (W .string) (F .done) (X .0) (X .1) in
-          byte-here (X .0) h (W .id) q (string-here (X .0) I) (omega (arith, long, W .inside, one-left))
+      byte-room = room-next (F .room) (F .fills) (F .count) one-left
 
       pub again : {c′ : List ℕ} → PutsByte h q b c c′ → length c′ ≡ length c → Filling h c₀ c′ script start next (q + 1)
       again {c′} B long =

@@ -2,7 +2,7 @@
 -- Assumes nothing.
 use mathlib.Core.Path.{_≡_}
 use mathlib.Core.List.{List, _++_}
-use Prim.Native.Nat.{ℕ, _+_, _≤_}
+use Prim.Native.Nat.{ℕ, _+_, _≤_, _<_}
 use lib.ListN.{length, getD, take, drop}
 use Rattle.semantics.specs.Values.{null, string, text, current}
 use Rattle.semantics.specs.Machine as Floo
@@ -59,6 +59,17 @@ pub record CurrentSize (i : ℕ) (m : Machine) (s c : List ℕ) (r : ℕ) : Type
       → (id : ℕ)
       → getD (μ .stack) i null ≡ string id
       → r ≡ length (current (bytesOf (object μ id)))
+
+-- The first n bytes of item i, at the front of `out′`, which was `out`.
+pub record ReadsBytes (i n : ℕ) (m : Machine) (s c out out′ : List ℕ) : Type 0 where
+  pub says : (e d l : List ℕ) (μ : Floo.Machine)
+      → Rep m s e d c l μ
+      → (id : ℕ)
+      → getD (μ .stack) i null ≡ string id
+      → (q : ℕ)
+      → q < n
+      → getD out′ q 0 ≡ getD (bytesOf (object μ id)) q 0
+  pub rest : (q : ℕ) → n ≤ q → getD out′ q 0 ≡ getD out q 0
 
 -- ---- what is done
 

@@ -3,7 +3,7 @@ ghost use Prim.Native.Nat.{_+_, _≤_, _<_};
 ghost use lib.ListN.{length};
 ghost use Rattle.machine.specs.Rep.{MovesHeap};
 ghost use Rattle.elements.specs.Elements.{HasString, SomewhereThat};
-ghost use Rattle.strings.specs.Strings.{CurrentSize, Copies, Fills, FillsAt, bytesCopied, Filled, FilledAt};
+ghost use Rattle.strings.specs.Strings.{HasBytes, HasRoom, CurrentSize, ReadsBytes, Copies, Fills, FillsAt, FillsString, bytesCopied, Filled, FilledAt};
 use machine::ITEM_PAYLOAD;
 use machine::Machine;
 use semantics::STACK_WIDTH;
@@ -24,6 +24,32 @@ pub fn current_length(m: Machine, stack: &[u32], cells: &[u32], i: usize) -> u32
         q = q + 1;
     }
     q
+}
+
+// The first n bytes of the string that is item i go to the front of out; the bytes after them stay.
+// Rules out: a byte left out at the end; another item's bytes; bytes after them changed.
+pub fn read_bytes(m: Machine, stack: &[u32], cells: &[u32], i: usize, n: u32, out: &mut [u8])
+    requires { ⌜ (i < m .depth) × (n ≤ length (now out)) × SomewhereThat (HasBytes i 0 n) m (now stack) (now cells) ⌝ }
+    ensures { λ _. ⌜ ReadsBytes i n m (now (stack .entry)) (now (cells .entry)) (now (out .entry)) (now (out .exit)) ⌝ }
+{
+    let mut q = 0;
+    while q < n {
+        out[q as usize] = elements::get_byte(m, stack, cells, i, q);
+        q = q + 1;
+    }
+}
+
+// The string with header h gets these bytes; its bytes after them stay.
+// Rules out: the last byte left out; another string written to.
+pub fn write_at(cells: &mut [u32], h: u32, contents: &[u8])
+    requires { ⌜ HasRoom h (length (now contents)) (now cells) ⌝ }
+    ensures { λ _. ⌜ FillsString h (now (contents .entry)) (now (cells .entry)) (now (cells .exit)) ⌝ }
+{
+    let mut q = 0;
+    while q < contents.len() {
+        elements::put_byte_at(cells, h, q as u32, contents[q]);
+        q = q + 1;
+    }
 }
 
 // n bytes of the string that is item `from`, from byte start on, go to byte `at` and the ones after it of the string that is item `to`. Both may be one

@@ -1,15 +1,14 @@
 -- A string token: null is pushed, gives way to a new string of zeros, and that is filled with the token's bytes. The stack's room is tested before the cells.
 -- Assumes nothing.
 use mathlib.Core.Path.{_≡_, refl, sym, ap, _∙_, subst}
-use mathlib.Core.List.{List, [], _∷_, _++_, append-nil}
+use mathlib.Core.List.{List, [], _∷_}
 use Prim.Native.Nat.{ℕ, _+_, _*_, _/_, _≤_, _<_}
 use native.Mathlib.Omega.{arith}
-use lib.ListN.{length, drop, set, replicate, length-replicate, drop-of-length-le}
-use lib.Seq.{getD-append-seam, set-append-seam}
+use lib.ListN.{length, replicate, length-replicate}
 use Rattle.semantics.specs.Sizes.{stackWordsMost}
-use Rattle.semantics.specs.Values.{string, null, elements, text, _>>=_, cells}
+use Rattle.semantics.specs.Values.{string, null, text, _>>=_, cells}
 use Rattle.semantics.specs.Machine as Floo
-use Rattle.semantics.specs.Machine.{withStack, withStore, push, object, bytesOf, make, made, change}
+use Rattle.semantics.specs.Machine.{withStack, withStore, push, object, bytesOf, make, made}
 use Rattle.semantics.specs.Held.{sumOf}
 use Rattle.semantics.specs.declared.Error.the-variants.{StackOverflow, VmError}
 use Rattle.token.specs.Strings.{StringAt}
@@ -21,37 +20,13 @@ use Rattle.machine.specs.declared.Machine.{Machine}
 use Rattle.machine.specs.declared.Did.the-variants.{Ok, Fail}
 use Rattle.machine.proofs.Items.{items-length}
 use Rattle.machine.proofs.Rooms.{room-stack, exec-fits, dictionary-fits}
-use Rattle.elements.specs.Elements.{freeCells, named, itemId, HasPlain, SomewhereThat, stringMade}
+use Rattle.elements.specs.Elements.{freeCells, HasPlain, SomewhereThat, stringMade}
 use Rattle.elements.proofs.Vacancy.{makes-heap, full-heap}
 use Rattle.strings.specs.Strings.{Fills, Filled, bytesFilled}
+use Rattle.strings.proofs.Making.{new, blank, blank-object, filled-new}
 use Rattle.taking.specs.Effects.{stringTaken}
 use Rattle.taking.specs.Promises.{StringOf, PushesWords, DoesString}
 use Rattle.taking.proofs.Pushing.{null-words}
-
--- ---- the string that is made
-
-abbrev new : List ℕ → Floo.Machine → Floo.Machine
-new bs μ = push (string (made μ)) (make (text bs) μ)
-
--- The zeros of a new string.
-abbrev blank : ℕ → Floo.Machine → Floo.Machine
-blank n μ = stringMade 0 n (push null μ)
-
-blank-object : (n : ℕ) (μ : Floo.Machine) → object (blank n μ) (made μ) ≡ text (replicate n 0)
-unfolding object stringMade push made make withStack withStore
-blank-object n μ = getD-append-seam (μ .store) (text (replicate n 0)) [] (elements [])
-
-filled-new : (bs : List ℕ) (μ : Floo.Machine) → bytesFilled 0 bs (blank (length bs) μ) ≡ new bs μ
-unfolding bytesFilled stringMade itemId named push made make change object withStack withStore bytesOf
-filled-new bs μ =
-    let zeros : List ℕ = replicate (length bs) 0 in
-    let none : drop (length bs) zeros ≡ [] = drop-of-length-le zeros {i = length bs} (omega (arith, length-replicate {A = ℕ} (length bs) 0)) in
-    let store = μ .store in
-    ap (λ o. withStack (string (length store) ∷ μ .stack) (withStore (set (store ++ (text zeros ∷ [])) (length store) (text (bs ++ drop (length bs) (bytesOf o)))) μ))
-    (getD-append-seam store (text zeros) [] (elements []))
-    ∙ ap (λ r. withStack (string (length store) ∷ μ .stack) (withStore (set (store ++ (text zeros ∷ [])) (length store) (text (bs ++ r))) μ)) none
-    ∙ ap (λ b. withStack (string (length store) ∷ μ .stack) (withStore (set (store ++ (text zeros ∷ [])) (length store) (text b)) μ)) (append-nil bs)
-    ∙ ap (λ o. withStack (string (length store) ∷ μ .stack) (withStore o μ)) (set-append-seam store (text zeros) [] (text bs))
 
 -- ---- what is asked of it
 

@@ -1,4 +1,6 @@
-//! The exported functions of `libfloo_c.a`, as `include/floo.h` has them: the one place here that is not safe Rust.
+//! The exported functions of `libfloo_c.a` and `libfloor_c.a`, as `include/floo.h` and `include/floor.h` have them: the one place here that is not safe Rust.
+
+use crate::floor::Record;
 
 /// The number of the refusal, or 0 and what the run came to.
 #[repr(C)]
@@ -22,6 +24,19 @@ pub struct TokenReply {
     pub size: usize,
 }
 
+/// The number of the answer, that of the refusal or 0, what the run came to, and the book's count and the record's place in it.
+#[repr(C)]
+#[derive(Clone, Copy, Debug, PartialEq, Eq)]
+pub struct ScanReply {
+    pub answer: u32,
+    pub refused: u32,
+    pub steps: u32,
+    pub log: usize,
+    pub outcome: usize,
+    pub count: usize,
+    pub at: usize,
+}
+
 extern "C" {
     fn floo_run(
         script: *const u8,
@@ -42,6 +57,29 @@ extern "C" {
     ) -> Reply;
 
     fn floo_token(script: *const u8, script_bytes: usize, offset: usize) -> TokenReply;
+
+    fn floor_scan(
+        script: *const u8,
+        script_bytes: usize,
+        fuel: u32,
+        label: *const u8,
+        label_bytes: usize,
+        stack: *mut u32,
+        stack_words: usize,
+        execution: *mut u32,
+        execution_words: usize,
+        dictionary: *mut u32,
+        dictionary_words: usize,
+        cells: *mut u32,
+        cell_words: usize,
+        log: *mut u8,
+        log_bytes: usize,
+        outcome: *mut u8,
+        outcome_bytes: usize,
+        book: *mut Record,
+        records: usize,
+        count: usize,
+    ) -> ScanReply;
 }
 
 /// Runs a script in buffers that the caller lends: 2 words for a stack slot, 8 for an execution slot, 12 for a dictionary slot, 4 for a cell, and an outcome of at
@@ -76,6 +114,49 @@ pub fn run(
             log.len(),
             outcome.as_mut_ptr(),
             outcome.len(),
+        )
+    }
+}
+
+/// Runs a script with a label in buffers that the caller lends, those of [`run`], and enters what it leaves in a book: the first `count` of the lent records.
+/// Any lengths may be lent, any records and any count.
+#[allow(unsafe_code, clippy::too_many_arguments)]
+pub fn scan(
+    script: &[u8],
+    fuel: u32,
+    label: &[u8],
+    stack: &mut [u32],
+    execution: &mut [u32],
+    dictionary: &mut [u32],
+    cells: &mut [u32],
+    log: &mut [u8],
+    outcome: &mut [u8],
+    book: &mut [Record],
+    count: usize,
+) -> ScanReply {
+    // SAFETY: as for `run`; a record is laid out as C has it, and every one that C can write is a `Record`.
+    unsafe {
+        floor_scan(
+            script.as_ptr(),
+            script.len(),
+            fuel,
+            label.as_ptr(),
+            label.len(),
+            stack.as_mut_ptr(),
+            stack.len(),
+            execution.as_mut_ptr(),
+            execution.len(),
+            dictionary.as_mut_ptr(),
+            dictionary.len(),
+            cells.as_mut_ptr(),
+            cells.len(),
+            log.as_mut_ptr(),
+            log.len(),
+            outcome.as_mut_ptr(),
+            outcome.len(),
+            book.as_mut_ptr(),
+            book.len(),
+            count,
         )
     }
 }

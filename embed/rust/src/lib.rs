@@ -1,4 +1,4 @@
-//! Runs Floo 0.5 scripts by the proved runner of this repository, and reads their tokens.
+//! Runs Floo 0.5 scripts by the proved runner of this repository, and reads their tokens; [`floor`] is the rule for late scans on top of it.
 //!
 //! A [`Runner`] owns the room for runs and can be used for one script after another; a run neither allocates nor depends on
 //! the runs before it.
@@ -24,11 +24,13 @@
 #![deny(unsafe_code)]
 
 mod exported;
+pub mod floor;
 mod refusal;
 mod report;
 mod token;
 
-pub use exported::{run as run_lent, token as token_reply, Reply, TokenReply};
+pub use exported::{run as run_lent, scan as scan_lent, token as token_reply};
+pub use exported::{Reply, ScanReply, TokenReply};
 pub use refusal::Refusal;
 pub use report::Report;
 pub use token::{token, Kind, Token, TokenError};
@@ -77,8 +79,8 @@ pub struct Runner {
 }
 
 impl Runner {
-    /// Room of these sizes. Sizes outside the limits are allowed here, and refused by [`Runner::run`]; no more is allocated for them
-    /// than that takes.
+    /// Room of these sizes. Sizes outside the limits are allowed here, and refused by [`Runner::run`] and [`Runner::scan`]; no more is allocated for
+    /// them than that takes.
     pub fn new(sizes: Sizes) -> Self {
         let stack = sizes.stack.min(257);
         Runner {
@@ -104,12 +106,13 @@ impl Runner {
             &mut self.outcome,
         );
         match reply.refused {
-            0 => Ok(Report::new(
-                reply.steps,
-                &self.log[..reply.log],
-                &self.outcome[..reply.outcome],
-            )),
+            0 => Ok(self.report(reply.steps, reply.log, reply.outcome)),
             number => Err(Refusal::from_number(number).expect("refusals have the numbers 1 to 9")),
         }
+    }
+
+    /// What the last run came to, by its reply's numbers.
+    fn report(&self, steps: u32, log: usize, outcome: usize) -> Report<'_> {
+        Report::new(steps, &self.log[..log], &self.outcome[..outcome])
     }
 }

@@ -7,7 +7,7 @@ mod scripts;
 use std::collections::BTreeSet;
 
 use floo_reference::value::{Object, ObjectId, Value};
-use floo_reference::{printed, read_token, run, Answer, Ending, Machine, Sizes, TokenAnswer};
+use floo_reference::{printed, read_token, run, Answer, Ending, Machine, Ran, Sizes, TokenAnswer};
 use random::Random;
 
 const ROUNDS: usize = 30_000;
@@ -83,12 +83,12 @@ fn allowed_sizes(random: &mut Random) -> Sizes {
 fn check_run(script: &[u8], fuel: u64, sizes: &Sizes) -> u64 {
     let answer = run(script, fuel, sizes);
     let output = answer.printed();
-    let Answer::Run {
+    let Answer::Run(Ran {
         log,
         outcome,
         ending,
         mut machine,
-    } = answer
+    }) = answer
     else {
         panic!("allowed sizes were refused");
     };
@@ -100,9 +100,9 @@ fn check_run(script: &[u8], fuel: u64, sizes: &Sizes) -> u64 {
     // Fuel does nothing but end the run.
     assert_eq!(printed(script, steps, sizes), output);
     if steps > 0 {
-        let Answer::Run {
+        let Answer::Run(Ran {
             ending, machine, ..
-        } = run(script, steps - 1, sizes)
+        }) = run(script, steps - 1, sizes)
         else {
             panic!("less fuel was refused");
         };

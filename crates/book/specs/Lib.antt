@@ -1,0 +1,6 @@
+pub mod Books
+pub mod Fates
+pub mod SearchLaws
+pub mod SoundLaws
+pub mod BookLaws
+pub mod Examples

@@ -1,0 +1,3 @@
+pub mod Floor
+pub mod Promise
+pub mod Examples
