@@ -36,6 +36,8 @@ pub struct Tally {
     pub circled: usize,
     /// Runs in which the least number is written into the log, into a string, and into the outcome.
     pub least: [usize; 3],
+    /// Runs in which a `for` ends on a number above 32 bits, and on one below.
+    pub loops_past: [usize; 2],
     pub readings: Readings,
     pub scans: Scans,
 }
@@ -96,6 +98,9 @@ fn compare_run(script: &[u8], random: &mut Random, tally: &mut Tally) -> Result<
             tally.circled += shown.circled;
             let in_string = |object: &Object| matches!(object, Object::String(bytes) if has_least(bytes));
             let least = [has_least(&log), machine.store.iter().any(in_string), has_least(&outcome)];
+            for (count, loops) in tally.loops_past.iter_mut().zip(machine.loops_past) {
+                *count += usize::from(loops > 0);
+            }
             for (count, met) in tally.least.iter_mut().zip(least) {
                 *count += usize::from(met);
             }

@@ -17,6 +17,8 @@ fn main() -> ExitCode {
                 tally.scripts, tally.refused, tally.steps, tally.objects, tally.circled
             );
             let [log, string, outcome] = tally.least;
+            let [above, below] = tally.loops_past;
+            println!("{above} runs with a loop that ends above 32 bits, {below} with one that ends below");
             println!("the least number written into {log} logs, by {string} runs into strings, into {outcome} outcomes");
             let read = tally.readings;
             let [integers, strings, literal, executable, open, close, ends] = read.kinds;

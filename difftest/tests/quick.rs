@@ -10,6 +10,7 @@ fn runs_readings_and_scans_agree_with_the_reference() {
     assert!(tally.objects > 10_000, "{} objects", tally.objects);
     assert!(tally.circled > 500, "{} in circles alone", tally.circled);
     assert!(tally.least.iter().all(|&count| count > 100), "{:?} with the least number in log, string, outcome", tally.least);
+    assert!(tally.loops_past.iter().all(|&count| count > 100), "{:?} runs with a loop that ends above and below 32 bits", tally.loops_past);
     let scans = &tally.scans;
     assert_eq!(scans.total(), 5_000);
     let [refused, malformed, too_long, no_slot, no_cells, not_finished, bad_stack, late, no_room, replaced, added] = scans.answers;

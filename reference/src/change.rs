@@ -39,6 +39,8 @@ pub struct Change {
     pub binding: Option<(NameId, Value)>,
     pub text: Vec<u8>,
     pub stops: bool,
+    /// The number on which a `for` ends, if one does.
+    pub loop_end: Option<i64>,
 }
 
 impl Change {
@@ -58,6 +60,7 @@ impl Change {
             binding: None,
             text: Vec::new(),
             stops: false,
+            loop_end: None,
         }
     }
 
@@ -135,6 +138,10 @@ impl Change {
             machine.dictionary[name].binding = Some(value);
         }
         machine.log.extend(self.text);
+        if let Some(end) = self.loop_end {
+            machine.loops_past[0] += usize::from(end > i64::from(i32::MAX));
+            machine.loops_past[1] += usize::from(end < i64::from(i32::MIN));
+        }
     }
 }
 

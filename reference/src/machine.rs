@@ -26,8 +26,9 @@ pub enum Frame {
 pub enum Repetition {
     Forever,
     Times(i32),
+    /// The number may have left 32 bits: "the next number is the ordinary sum" (02, W6).
     For {
-        number: i32,
+        number: i64,
         increment: i32,
         last: i32,
     },
@@ -57,6 +58,8 @@ pub struct Machine {
     pub steps: u64,
     pub sizes: Sizes,
     pub room: Room,
+    /// How many `for` loops ended on a number above 32 bits, and on one below.
+    pub loops_past: [usize; 2],
 }
 
 impl Machine {
@@ -73,6 +76,7 @@ impl Machine {
             steps: 0,
             sizes: *sizes,
             room: Room::default(),
+            loops_past: [0; 2],
         }
     }
 

@@ -122,7 +122,7 @@ fn execute_name(machine: &Machine, name: NameId, change: &mut Change) -> Result<
 }
 
 /// What is left of a loop after one more repetition, or nothing if it is finished. Pushes the
-/// number of a `for`, which "holds the wrapped sum as its next number".
+/// number of a `for`; its next is "the ordinary sum, outside 32 bits if need be" (02, W6).
 fn repeat(repetition: Repetition, change: &mut Change) -> Option<Repetition> {
     match repetition {
         Repetition::Forever => Some(repetition),
@@ -133,16 +133,18 @@ fn repeat(repetition: Repetition, change: &mut Change) -> Option<Repetition> {
             last,
         } => {
             let ended = if increment >= 0 {
-                number > last
+                number > last.into()
             } else {
-                number < last
+                number < last.into()
             };
             if ended {
+                change.loop_end = Some(number);
                 return None;
             }
-            change.push(Value::Integer(number));
+            // between the first number and the last one, so that it has 32 bits
+            change.push(Value::Integer(number as i32));
             Some(Repetition::For {
-                number: number.wrapping_add(increment),
+                number: number + i64::from(increment),
                 increment,
                 last,
             })

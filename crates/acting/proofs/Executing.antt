@@ -23,7 +23,7 @@ use Rattle.store.specs.Rep.{titles, element, objectAt}
 use Rattle.store.proofs.Standing.{is-operator, is-executable}
 use Rattle.machine.specs.Words.{frameKind, frameTag, framePayload, frameCell, frameLeft}
 use Rattle.machine.specs.Places.{keys}
-use Rattle.machine.specs.Rep.{Rep, IsIn, Answer, FrameIs, a-pending, a-running, a-looping, a-repeating, a-counting}
+use Rattle.machine.specs.Rep.{Rep, IsIn, Answer, FrameIs, a-pending, a-running, a-looping, a-repeating, a-counting, a-past}
 use Rattle.machine.specs.Room.{lent, fitted}
 use Rattle.machine.specs.declared.Machine.{Machine}
 use Rattle.machine.specs.declared.Did.{Did}
@@ -338,26 +338,3 @@ pub binding-all : {f : Floo.Machine → Result Floo.Machine} {m : Machine} {e e�
     → DoesAll f m s s e e′ d d c c′ l l r
 binding-all (Fail x) D s l = record { does = λ μ R. let a = D .does s l μ R in (a .0, (refl, a .1 .0, refl, a .1 .1, refl)); rest = log-same l (Fail x) }
 binding-all (Ok m′) D s l = record { does = λ μ R. D .does s l μ R; rest = log-same l (Ok m′) }
-
--- ---- kinds
-
--- A kind from 2 on that is neither 2 nor 3 is 4.
-pub for-kind : {m : Machine} {s e d c l : List ℕ} {μ : Floo.Machine} → Rep m s e d c l μ
-    → 1 ≤ m .frames
-    → 2 ≤ frameKind e (m .frames - 1)
-    → (frameKind e (m .frames - 1) ≡ 2 → ⊥)
-    → (frameKind e (m .frames - 1) ≡ 3 → ⊥)
-    → frameKind e (m .frames - 1) ≡ 4
-for-kind {m} R slots low two three = by (slot R (m .frames - 1) (omega (arith, slots)) .words) low two three
-  where
-    by : {A : Value → ℕ → ℕ → Type 0} {g : Ghost} {store : List Object} {f : Frame} {kind t p a b c : ℕ}
-        → FrameIs A g store f kind t p a b c
-        → 2 ≤ kind
-        → (kind ≡ 2 → ⊥)
-        → (kind ≡ 3 → ⊥)
-        → kind ≡ 4
-    by (a-pending h) l x y = absurd (omega arith)
-    by (a-running h u v) l x y = absurd (omega arith)
-    by (a-looping h) l x y = absurd (x refl)
-    by (a-repeating h) l x y = absurd (y refl)
-    by (a-counting h) l x y = refl

@@ -5,6 +5,7 @@ use mathlib.Core.Bool.{Bool, true, false}
 use mathlib.Core.List.{List, []}
 use Prim.Native.Nat.{ℕ, zero, suc, _-_, _≤_}
 use native.Mathlib.Omega.{arith}
+use lib.IntN.{ℤ}
 use Rattle.semantics.specs.Words.{signed}
 use Rattle.semantics.specs.Values.{Value, Object, null}
 use Rattle.semantics.specs.Machine as Floo
@@ -16,7 +17,7 @@ use Rattle.heap.specs.Shape.{Ghost}
 use Rattle.store.specs.Rep.{objectAt, element, Stands}
 use Rattle.machine.specs.Words.{frameKind, frameTag, framePayload, frameCell, frameLeft}
 use Rattle.machine.specs.Places.{keys, texts}
-use Rattle.machine.specs.Rep.{Rep, IsIn, FrameIs, a-pending, a-running, a-looping, a-repeating, a-counting}
+use Rattle.machine.specs.Rep.{Rep, IsIn, FrameIs, a-pending, a-running, a-looping, a-repeating, a-counting, a-past}
 use Rattle.machine.specs.declared.Machine.{Machine}
 use Rattle.machine.specs.FrameMoves.{topFrame, frameDropped}
 use Rattle.machine.proofs.Tops.{slot}
@@ -35,10 +36,10 @@ unfolding resume silent
 repeat-silent zero v μ = refl
 repeat-silent (suc n) v μ = refl
 
-for-silent : (n i f : ℕ) (v : Value) (μ : Floo.Machine) (b : Bool) → beyond (signed n) (signed i) (signed f) ≡ b → resume (counting n i f v) μ .command ≡ []
+for-silent : (z : ℤ) (i f : ℕ) (v : Value) (μ : Floo.Machine) (b : Bool) → beyond z (signed i) (signed f) ≡ b → resume (counting z i f v) μ .command ≡ []
 unfolding resume silent
-for-silent n i f v μ true q = rw (q, resume) refl
-for-silent n i f v μ false q = rw (q, resume) refl
+for-silent z i f v μ true q = rw (q, resume) refl
+for-silent z i f v μ false q = rw (q, resume) refl
 
 loop-silent : {A : Value → ℕ → ℕ → Type 0} {g : Ghost} {store : List Object} {f : Frame} {kind t p a b c : ℕ} (μ : Floo.Machine)
     → FrameIs A g store f kind t p a b c
@@ -50,7 +51,8 @@ loop-silent μ (a-pending h) x y = absurd (x refl)
 loop-silent μ (a-running h s n) x y = absurd (y refl)
 loop-silent μ (a-looping h) x y = refl
 loop-silent μ (a-repeating {v = v} {n = n} h) x y = repeat-silent n v μ
-loop-silent μ (a-counting {v = v} {n = n} {i = i} {f = f} h) x y = for-silent n i f v μ (beyond (signed n) (signed i) (signed f)) refl
+loop-silent μ (a-counting {v = v} {z = z} {i = i} {f = f} h e) x y = for-silent z i f v μ (beyond z (signed i) (signed f)) refl
+loop-silent μ (a-past {v = v} {z = z} {i = i} {f = f} h e o b) x y = for-silent z i f v μ true b
 
 -- ---- the topmost slot
 

@@ -7,6 +7,7 @@ use native.Mathlib.Omega.{arith}
 use lib.ListN.{length, getD, drop}
 use Rattle.semantics.specs.Text.{bytes}
 use Rattle.semantics.specs.Values.{Value, integer, null, Result, ok, fault, _>>=_, int}
+use Rattle.semantics.specs.Words.{signed}
 use Rattle.semantics.specs.Machine as Floo
 use Rattle.semantics.specs.Machine.{Frame, repeating, counting, withStack, withExec, enter}
 use Rattle.semantics.specs.ListLaws.{All, nil}
@@ -182,16 +183,15 @@ module _ {m : Machine} {s e d c l : List ℕ} {μ : Floo.Machine} (R : Rep m s e
           numbered =
               four ∙ rw (is-integer (first .words .stands) i, is-integer (second .words .stands) j, is-integer (third .words .stands) q) refl
 
-          pub for-into : itemPayload s x < 2 ^ 32
-              → itemPayload s y < 2 ^ 32
+          pub for-into : itemPayload s y < 2 ^ 32
               → itemPayload s z < 2 ^ 32
-              → Into (perform (bytes "for")) (counting (itemPayload s x) (itemPayload s y) (itemPayload s z))
+              → Into (perform (bytes "for")) (counting (signed (itemPayload s x)) (itemPayload s y) (itemPayload s z))
               (integer (itemPayload s z) ∷ integer (itemPayload s y) ∷ integer (itemPayload s x) ∷ []) μ
           unfolding for _>>=_ int
-          for-into a b g =
+          for-into b g =
               record {
                 value = last .value;
                 rest = first .rest;
                 split = numbered;
-                gives = for-is μ ∙ rw (pop4-some μ numbered, word-signed (itemPayload s x) a, word-signed (itemPayload s y) b, word-signed (itemPayload s z) g) refl;
+                gives = for-is μ ∙ rw (pop4-some μ numbered, word-signed (itemPayload s y) b, word-signed (itemPayload s z) g) refl;
               }

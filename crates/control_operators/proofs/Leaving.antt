@@ -19,7 +19,7 @@ use Rattle.store.specs.Rep.{Names}
 use Rattle.store.proofs.Rooting.{rep-alike}
 use Rattle.machine.specs.Words.{frameKind}
 use Rattle.machine.specs.Places.{rootIn, roots}
-use Rattle.machine.specs.Rep.{Rep, FrameIs, a-pending, a-running, a-looping, a-repeating, a-counting, Frames, frame}
+use Rattle.machine.specs.Rep.{Rep, FrameIs, a-pending, a-running, a-looping, a-repeating, a-counting, a-past, Frames, frame}
 use Rattle.machine.specs.Room.{lent, fitted}
 use Rattle.machine.specs.declared.Machine.{Machine}
 use Rattle.machine.specs.declared.Did.{Did}
@@ -104,7 +104,8 @@ module _ {A : Value → ℕ → ℕ → Type 0} {g : Ghost} {store : List Object
   passed-by (a-running h q o) l fs = refl
   passed-by (a-looping h) l fs = absurd (omega arith)
   passed-by (a-repeating h) l fs = absurd (omega arith)
-  passed-by (a-counting h) l fs = absurd (omega arith)
+  passed-by (a-counting h e) l fs = absurd (omega arith)
+  passed-by (a-past h e o b) l fs = absurd (omega arith)
 
   met : {f : Frame} {w t p a b c : ℕ} → FrameIs A g store f w t p a b c → 2 ≤ w → (fs : List Frame) → fromLoop (f ∷ fs) ≡ f ∷ fs
   unfolding fromLoop
@@ -112,7 +113,8 @@ module _ {A : Value → ℕ → ℕ → Type 0} {g : Ghost} {store : List Object
   met (a-running h q o) l fs = absurd (omega arith)
   met (a-looping h) l fs = refl
   met (a-repeating h) l fs = refl
-  met (a-counting h) l fs = refl
+  met (a-counting h e) l fs = refl
+  met (a-past h e o b) l fs = refl
 
   at : {e : List ℕ} {n : ℕ} {fs : List Frame} → Frames A g store e n fs → (j k : ℕ) → n ≡ j + suc k → At A g store e fs j k
   at Frames.bottom j k q = absurd (omega arith)

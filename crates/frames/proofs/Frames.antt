@@ -30,7 +30,7 @@ module _ {A : Value → ℕ → ℕ → Type 0} {g : Ghost} {store : List Object
   shaped Moves.a-pending h = a-pending h
   shaped Moves.a-loop h = a-looping h
   shaped Moves.a-repeat h = a-repeating h
-  shaped Moves.a-for h = a-counting h
+  shaped Moves.a-for h = a-counting h refl
 
 pub shaped-value : {f : Value → Frame} {kind a b c : ℕ} → Shaped f kind a b c → (v : Value) → frameValue (f v) ≡ v
 shaped-value Moves.a-pending v = refl

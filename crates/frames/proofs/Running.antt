@@ -19,7 +19,7 @@ use Rattle.store.proofs.Sorts.{array-length, procedure-tag}
 use Rattle.store.proofs.Standing.{stands-names}
 use Rattle.machine.specs.Words.{frameKind, frameTag, framePayload, frameCell, frameLeft, frameFinal}
 use Rattle.machine.specs.Places.{frameValue, keys, texts}
-use Rattle.machine.specs.Rep.{Rep, IsIn, FrameIs, a-pending, a-running, a-looping, a-repeating, a-counting}
+use Rattle.machine.specs.Rep.{Rep, IsIn, FrameIs, a-pending, a-running, a-looping, a-repeating, a-counting, a-past}
 use Rattle.machine.specs.declared.Machine.{Machine}
 use Rattle.machine.specs.Recount.{Placed, Recounts}
 use Rattle.machine.proofs.Copying.{push-placed, push-rep}
@@ -51,7 +51,8 @@ module _ {A : Value → ℕ → ℕ → Type 0} {g : Ghost} {store : List Object
   kind-runs q (a-running {i = i} {k = k} h s n) = (i, k, refl)
   kind-runs q (a-looping h) = absurd (omega (arith, q))
   kind-runs q (a-repeating h) = absurd (omega (arith, q))
-  kind-runs q (a-counting h) = absurd (omega (arith, q))
+  kind-runs q (a-counting h e) = absurd (omega (arith, q))
+  kind-runs q (a-past h e o b) = absurd (omega (arith, q))
 
 module _ {m : Machine} {st e d c l : List ℕ} {μ : Floo.Machine} (R : Rep m st e d c l μ) (k : ℕ) (h : m .frames ≡ suc k) where
   abbrev tag : ℕ

@@ -7,6 +7,7 @@ use lib.ListN.{getD, drop, set}
 use mathlib.Core.Bool.{true}
 use Rattle.semantics.specs.Values.{Value, null, array}
 use Rattle.store.specs.Rep.{element}
+use Rattle.semantics.specs.Words.{signed}
 use Rattle.semantics.specs.Machine as Floo
 use Rattle.semantics.specs.Machine.{Frame, pending, running, looping, repeating, counting, withStack, withExec, push, enter}
 use Rattle.machine.specs.Words.{frameTag, framePayload, frameFinal}
@@ -20,7 +21,7 @@ pub data Shaped : (Value → Frame) → ℕ → ℕ → ℕ → ℕ → Type 0 w
   a-pending : {a b c : ℕ} → Shaped pending 0 a b c
   a-loop : {a b c : ℕ} → Shaped looping 2 a b c
   a-repeat : {n b c : ℕ} → Shaped (repeating n) 3 n b c
-  a-for : {n i f : ℕ} → Shaped (counting n i f) 4 n i f
+  a-for : {n i f : ℕ} → Shaped (counting (signed n) i f) 4 n i f
 
 -- The topmost item of the stack goes into a new execution slot.
 unfoldable pub entered : (Value → Frame) → Floo.Machine → Floo.Machine

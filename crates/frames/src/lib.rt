@@ -28,6 +28,9 @@ pub const REPEAT: u32 = 3;
 
 pub const FOR: u32 = 4;
 
+// A `for` whose next number has left 32 bits, and which is over.
+pub const PAST: u32 = 5;
+
 // The topmost item becomes pending.
 pub fn pend_top(m: Machine, stack: &[u32], exec: &mut [u32]) -> Machine
     requires { ⌜ (1 ≤ m .depth) × (2 * m .depth ≤ length (now stack)) × (8 * m .frames + 8 ≤ length (now exec)) ⌝ }

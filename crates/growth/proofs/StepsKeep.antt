@@ -6,7 +6,7 @@ use mathlib.Core.List.{List, [], _∷_}
 use mathlib.Core.Option.{Option, none, some}
 use Prim.Native.Nat.{ℕ, zero, suc, _≤_}
 use lib.ListN.{length, getElem?}
-use Rattle.semantics.specs.Words.{signed}
+use Rattle.semantics.specs.Words.{signed, word}
 use Rattle.semantics.specs.Values.{Result, ok, Value, integer, boolean, null, mark, operator, name, string, array, Object, elements, text}
 use Rattle.semantics.specs.Tokens.{Token}
 use Rattle.semantics.specs.Machine.{Machine, Frame, pending, running, looping, repeating, counting, withStack, withExec, withDictionary, withStore, push, enter, object, elementsOf, make, made, change, intern}
@@ -178,8 +178,8 @@ module _ (Known : Type 0) (base : ℕ) (P : Machine → Type 0) where
   resume-keeps (repeating (suc n) b) m s h =
       gives (entered (entered h (λ q. record { held = s q .held })) (λ q. record { held = s q .held }))
   resume-keeps (counting n i f b) m s h =
-      choose FitMove (beyond (signed n) (signed i) (signed f)) (silent (ok m))
-      (silent (ok (enter (pending b) (enter (counting (following n i) i f b) (push (integer n) m)))))
+      choose FitMove (beyond n (signed i) (signed f)) (silent (ok m))
+      (silent (ok (enter (pending b) (enter (counting (following n i) i f b) (push (integer (word n)) m)))))
       (λ t. gives h)
       (λ t. gives (entered (entered (pushed h (plain refl)) (λ q. record { held = s q .held })) (λ q. record { held = s q .held })))
 

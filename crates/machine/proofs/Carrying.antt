@@ -16,7 +16,7 @@ use Rattle.store.specs.Rep as Store
 use Rattle.store.specs.Rep.{Names}
 use Rattle.machine.specs.Places.{fromEnd, frameValue, bound, bindingAt}
 use Rattle.machine.specs.Rep as Words
-use Rattle.machine.specs.Rep.{Items, item, FrameIs, a-pending, a-running, a-looping, a-repeating, a-counting, Frames, frame, Bound, unbound, Slots, end, slot}
+use Rattle.machine.specs.Rep.{Items, item, FrameIs, a-pending, a-running, a-looping, a-repeating, a-counting, a-past, Frames, frame, Bound, unbound, Slots, end, slot}
 use Rattle.machine.proofs.Naming.{past-end}
 
 -- What a value names has the property.
@@ -68,7 +68,8 @@ module _ {A B : Value → ℕ → ℕ → Type 0} {Q : ℕ → Type 0} (f : (v :
         a-running (f _ _ _ q h) (s ∙ sym (long i t p h)) (λ r e. stays i t p a r q h (l r e))
     frame-map q (a-looping h) = a-looping (f _ _ _ q h)
     frame-map q (a-repeating h) = a-repeating (f _ _ _ q h)
-    frame-map q (a-counting h) = a-counting (f _ _ _ q h)
+    frame-map q (a-counting h e) = a-counting (f _ _ _ q h) e
+    frame-map q (a-past h e o b) = a-past (f _ _ _ q h) e o b
 
     pub frames-map : {words : List ℕ} {n : ℕ} {fs : List Frame} → All (λ fr. Reached Q (frameValue fr)) fs → Frames A g store words n fs → Frames B g′ store′ words n fs
     frames-map nil Frames.bottom = Frames.bottom

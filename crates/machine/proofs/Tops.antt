@@ -14,7 +14,7 @@ use Rattle.heap.specs.Upd.{upd}
 use Rattle.heap.specs.declared.Lists.{Lists}
 use Rattle.machine.specs.Words.{itemTag, itemPayload, frameKind, frameTag, framePayload, frameCell, frameLeft, frameFinal}
 use Rattle.machine.specs.Places.{fromEnd, frameValue, roots}
-use Rattle.machine.specs.Rep.{Rep, IsIn, Items, item, FrameIs, a-pending, a-running, a-looping, a-repeating, a-counting, Frames, frame}
+use Rattle.machine.specs.Rep.{Rep, IsIn, Items, item, FrameIs, a-pending, a-running, a-looping, a-repeating, a-counting, a-past, Frames, frame}
 use Rattle.machine.specs.Recount.{Placed, Recounts}
 use Rattle.machine.specs.declared.Machine.{Machine}
 use Rattle.machine.proofs.Dropping.{nothing}
@@ -48,7 +48,8 @@ module _ {A : Value → ℕ → ℕ → Type 0} {g : Ghost} {store : List Object
   frame-value (a-running h s l) = h
   frame-value (a-looping h) = h
   frame-value (a-repeating h) = h
-  frame-value (a-counting h) = h
+  frame-value (a-counting h e) = h
+  frame-value (a-past h e o b) = h
 
 module _ {m : Machine} {st e d c l : List ℕ} {μ : Floo.Machine} (R : Rep m st e d c l μ) (k : ℕ) (h : m .frames ≡ suc k) where
   pub slot : TopFrame (IsIn (R .world) μ) (R .world .ghost) (μ .store) e k (μ .exec)

@@ -1,16 +1,18 @@
 -- How the lent words and the small state stand for a machine of the definition.
 -- Assumes nothing.
 use mathlib.Core.Path.{_≡_}
-use mathlib.Core.Bool.{Bool}
-use mathlib.Core.Bool.{true}
+use mathlib.Core.Bool.{Bool, true, false}
 use mathlib.Core.List.{List, [], _∷_}
 use mathlib.Core.Option.{Option, none, some}
 use Prim.Native.Nat.{ℕ, suc, _+_, _*_, _/_, _%_, _≤_, _<_}
+use lib.IntN.{ℤ}
 use lib.ListN.{length, getD, take}
 use Rattle.semantics.specs.Sizes.{operatorCount, nameMost, stackWidth, execWidth, dictionaryWidth, stackWordsMost, execWordsMost, dictionaryWordsMost}
+use Rattle.semantics.specs.Words.{signed, word, inRange}
 use Rattle.semantics.specs.Values.{Value, array, Object, Result, ok, fault}
 use Rattle.semantics.specs.Machine as Floo
 use Rattle.semantics.specs.Machine.{Frame, pending, running, looping, repeating, counting, Slot, elementsOf}
+use Rattle.semantics.specs.Steps.{beyond}
 use Rattle.heap.specs.Chain.{on}
 use Rattle.heap.specs.Shape.{Ghost, Full, NoOut, cells}
 use Rattle.heap.specs.Assign.{Alives}
@@ -32,7 +34,7 @@ pub data Items (IsValue : Value → ℕ → ℕ → Type 0) (words : List ℕ) :
       → Items IsValue words (suc n) (v ∷ s)
 
 -- The words of an execution slot: kind, the value's two, and three numbers. Of a running procedure these are the cell of its next element, if
--- any is left, and how many are left.
+-- any is left, and how many are left. A `for` whose next number has left 32 bits is over, and has a kind of its own.
 pub data FrameIs (IsValue : Value → ℕ → ℕ → Type 0) (g : Ghost) (store : List Object) : Frame → ℕ → ℕ → ℕ → ℕ → ℕ → ℕ → Type 0 where
   a-pending : {v : Value} {t p a b c : ℕ} → IsValue v t p → FrameIs IsValue g store (pending v) 0 t p a b c
   a-running : {i k t p a b c : ℕ}
@@ -42,7 +44,13 @@ pub data FrameIs (IsValue : Value → ℕ → ℕ → Type 0) (g : Ghost) (store
       → FrameIs IsValue g store (running i k) 1 t p a b c
   a-looping : {v : Value} {t p a b c : ℕ} → IsValue v t p → FrameIs IsValue g store (looping v) 2 t p a b c
   a-repeating : {v : Value} {n t p b c : ℕ} → IsValue v t p → FrameIs IsValue g store (repeating n v) 3 t p n b c
-  a-counting : {v : Value} {n i f t p : ℕ} → IsValue v t p → FrameIs IsValue g store (counting n i f v) 4 t p n i f
+  a-counting : {v : Value} {z : ℤ} {n i f t p : ℕ} → IsValue v t p → z ≡ signed n → FrameIs IsValue g store (counting z i f v) 4 t p n i f
+  a-past : {v : Value} {z : ℤ} {n i f t p : ℕ}
+      → IsValue v t p
+      → word z ≡ n
+      → inRange z ≡ false
+      → beyond z (signed i) (signed f) ≡ true
+      → FrameIs IsValue g store (counting z i f v) 5 t p n i f
 
 -- The words of the execution slots, the topmost first.
 pub data Frames (IsValue : Value → ℕ → ℕ → Type 0) (g : Ghost) (store : List Object) (words : List ℕ) : ℕ → List Frame → Type 0 where

@@ -96,7 +96,7 @@ for m = do
   initial ← int x
   increment ← int y
   final ← int z
-  ok (enter (counting (word initial) (word increment) (word final) b) τ)
+  ok (enter (counting initial (word increment) (word final) b) τ)
 
 -- The execution stack from its innermost loop down; empty where there is none.
 unfoldable pub fromLoop : List Frame → List Frame

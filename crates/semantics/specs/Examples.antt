@@ -61,6 +61,10 @@ cases =
     ∷ (whole 4 1000 "#FLOO\n[1 2 3] [4]" gives "ending=error\nerror=VMerror\ncommand=]\nat=16\nsteps=12\ndepth=3\nheld=4\nlog=0\nitem=array:3\nitem=mark\nitem=integer:4\n")
     ∷ (whole 4096 1000 "#FLOO\n/a 1 array def a 0 a put /a 0 def" gives "ending=finished\nerror=none\ncommand=\nat=39\nsteps=17\ndepth=0\nheld=2\nlog=0\n")
     ∷ (whole 4096 1000000 "#FLOO\n5 /two 2 def two add echo 7\n" gives "7\nending=finished\nerror=none\ncommand=\nat=34\nsteps=12\ndepth=1\nheld=0\nlog=2\nitem=integer:7\n")
+    ∷ (whole 4096 1000 "#FLOO\n2147483646 1 2147483647 { pop } for" gives "ending=finished\nerror=none\ncommand=\nat=41\nsteps=17\ndepth=0\nheld=0\nlog=0\n")
+    ∷ (left "-2147483647 -1 -2147483648 { } for" gives "integer:-2147483647 integer:-2147483648")
+    ∷ (left "0 2147483647 2147483647 { } for" gives "integer:0 integer:2147483647")
+    ∷ (left "-2147483648 2147483647 2147483647 { } for" gives "integer:-2147483648 integer:-1 integer:2147483646")
     ∷ []
 
 -- Each case's text is what is expected of it.
@@ -70,7 +74,7 @@ Hold (c ∷ cs) = (c .computed ≡ c .expected) × Hold cs
 
 checked : Hold cases
 unfolding textual words values tokens machinery printing operators holding grouping stepping outcomes settings lent _gives_ whole itemsOf left cases
-checked = (refl, (refl, (refl, (refl, (refl, (refl, (refl, (refl, (refl, (refl, (refl, (refl, (refl, (refl, tt))))))))))))))
+checked = (refl, (refl, (refl, (refl, (refl, (refl, (refl, (refl, (refl, (refl, (refl, (refl, (refl, (refl, (refl, (refl, (refl, (refl, tt))))))))))))))))))
 
 -- ---- setup and the token reading
 

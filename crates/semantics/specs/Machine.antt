@@ -4,6 +4,7 @@ use mathlib.Core.Bool.{Bool, true, false}
 use mathlib.Core.List.{List, [], _∷_, _++_}
 use mathlib.Core.Option.{Option, none, some}
 use Prim.Native.Nat.{ℕ}
+use lib.IntN.{ℤ}
 use lib.ListN.{length, getD, set}
 use Rattle.semantics.specs.Text.{same}
 use Rattle.semantics.specs.Values.{Result, ok, fault, Value, Object, elements, text}
@@ -15,7 +16,7 @@ pub data Frame : Type 0 where
   running : ℕ → ℕ → Frame  -- a procedure's object, and the place of its next element
   looping : Value → Frame  -- loop: its body
   repeating : ℕ → Value → Frame  -- repeat: how many repetitions are left, and the body
-  counting : ℕ → ℕ → ℕ → Value → Frame  -- for: next, increment and final (32 bits each), and the body
+  counting : ℤ → ℕ → ℕ → Value → Frame  -- for: next, an integer that may have left 32 bits, increment and final (32 bits each), and the body
 
 -- A dictionary slot: a name, and what it is bound to, if anything.
 pub record Slot : Type 0 where

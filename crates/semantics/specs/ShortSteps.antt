@@ -9,7 +9,7 @@ use lib.ListN.{length, length-append}
 use lib.Dec.{T, leb, leb→le, eqb}
 use Rattle.semantics.specs.Sizes.{nameMost}
 use Rattle.semantics.specs.Text.{bytes, octal}
-use Rattle.semantics.specs.Words.{signed}
+use Rattle.semantics.specs.Words.{signed, word}
 use Rattle.semantics.specs.Values.{Result, ok, fault, _>>=_, Value, integer, boolean, null, mark, operator, name, string, array}
 use Rattle.semantics.specs.Tokens.{within, Class, nameByte, bracket, openBrace, closeBrace, quote, slash, other, classOf, run, startsNumber, number, Token, Lexeme, lexeme, nameOf, runToken, slashToken, lexAs, lex}
 use Rattle.semantics.specs.Machine.{Machine, Frame, pending, running, looping, repeating, counting, push, enter, made}
@@ -200,8 +200,8 @@ resume-short (looping b) m s h = silent-short (gives (entered (entered h (record
 resume-short (repeating zero b) m s h = silent-short (gives h)
 resume-short (repeating (suc n) b) m s h = silent-short (gives (entered (entered h (record { held = s .held })) (record { held = s .held })))
 resume-short (counting n i f b) m s h =
-    choose ShortMove (beyond (signed n) (signed i) (signed f)) (silent (ok m))
-    (silent (ok (enter (pending b) (enter (counting (following n i) i f b) (push (integer n) m)))))
+    choose ShortMove (beyond n (signed i) (signed f)) (silent (ok m))
+    (silent (ok (enter (pending b) (enter (counting (following n i) i f b) (push (integer (word n)) m)))))
     (λ t. silent-short (gives h))
     (λ t. silent-short (gives (entered (entered (pushed h (plain tt)) (record { held = s .held })) (record { held = s .held }))))
 

@@ -91,9 +91,9 @@ silent r = record { command = []; result = r }
 unfoldable pub beyond : ℤ → ℤ → ℤ → Bool
 beyond next increment final = elim (nonNeg increment) [ true ↦ ltZ final next | false ↦ ltZ next final ]
 
--- `for` holds the wrapped sum as its next number.
-unfoldable pub following : ℕ → ℕ → ℕ
-following next increment = word (signed next +ℤ signed increment)
+-- The next number of `for` is the ordinary sum, outside 32 bits if need be (02, W6).
+unfoldable pub following : ℤ → ℕ → ℤ
+following next increment = next +ℤ signed increment
 
 -- The frame acts; it has been dropped from the machine, so that a pending object never needs a second slot (R39). A finished procedure or loop takes a step of
 -- its own (R38, R41); elements are read when met (R49).
@@ -108,9 +108,9 @@ resume (looping b) m = silent (ok (enter (pending b) (enter (looping b) m)))
 resume (repeating zero b) m = silent (ok m)
 resume (repeating (suc n) b) m = silent (ok (enter (pending b) (enter (repeating n b) m)))
 resume (counting n i f b) m =
-    elim (beyond (signed n) (signed i) (signed f)) [
+    elim (beyond n (signed i) (signed f)) [
       | true ↦ silent (ok m)
-      | false ↦ silent (ok (enter (pending b) (enter (counting (following n i) i f b) (push (integer n) m))))
+      | false ↦ silent (ok (enter (pending b) (enter (counting (following n i) i f b) (push (integer (word n)) m))))
     ]
 
 -- ---- room

@@ -19,7 +19,7 @@ use Rattle.heap.specs.Word.{word}
 use Rattle.store.specs.Rep.{objectAt, element, Stands, a-null, an-integer, a-boolean, a-mark, an-operator, a-literal, an-executable, a-string, an-array, a-procedure}
 use Rattle.store.proofs.Standing.{is-procedure}
 use Rattle.machine.specs.Words.{frameKind, frameTag, framePayload, frameCell, frameLeft}
-use Rattle.machine.specs.Rep.{Rep, IsIn, FrameIs, a-pending, a-running, a-looping, a-repeating, a-counting}
+use Rattle.machine.specs.Rep.{Rep, IsIn, FrameIs, a-pending, a-running, a-looping, a-repeating, a-counting, a-past}
 use Rattle.machine.specs.declared.Machine.{Machine}
 use Rattle.machine.specs.declared.Did.the-variants.{Ok, Fail}
 use Rattle.machine.proofs.Rooms.{exec-fits}
@@ -72,7 +72,8 @@ is-pending (a-pending {v = v} h) q = (v, refl, h)
 is-pending (a-running h x y) q = absurd (omega arith)
 is-pending (a-looping h) q = absurd (omega arith)
 is-pending (a-repeating h) q = absurd (omega arith)
-is-pending (a-counting h) q = absurd (omega arith)
+is-pending (a-counting h e) q = absurd (omega arith)
+is-pending (a-past h e o b) q = absurd (omega arith)
 
 module _ {m : Machine} {s e d c l : List ℕ} {μ : Floo.Machine} (R : Rep m s e d c l μ) (k : ℕ) (h : m .frames ≡ suc k) where
   abbrev rest : List Frame

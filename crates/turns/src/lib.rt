@@ -1,9 +1,12 @@
 // Steps on the topmost execution slot in which no operator and no name is executed: a loop's turn, a literal pushed, a procedure that starts, goes on or ends.
 // Each does exactly what the definition's step does to that slot, and then the definition's test of room.
 ghost use mathlib.Core.Path.{_≡_};
+ghost use mathlib.Core.Bool.{_||_, cond};
+ghost use lib.Dec.{eqb};
+ghost use lib.IntN.{_+ℤ_};
 ghost use Prim.Native.Nat.{_+_, _-_, _*_, _≤_};
 ghost use Rattle.machine.specs.Words.{frameKind, frameTag, frameCell, frameLeft};
-ghost use Rattle.semantics.specs.Words.{signed};
+ghost use Rattle.semantics.specs.Words.{signed, inRange};
 ghost use Rattle.semantics.specs.Steps.{beyond};
 ghost use Rattle.machine.specs.FrameMoves.{Somewhere};
 ghost use Rattle.frames.specs.Moves.{SomewhereAll};
@@ -11,6 +14,7 @@ ghost use Rattle.heap.specs.Word.{word};
 ghost use Rattle.control_operators.specs.Promises.{Represented, DoesFrames};
 ghost use Rattle.turns.specs.Turns.{resumed, IsNot, Quiet, DoesTurn, DoesItems};
 use frames::FOR;
+use frames::PAST;
 use frames::REPEAT;
 use machine::Did;
 use machine::FRAME_FINAL;
@@ -54,16 +58,21 @@ pub fn repeat_turn(m: Machine, exec: &mut [u32], cells: &mut [u32]) -> Did
     Did::Ok(frames::pend_body(m, exec, cells))
 }
 
-// `for` pushes its number and its body becomes pending, or it goes where the number is beyond the final one.
+// `for` pushes its number and its body becomes pending, or it goes where the number is beyond the final one or has left 32 bits.
 // Ruled out: a loop that ends one late; the number pushed where the body has no slot.
 pub fn for_turn(m: Machine, stack: &mut [u32], exec: &mut [u32], cells: &mut [u32]) -> Did
-    requires { ⌜ (1 ≤ m .frames) × (frameKind (now exec) (m .frames - 1) ≡ 4) × SomewhereAll m (now stack) (now exec) (now cells) ⌝ }
+    requires { ⌜ (1 ≤ m .frames) × (4 ≤ frameKind (now exec) (m .frames - 1)) × SomewhereAll m (now stack) (now exec) (now cells) ⌝ }
     ensures { λ r. ⌜ DoesFrames resumed m (now (stack .entry)) (now (stack .exit)) (now (exec .entry)) (now (exec .exit)) (now (cells .entry)) (now (cells .exit)) r ⌝ }
 {
     let k = m.frames - 1;
     let n = exec[EXEC_WIDTH * k + FRAME_NEXT];
     let increment = exec[EXEC_WIDTH * k + FRAME_INCREMENT];
-    if is_beyond(n, increment, exec[EXEC_WIDTH * k + FRAME_FINAL]) {
+    if is_over(
+        exec[EXEC_WIDTH * k],
+        n,
+        increment,
+        exec[EXEC_WIDTH * k + FRAME_FINAL],
+    ) {
         return Did::Ok(m.drop_frame(exec, cells));
     }
     if exec.len() < EXEC_WIDTH * m.frames + EXEC_WIDTH {
@@ -73,7 +82,8 @@ pub fn for_turn(m: Machine, stack: &mut [u32], exec: &mut [u32], cells: &mut [u3
         return Did::Fail(Error::StackOverflow);
     }
     let pushed = m.push_scalar(stack, TAG_INTEGER, n);
-    frames::reset_top(pushed, exec, FOR, word::add(n, increment), increment);
+    let kind = kind_after(n, increment);
+    frames::reset_top(pushed, exec, kind, word::add(n, increment), increment);
     Did::Ok(frames::pend_body(pushed, exec, cells))
 }
 
@@ -120,6 +130,16 @@ pub fn push_next(m: Machine, stack: &mut [u32], exec: &mut [u32], cells: &mut [u
     Did::Ok(r)
 }
 
+// Whether a `for` of this kind goes.
+fn is_over(kind: u32, next: u32, increment: u32, last: u32) -> bool
+    ensures { λ r. ⌜ r ≡ (eqb kind 5 || beyond (signed next) (signed increment) (signed last)) ⌝ }
+{
+    if kind == PAST {
+        return true;
+    }
+    is_beyond(next, increment, last)
+}
+
 // Whether `for` ends: above the final number for an increment of zero or more, below it for a negative one.
 fn is_beyond(next: u32, increment: u32, last: u32) -> bool
     ensures { λ r. ⌜ r ≡ beyond (signed next) (signed increment) (signed last) ⌝ }
@@ -128,4 +148,15 @@ fn is_beyond(next: u32, increment: u32, last: u32) -> bool
         return word::lt(last, next);
     }
     word::lt(next, last)
+}
+
+// The kind of the slot of a `for` that moves on: its sum may leave 32 bits.
+// Ruled out: a sum that wraps, and a loop that goes on with it.
+fn kind_after(next: u32, increment: u32) -> u32
+    ensures { λ r. ⌜ r ≡ cond (inRange (signed next +ℤ signed increment)) 4 5 ⌝ }
+{
+    if word::sum_fits(next, increment) {
+        return FOR;
+    }
+    PAST
 }

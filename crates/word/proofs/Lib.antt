@@ -3,3 +3,4 @@ pub mod Words
 pub mod Signed
 pub mod Division
 pub mod Counts
+pub mod Ranges

@@ -34,14 +34,15 @@ module _ (w : ℕ) (l : 2 ^ 31 ≤ w) (h : w < 2 ^ 32) where
   pub high-is : toZ w32 (ofZ w32 (negsuc 0 -ℤ toZ w32 (2 ^ 32 - 1 - w))) ≡ signed w
   high-is = toZ-ofZ w32 _ high-fits ∙ reads ∙ ap negsuc (omega arith) ∙ sym (signed-high w l h)
 
+-- The machine's 32 bits of the integer of a word are read back as it.
+pub reread : (w : ℕ) (z : ℤ) → Fits w32 w → z ≡ signed w → toZ w32 (ofZ w32 z) ≡ signed w
+unfolding signed
+reread w z f e = ap (λ x. toZ w32 (ofZ w32 x)) e ∙ ap (toZ w32) (ofZ-toZ w32 w f)
+
 -- What an operation or a test makes of the integers of two words.
 pub on-signed : {A : Type 0} (f : ℤ → ℤ → A) (a b : ℕ) (x y : ℤ) → Fits w32 a → Fits w32 b → x ≡ signed a → y ≡ signed b
     → f (toZ w32 (ofZ w32 x)) (toZ w32 (ofZ w32 y)) ≡ f (signed a) (signed b)
-unfolding signed
-on-signed f a b x y g h d e = ap₂ f (back a x g d) (back b y h e)
-  where
-    back : (w : ℕ) (z : ℤ) → Fits w32 w → z ≡ signed w → toZ w32 (ofZ w32 z) ≡ signed w
-    back w z f e = ap (λ x. toZ w32 (ofZ w32 x)) e ∙ ap (toZ w32) (ofZ-toZ w32 w f)
+on-signed f a b x y g h d e = ap₂ f (reread a x g d) (reread b y h e)
 
 -- ---- to a word
 

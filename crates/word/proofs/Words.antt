@@ -5,14 +5,14 @@ use mathlib.Core.Bool.{Bool, true, false, not, cond}
 use Prim.Native.Nat.{ℕ, zero, suc, _+_, _-_, _*_, _/_, _%_, _^_, _≤_, _<_}
 use native.Mathlib.Nat.{mod-eq-of-lt, mul-add, add-mul, mul-comm, mul-le-mul-left, le-of-lt, lt-of-le-of-lt}
 use native.Mathlib.Omega.{arith}
-use lib.IntN.{pos, negsuc, negℤ, natAbs, subℕ, _+ℤ_, _-ℤ_, _*ℤ_, +ℤ-idl}
+use lib.IntN.{ℤ, pos, negsuc, negℤ, natAbs, subℕ, _+ℤ_, _-ℤ_, _*ℤ_, +ℤ-idl}
 use lib.Dec.{T, ltb, ltb→lt, nltb→le}
 use lib.Pow.{shl-lt}
-use borrow.Author.Tests.{lt-ltb, le-ltb}
+use borrow.Author.Tests.{lt-ltb, le-ltb, ltb-true}
 use mir.Syntax.{w32}
 use mir.Val.{toZ}
 use mir.ValLaws.{toZ-pos, toZ-neg}
-use Rattle.semantics.specs.Words.{signed, word, shift}
+use Rattle.semantics.specs.Words.{signed, word, inRange, shift}
 
 -- ---- signs
 
@@ -48,6 +48,16 @@ word-signed w h = by (sign w h)
     by : Sign w → word (signed w) ≡ w
     by (low l e) = rw (e, word) (omega arith)
     by (high k l s e) = rw (e, word) (omega arith)
+
+-- An integer of 32 bits is read back from its word.
+pub signed-word : (z : ℤ) → inRange z ≡ true → signed (word z) ≡ z
+unfolding word inRange
+signed-word (pos n) h =
+    let l = ltb-true n (2 ^ 31) h in
+    signed-low (n % 2 ^ 32) (omega (arith, l)) ∙ ap pos (omega (arith, l))
+signed-word (negsuc n) h =
+    let l = ltb-true n (2 ^ 31) h in
+    signed-high (2 ^ 32 - suc (n % 2 ^ 32)) (omega (arith, l)) (omega (arith, l)) ∙ ap negsuc (omega (arith, l))
 
 -- ---- sums
 

@@ -7,7 +7,7 @@ ghost use lib.IntN.{pos, negℤ, natAbs, _+ℤ_, _-ℤ_, _*ℤ_};
 ghost use lib.Signed.{ltZ, leZ, quotZ, remZ};
 ghost use lib.Bits.{bitAnd, bitOr, bitXor};
 ghost use lib.Dec.{eqb};
-ghost use Rattle.semantics.specs.Words.{signed, word, shift};
+ghost use Rattle.semantics.specs.Words.{signed, word, inRange, shift};
 ghost use Rattle.word.specs.Answers.{quotientOf, dividedWords, isCorner};
 
 // The sign bit alone: the least integer, -2147483648.
@@ -17,6 +17,11 @@ pub const SIGN: u32 = 0x8000_0000;
 pub const ALL_ONES: u32 = 0xFFFF_FFFF;
 
 const WIDTH: u32 = 32;
+
+// The greatest and the least integer of 32 bits, among those of 64.
+const GREATEST: i64 = 0x7FFF_FFFF;
+
+const LEAST: i64 = -0x8000_0000;
 
 // How many words there are.
 const WORDS: u64 = 0x1_0000_0000;
@@ -84,6 +89,13 @@ pub fn rem(a: u32, b: u32) -> Quotient
         return Quotient::Value(0);
     }
     Quotient::Value(to_word(to_signed(a) % to_signed(b)))
+}
+
+// Whether the exact sum has 32 bits. Ruled out: a test that the least integer fails as a result, and one of the wrapped sum's sign alone.
+pub fn sum_fits(a: u32, b: u32) -> bool
+    ensures { λ r. ⌜ r ≡ inRange (signed a +ℤ signed b) ⌝ }
+{
+    has_32_bits(wide(a) + wide(b))
 }
 
 // ---- bits
@@ -198,4 +210,16 @@ fn to_word(z: i32) -> u32
     } else {
         z as u32
     }
+}
+
+fn wide(w: u32) -> i64
+    ensures { λ r. ⌜ r ≡ signed w ⌝ }
+{
+    to_signed(w) as i64
+}
+
+fn has_32_bits(z: i64) -> bool
+    ensures { λ r. ⌜ r ≡ inRange z ⌝ }
+{
+    (LEAST <= z) & (z <= GREATEST)
 }

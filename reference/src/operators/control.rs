@@ -50,7 +50,7 @@ pub fn repeat(machine: &Machine, change: &mut Change) -> Result<(), Error> {
 pub fn r#for(machine: &Machine, change: &mut Change) -> Result<(), Error> {
     let [initial, increment, last, body] = machine.operands()?;
     let repetition = Repetition::For {
-        number: initial.integer()?,
+        number: initial.integer()?.into(),
         increment: increment.integer()?,
         last: last.integer()?,
     };

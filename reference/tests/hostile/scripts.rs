@@ -1,4 +1,4 @@
-//! Scripts that mean no good: random bytes, random tokens and damaged programs.
+//! Scripts that mean no good: random bytes, random tokens, damaged programs and loops at the ends of the integers.
 
 use crate::random::Random;
 
@@ -105,6 +105,8 @@ const OBJECTS: &[&str] = &[
     "3 { 4 string } repeat",
 ];
 
+const LOOP_BODIES: &[&str] = &["{ }", "{ pop }", "{ exit }", "{ dup pop continue }", "{ pop { exit } loop }", "pop"];
+
 /// Programs that finish or end in an orderly way.
 const PROGRAMS: &[&str] = &[
     "/f { dup 1 gt { dup 1 sub f mul } if } def 1 1 10 { f echo } for",
@@ -122,9 +124,10 @@ const PROGRAMS: &[&str] = &[
 ];
 
 pub fn hostile(random: &mut Random) -> Vec<u8> {
-    match random.below(8) {
+    match random.below(9) {
         0 => random_bytes(random),
         1..=4 => random_words(random),
+        5 => border_loops(random),
         _ => damaged_program(random),
     }
 }
@@ -150,6 +153,34 @@ fn random_words(random: &mut Random) -> Vec<u8> {
         script += " ";
     }
     script.into_bytes()
+}
+
+/// `for` loops whose first and final numbers are near the ends of the integers or near 0, with increments of both signs and 0.
+fn border_loops(random: &mut Random) -> Vec<u8> {
+    let mut script = String::from("#FLOO\n");
+    for _ in 0..=random.below(3) {
+        let off = random.below(6) as i32;
+        let step = 1 + random.below(4) as i32;
+        let [first, increment, last] = match random.below(4) {
+            0 => [i32::MAX - off, step, i32::MAX - random.below(3) as i32],
+            1 => [i32::MIN + off, -step, i32::MIN + random.below(3) as i32],
+            2 => [near_border(random), near_border(random), near_border(random)],
+            _ => [near_border(random), 1 - off % 3, near_border(random)],
+        };
+        let body = random.choose(LOOP_BODIES);
+        script += &format!("{first} {increment} {last} {body} for ");
+    }
+    script.into_bytes()
+}
+
+fn near_border(random: &mut Random) -> i32 {
+    let off = random.below(4) as i32;
+    match random.below(4) {
+        0 => i32::MIN + off,
+        1 => i32::MAX - off,
+        2 => 1_500_000_000 + off,
+        _ => off - 2,
+    }
 }
 
 /// A program with some bytes removed, changed or doubled and some words put in.

@@ -1,6 +1,6 @@
 -- `acting::looping` meets its contract: by the kind of the loop.
 -- Assumes nothing.
-use Rattle.acting.proofs.Executing.{for-kind}
+use native.Mathlib.Omega.{arith}
 use Rattle.turns.proofs.Fitting.{turn-frames}
 use borrow.Author.Needs.{needs}
 use Rattle.acting.proofs.looping.Statement.{statement}
@@ -43,7 +43,9 @@ returns-2 : tie.Need-returns-2
 returns-2 c = turn-frames _ (c .before .before .before .before .repeat-turn .ensures) _
 
 for-turn-requires : tie.Need-for-turn-requires
-for-turn-requires c κs = (c .before .before .before .before .before .before .before .before .before .before .pre .0, for-kind (c .before .before .before .before .before .before .before .before .before .before .pre .2 .3) (c .before .before .before .before .before .before .before .before .before .before .pre .0) (c .before .before .before .before .before .before .before .before .before .before .pre .1) (c .before .before .before .before .if1 .left) (c .before .before .before .if2 .left), c .before .before .before .before .before .before .before .before .before .before .pre .2)
+for-turn-requires c κs =
+    let pre = c .before .before .before .before .before .before .before .before .before .before .pre in
+    (pre .0, omega (arith, pre .1, c .before .before .before .before .if1 .left, c .before .before .before .if2 .left), pre .2)
 
 same-length-5 : tie.Need-same-length-5
 same-length-5 c = search needs

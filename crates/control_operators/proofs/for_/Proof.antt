@@ -62,7 +62,7 @@ add-if5 : tie.Need-add-if5
 add-if5 c = search needs
 
 returns-5 : tie.Need-returns-5
-returns-5 c = into-full (λ d cs l μ R. for-into R (c .before .before .before .before .before .before .before .before .before .before .before .before .before .before .before .args .m .depth - 4) (c .before .before .before .before .before .before .before .before .before .before .before .before .before .before .before .args .m .depth - 3) (c .before .before .before .before .before .before .before .before .before .before .before .before .before .before .before .args .m .depth - 2) (omega (arith, c .before .before .before .before .before .before .before .before .before .before .before .if1 .left)) (omega (arith, c .before .before .before .before .before .before .before .before .before .before .before .if1 .left)) (omega (arith, c .before .before .before .before .before .before .before .before .before .before .before .if1 .left)) (c .before .before .before .before .before .before .if2 .left) (c .before .before .before .before .if3 .left) (c .before .before .if4 .left) (c .before .before .before .before .before .before .before .before .before .before .before .before .before .before .shared-slice-known .given (2 * (c .before .before .before .before .before .before .before .before .before .before .before .before .before .before .before .args .m .depth - 4) + 1) .fits) (c .before .before .before .before .before .before .before .before .before .before .before .before .before .before .shared-slice-known .given (2 * (c .before .before .before .before .before .before .before .before .before .before .before .before .before .before .before .args .m .depth - 3) + 1) .fits) (c .before .before .before .before .before .before .before .before .before .before .before .before .before .before .shared-slice-known .given (2 * (c .before .before .before .before .before .before .before .before .before .before .before .before .before .before .before .args .m .depth - 2) + 1) .fits)) (c .if5 .taken)
+returns-5 c = into-full (λ d cs l μ R. for-into R (c .before .before .before .before .before .before .before .before .before .before .before .before .before .before .before .args .m .depth - 4) (c .before .before .before .before .before .before .before .before .before .before .before .before .before .before .before .args .m .depth - 3) (c .before .before .before .before .before .before .before .before .before .before .before .before .before .before .before .args .m .depth - 2) (omega (arith, c .before .before .before .before .before .before .before .before .before .before .before .if1 .left)) (omega (arith, c .before .before .before .before .before .before .before .before .before .before .before .if1 .left)) (omega (arith, c .before .before .before .before .before .before .before .before .before .before .before .if1 .left)) (c .before .before .before .before .before .before .if2 .left) (c .before .before .before .before .if3 .left) (c .before .before .if4 .left) (c .before .before .before .before .before .before .before .before .before .before .before .before .before .before .shared-slice-known .given (2 * (c .before .before .before .before .before .before .before .before .before .before .before .before .before .before .before .args .m .depth - 3) + 1) .fits) (c .before .before .before .before .before .before .before .before .before .before .before .before .before .before .shared-slice-known .given (2 * (c .before .before .before .before .before .before .before .before .before .before .before .before .before .before .before .args .m .depth - 2) + 1) .fits)) (c .if5 .taken)
 
 add-enter-loop : tie.Need-add-enter-loop
 add-enter-loop c = search needs
@@ -101,7 +101,7 @@ same-length : tie.Need-same-length
 same-length c = search needs
 
 returns-6 : tie.Need-returns-6
-returns-6 c = into-done (λ d cs l μ R. for-into R (c .before .before .before .before .before .before .before .before .before .before .before .before .before .before .before .before .before .before .before .before .before .before .before .args .m .depth - 4) (c .before .before .before .before .before .before .before .before .before .before .before .before .before .before .before .before .before .before .before .before .before .before .before .args .m .depth - 3) (c .before .before .before .before .before .before .before .before .before .before .before .before .before .before .before .before .before .before .before .before .before .before .before .args .m .depth - 2) (omega (arith, c .before .before .before .before .before .before .before .before .before .before .before .before .before .before .before .before .before .before .before .if1 .left)) (omega (arith, c .before .before .before .before .before .before .before .before .before .before .before .before .before .before .before .before .before .before .before .if1 .left)) (omega (arith, c .before .before .before .before .before .before .before .before .before .before .before .before .before .before .before .before .before .before .before .if1 .left)) (c .before .before .before .before .before .before .before .before .before .before .before .before .before .before .if2 .left) (c .before .before .before .before .before .before .before .before .before .before .before .before .if3 .left) (c .before .before .before .before .before .before .before .before .before .before .if4 .left) (c .before .before .before .before .before .before .before .before .before .before .before .before .before .before .before .before .before .before .before .before .before .before .shared-slice-known .given (2 * (c .before .before .before .before .before .before .before .before .before .before .before .before .before .before .before .before .before .before .before .before .before .before .before .args .m .depth - 4) + 1) .fits) (c .before .before .before .before .before .before .before .before .before .before .before .before .before .before .before .before .before .before .before .before .before .before .shared-slice-known .given (2 * (c .before .before .before .before .before .before .before .before .before .before .before .before .before .before .before .before .before .before .before .before .before .before .before .args .m .depth - 3) + 1) .fits) (c .before .before .before .before .before .before .before .before .before .before .before .before .before .before .before .before .before .before .before .before .before .before .shared-slice-known .given (2 * (c .before .before .before .before .before .before .before .before .before .before .before .before .before .before .before .before .before .before .before .before .before .before .before .args .m .depth - 2) + 1) .fits)) a-for (c .before .before .before .enter-loop .ensures .0) (c .forget .ensures) (cons integer-nameless (cons integer-nameless (cons integer-nameless nil))) (c .before .before .before .enter-loop .kept .1 .1 .0)
+returns-6 c = into-done (λ d cs l μ R. for-into R (c .before .before .before .before .before .before .before .before .before .before .before .before .before .before .before .before .before .before .before .before .before .before .before .args .m .depth - 4) (c .before .before .before .before .before .before .before .before .before .before .before .before .before .before .before .before .before .before .before .before .before .before .before .args .m .depth - 3) (c .before .before .before .before .before .before .before .before .before .before .before .before .before .before .before .before .before .before .before .before .before .before .before .args .m .depth - 2) (omega (arith, c .before .before .before .before .before .before .before .before .before .before .before .before .before .before .before .before .before .before .before .if1 .left)) (omega (arith, c .before .before .before .before .before .before .before .before .before .before .before .before .before .before .before .before .before .before .before .if1 .left)) (omega (arith, c .before .before .before .before .before .before .before .before .before .before .before .before .before .before .before .before .before .before .before .if1 .left)) (c .before .before .before .before .before .before .before .before .before .before .before .before .before .before .if2 .left) (c .before .before .before .before .before .before .before .before .before .before .before .before .if3 .left) (c .before .before .before .before .before .before .before .before .before .before .if4 .left) (c .before .before .before .before .before .before .before .before .before .before .before .before .before .before .before .before .before .before .before .before .before .before .shared-slice-known .given (2 * (c .before .before .before .before .before .before .before .before .before .before .before .before .before .before .before .before .before .before .before .before .before .before .before .args .m .depth - 3) + 1) .fits) (c .before .before .before .before .before .before .before .before .before .before .before .before .before .before .before .before .before .before .before .before .before .before .shared-slice-known .given (2 * (c .before .before .before .before .before .before .before .before .before .before .before .before .before .before .before .before .before .before .before .before .before .before .before .args .m .depth - 2) + 1) .fits)) a-for (c .before .before .before .enter-loop .ensures .0) (c .forget .ensures) (cons integer-nameless (cons integer-nameless (cons integer-nameless nil))) (c .before .before .before .enter-loop .kept .1 .1 .0)
 
 pub for--spec : {M : Type 1} → statement M
 for--spec =

@@ -1,6 +1,7 @@
--- `turns::for_turn` meets its contract: the loop goes where its number is beyond the final one, else the number is pushed, the slot reset and the body pending.
+-- `turns::for_turn` meets its contract: the loop goes where its number is beyond the final one or has left 32 bits, else the number is pushed, the slot reset and the body pending.
 -- Assumes nothing.
-use Rattle.turns.proofs.Looping.{pushed-slots, for-stands, for-ends, for-full, for-over, for-goes}
+use Rattle.turns.proofs.Looping.{pushed-slots, for-stands, for-ends, for-full, for-over, for-goes, counted}
+use Prim.Native.Nat.{_+_, _-_, _*_}
 use native.Mathlib.Omega.{arith}
 use mathlib.Core.Path.{sym, _∙_}
 use borrow.Author.Needs.{needs}
@@ -34,20 +35,29 @@ mul-increment-2 c = search needs
 slice-read-increment : tie.Need-slice-read-increment
 slice-read-increment c = search needs
 
-mul-is-beyond : tie.Need-mul-is-beyond
-mul-is-beyond c = search needs
+mul-is-over : tie.Need-mul-is-over
+mul-is-over c = search needs
 
-add-is-beyond : tie.Need-add-is-beyond
-add-is-beyond c = search needs
+mul-is-over-2 : tie.Need-mul-is-over-2
+mul-is-over-2 c = search needs
 
-mul-is-beyond-2 : tie.Need-mul-is-beyond-2
-mul-is-beyond-2 c = search needs
+slice-read-is-over : tie.Need-slice-read-is-over
+slice-read-is-over c = search needs
 
-slice-read-is-beyond : tie.Need-slice-read-is-beyond
-slice-read-is-beyond c = search needs
+mul-is-over-3 : tie.Need-mul-is-over-3
+mul-is-over-3 c = search needs
 
-is-beyond-requires : tie.Need-is-beyond-requires
-is-beyond-requires c κs = search needs
+add-is-over : tie.Need-add-is-over
+add-is-over c = search needs
+
+mul-is-over-4 : tie.Need-mul-is-over-4
+mul-is-over-4 c = search needs
+
+slice-read-is-over-2 : tie.Need-slice-read-is-over-2
+slice-read-is-over-2 c = search needs
+
+is-over-requires : tie.Need-is-over-requires
+is-over-requires c κs = search needs
 
 drop-frame-requires : tie.Need-drop-frame-requires
 drop-frame-requires c κs = search needs
@@ -60,8 +70,8 @@ same-length-2 c = search needs
 
 returns : tie.Need-returns
 returns c =
-    let pre = c .before .before .before .before .before .before .before .before .before .before .before .before .before .before .pre in
-    for-ends (pre .0) (pre .1) (sym (c .before .before .before .before .before .before .is-beyond .ensures) ∙ c .before .before .before .before .before .if1 .taken) (c .before .before .drop-frame .ensures .0)
+    let pre = c .before .before .before .before .before .before .before .before .before .before .before .before .before .before .before .pre in
+    for-ends (pre .0) (pre .1) (sym (c .before .before .before .before .before .before .is-over .ensures) ∙ c .before .before .before .before .before .if1 .taken) (c .before .before .drop-frame .ensures .0)
 
 mul-if2 : tie.Need-mul-if2
 mul-if2 c = search needs
@@ -71,8 +81,8 @@ add-if2 c = search needs
 
 returns-2 : tie.Need-returns-2
 returns-2 c =
-    let pre = c .before .before .before .before .before .before .before .before .before .before .before .pre in
-    for-full (pre .0) (pre .1) (sym (c .before .before .before .is-beyond .ensures) ∙ c .before .before .if1 .left) (c .if2 .taken)
+    let pre = c .before .before .before .before .before .before .before .before .before .before .before .before .pre in
+    for-full (pre .0) (pre .1) (c .before .before .before .before .before .before .before .before .before .before .slice-known2 .given (8 * (c .before .before .before .before .before .before .before .before .before .before .before .before .args .m .frames - 1) + 3) .fits) (sym (c .before .before .before .is-over .ensures) ∙ c .before .before .if1 .left) (c .if2 .taken)
 
 mul-if3 : tie.Need-mul-if3
 mul-if3 c = search needs
@@ -82,28 +92,31 @@ add-if3 c = search needs
 
 returns-3 : tie.Need-returns-3
 returns-3 c =
-    let pre = c .before .before .before .before .before .before .before .before .before .before .before .before .before .pre in
-    for-over (pre .0) (pre .1) (sym (c .before .before .before .before .before .is-beyond .ensures) ∙ c .before .before .before .before .if1 .left) (c .before .before .if2 .left) (c .if3 .taken)
+    let pre = c .before .before .before .before .before .before .before .before .before .before .before .before .before .before .pre in
+    for-over (pre .0) (pre .1) (c .before .before .before .before .before .before .before .before .before .before .before .before .slice-known2 .given (8 * (c .before .before .before .before .before .before .before .before .before .before .before .before .before .before .args .m .frames - 1) + 3) .fits) (sym (c .before .before .before .before .before .is-over .ensures) ∙ c .before .before .before .before .if1 .left) (c .before .before .if2 .left) (c .if3 .taken)
 
 push-scalar-requires : tie.Need-push-scalar-requires
 push-scalar-requires c κs = search needs
+
+kind-after-requires : tie.Need-kind-after-requires
+kind-after-requires c κs = search needs
 
 add-requires : tie.Need-add-requires
 add-requires c κs = search needs
 
 reset-top-requires : tie.Need-reset-top-requires
 reset-top-requires c κs =
-    let pre = c .before .before .before .before .before .before .before .before .before .before .before .before .before .before .before .before .before .before .before .pre in
-    let same = pushed-slots (c .before .before .before .before .push-scalar .ensures .0) (pre .2) in (omega (arith, same, pre .0), omega (arith, same, c .before .before .before .before .before .before .before .before .if2 .left))
+    let pre = c .before .before .before .before .before .before .before .before .before .before .before .before .before .before .before .before .before .before .before .before .before .pre in
+    let same = pushed-slots (c .before .before .before .before .before .push-scalar .ensures .0) (pre .2) in (omega (arith, same, pre .0), omega (arith, same, c .before .before .before .before .before .before .before .before .before .if2 .left))
 
 pend-body-requires : tie.Need-pend-body-requires
 pend-body-requires c κs =
-    let pre = c .before .before .before .before .before .before .before .before .before .before .before .before .before .before .before .before .before .before .before .before .before .before .before .before .pre in
-    let same = pushed-slots (c .before .before .before .before .before .before .before .before .before .push-scalar .ensures .0) (pre .2) in
-    (omega (arith, same, pre .0), omega (arith, same, c .before .before .before .before .before .before .before .before .before .before .before .before .before .if2 .left, c .before .before .before .before .reset-top .kept .1 .0), for-stands (pre .0) (c .before .before .before .before .before .before .before .before .before .push-scalar .ensures .0) (c .before .before .before .before .reset-top .ensures .0) (pre .2))
+    let pre = c .before .before .before .before .before .before .before .before .before .before .before .before .before .before .before .before .before .before .before .before .before .before .before .before .before .before .pre in
+    let same = pushed-slots (c .before .before .before .before .before .before .before .before .before .before .push-scalar .ensures .0) (pre .2) in
+    (omega (arith, same, pre .0), omega (arith, same, c .before .before .before .before .before .before .before .before .before .before .before .before .before .before .if2 .left, c .before .before .before .before .reset-top .kept .1 .0), for-stands (pre .0) (c .before .before .before .before .before .before .before .before .before .before .push-scalar .ensures .0) (counted (c .before .before .before .before .before .before .before .before .before .before .before .before .before .before .before .before .before .before .before .before .before .before .before .before .before .before .args .exec .now) (c .before .before .before .before .before .before .before .before .before .before .before .before .before .before .before .before .before .before .before .before .before .before .before .before .before .before .args .m .frames - 1) (c .before .before .before .before .before .before .before .before .before .before .before .before .before .before .before .before .before .before .before .before .before .before .before .before .slice-known2 .given) (c .before .before .before .before .before .before .before .kind-after .ensures) (c .before .before .before .before .before .add .ensures)) (c .before .before .before .before .reset-top .ensures .0) (pre .2))
 
 same-length-3 : tie.Need-same-length-3
-same-length-3 c = c .before .before .before .before .before .before .before .before .before .before .before .before .before .before .push-scalar .kept .1 .0
+same-length-3 c = c .before .before .before .before .before .before .before .before .before .before .before .before .before .before .before .push-scalar .kept .1 .0
 
 same-length-4 : tie.Need-same-length-4
 same-length-4 c = c .before .before .before .before .pend-body .kept .1 .0 ∙ c .before .before .before .before .before .before .before .before .before .reset-top .kept .1 .0
@@ -113,8 +126,8 @@ same-length-5 c = c .before .before .before .before .pend-body .kept .1 .1 .0
 
 returns-4 : tie.Need-returns-4
 returns-4 c =
-    let pre = c .before .before .before .before .before .before .before .before .before .before .before .before .before .before .before .before .before .before .before .before .before .before .before .before .before .before .before .before .before .pre in
-    for-goes (pre .0) (pre .1) (sym (c .before .before .before .before .before .before .before .before .before .before .before .before .before .before .before .before .before .before .before .before .before .is-beyond .ensures) ∙ c .before .before .before .before .before .before .before .before .before .before .before .before .before .before .before .before .before .before .before .before .if1 .left) (c .before .before .before .before .before .before .before .before .before .before .before .before .before .before .push-scalar .ensures .0) (c .before .before .before .before .before .before .before .before .before .before .add .ensures) (c .before .before .before .before .before .before .before .before .before .reset-top .ensures .0) (c .before .before .before .before .pend-body .ensures .0) (c .before .before .before .before .before .before .before .before .before .before .before .before .before .before .push-scalar .kept .1 .0) (c .before .before .before .before .pend-body .kept .1 .0 ∙ c .before .before .before .before .before .before .before .before .before .reset-top .kept .1 .0)
+    let pre = c .before .before .before .before .before .before .before .before .before .before .before .before .before .before .before .before .before .before .before .before .before .before .before .before .before .before .before .before .before .before .before .pre in
+    for-goes (pre .0) (pre .1) (c .before .before .before .before .before .before .before .before .before .before .before .before .before .before .before .before .before .before .before .before .before .before .before .before .before .before .before .before .before .slice-known2 .given (8 * (c .before .before .before .before .before .before .before .before .before .before .before .before .before .before .before .before .before .before .before .before .before .before .before .before .before .before .before .before .before .before .before .args .m .frames - 1) + 3) .fits) (sym (c .before .before .before .before .before .before .before .before .before .before .before .before .before .before .before .before .before .before .before .before .before .before .is-over .ensures) ∙ c .before .before .before .before .before .before .before .before .before .before .before .before .before .before .before .before .before .before .before .before .before .if1 .left) (c .before .before .before .before .before .before .before .before .before .before .before .before .before .before .before .push-scalar .ensures .0) (counted (c .before .before .before .before .before .before .before .before .before .before .before .before .before .before .before .before .before .before .before .before .before .before .before .before .before .before .before .before .before .before .before .args .exec .now) (c .before .before .before .before .before .before .before .before .before .before .before .before .before .before .before .before .before .before .before .before .before .before .before .before .before .before .before .before .before .before .before .args .m .frames - 1) (c .before .before .before .before .before .before .before .before .before .before .before .before .before .before .before .before .before .before .before .before .before .before .before .before .before .before .before .before .before .slice-known2 .given) (c .before .before .before .before .before .before .before .before .before .before .before .before .kind-after .ensures) (c .before .before .before .before .before .before .before .before .before .before .add .ensures)) (c .before .before .before .before .before .before .before .before .before .reset-top .ensures .0) (c .before .before .before .before .pend-body .ensures .0) (c .before .before .before .before .before .before .before .before .before .before .before .before .before .before .before .push-scalar .kept .1 .0) (c .before .before .before .before .pend-body .kept .1 .0 ∙ c .before .before .before .before .before .before .before .before .before .reset-top .kept .1 .0)
 
 pub for-turn-spec : {M : Type 1} → statement M
 for-turn-spec =
@@ -129,11 +142,14 @@ for-turn-spec =
     add-increment
     mul-increment-2
     slice-read-increment
-    mul-is-beyond
-    add-is-beyond
-    mul-is-beyond-2
-    slice-read-is-beyond
-    is-beyond-requires
+    mul-is-over
+    mul-is-over-2
+    slice-read-is-over
+    mul-is-over-3
+    add-is-over
+    mul-is-over-4
+    slice-read-is-over-2
+    is-over-requires
     drop-frame-requires
     same-length
     same-length-2
@@ -145,6 +161,7 @@ for-turn-spec =
     add-if3
     returns-3
     push-scalar-requires
+    kind-after-requires
     add-requires
     reset-top-requires
     pend-body-requires
