@@ -1,7 +1,7 @@
 /*
- * The exported functions at lengths of every kind. Each buffer ends where a page begins that no one may touch, so a read or a write past a length ends
- * this program; what lies before a buffer, and what a run or a scan may not change, is compared. The expected numbers are those of the table of refusals, and
- * the answers to scans those of the change request.
+ * The exported functions at lengths of every kind, and lines and columns. Each buffer ends where a page begins that no one may touch, so a read or a write
+ * past a length ends this program; what lies before a buffer, and what a run or a scan may not change, is compared. The expected numbers are those of the table
+ * of refusals, and the answers to scans and the faults of tokens those of the change requests.
  */
 #define _DEFAULT_SOURCE
 #include <stdio.h>
@@ -119,7 +119,7 @@ static void call(const char *title, const char *script, uint32_t fuel, const siz
 
 static const char hello[] = "#FLOO\n5 /two 2 def two add echo 7\n";
 static const char hello_outcome[] =
-    "ending=finished\nerror=none\ncommand=\nat=34\nsteps=12\ndepth=1\nheld=0\nlog=2\nitem=integer:7\n";
+    "ending=finished\nerror=none\ncommand=\nat=34\nwhere=\nsteps=12\ndepth=1\nheld=0\nlog=2\nitem=integer:7\n";
 
 static void with(const char *title, int k, size_t length, uint32_t refused, const char *gives) {
     size_t lengths[RUN_BUFFERS] = {sizeof hello - 1, FLOO_STACK_WORDS(8), FLOO_EXECUTION_WORDS(4), FLOO_DICTIONARY_WORDS(60), FLOO_CELL_WORDS(1), 2,
@@ -143,9 +143,10 @@ static void reading(const char *title, const char *script, size_t length, size_t
     write_script(script, length);
     memcpy(before, buffer(SCRIPT, length), lent);
     floo_token_reply r = floo_token(buffer(SCRIPT, length), length, offset);
-    if (r.refused != expected.refused || r.fault != expected.fault || r.kind != expected.kind || r.next != expected.next || r.start != expected.start ||
-        r.size != expected.size) {
-        printf("%s: refused %u, fault %u, kind %u, next %zu, start %zu, size %zu\n", title, r.refused, r.fault, r.kind, r.next, r.start, r.size);
+    if (r.refused != expected.refused || r.fault != expected.fault || r.kind != expected.kind || r.place != expected.place || r.next != expected.next ||
+        r.start != expected.start || r.size != expected.size) {
+        printf("%s: refused %u, fault %u, kind %u, place %u, next %zu, start %zu, size %zu\n", title, r.refused, r.fault, r.kind, r.place, r.next, r.start,
+               r.size);
         faults++;
     }
     if (memcmp(before, buffer(SCRIPT, length), lent) != 0) {
@@ -157,9 +158,10 @@ static floo_token_reply token(uint32_t kind, size_t next, size_t start, size_t s
     return (floo_token_reply){.kind = kind, .next = next, .start = start, .size = size};
 }
 
-static floo_token_reply no_token(uint32_t refused, uint32_t fault, size_t offset) {
-    return (floo_token_reply){.refused = refused, .fault = fault, .next = offset};
-}
+static floo_token_reply refusal(uint32_t number, size_t offset) { return (floo_token_reply){.refused = number, .next = offset}; }
+
+/* A fault of a token that is read from the script's first byte on. */
+static floo_token_reply fault(uint32_t number, uint32_t place) { return (floo_token_reply){.fault = number, .place = place}; }
 
 /* A script that ends with its token or in the midst of it, right before the page that no one may touch. */
 static void cut(const char *script, floo_token_reply expected) { reading(script, script, strlen(script), 0, expected); }
@@ -170,44 +172,100 @@ static void readings(void) {
     reading("a literal name", hello, bytes, 7, token(FLOO_LITERAL_NAME, 12, 9, 3));
     reading("the last byte", hello, bytes, bytes - 1, token(FLOO_END, bytes, bytes, 0));
     reading("at the length", hello, bytes, bytes, token(FLOO_END, bytes, bytes, 0));
-    reading("one past the length", hello, bytes, bytes + 1, no_token(FLOO_OFFSET_PAST_END, 0, bytes + 1));
-    reading("an offset of SIZE_MAX", hello, bytes, SIZE_MAX, no_token(FLOO_OFFSET_PAST_END, 0, SIZE_MAX));
+    reading("one past the length", hello, bytes, bytes + 1, refusal(FLOO_OFFSET_PAST_END, bytes + 1));
+    reading("an offset of SIZE_MAX", hello, bytes, SIZE_MAX, refusal(FLOO_OFFSET_PAST_END, SIZE_MAX));
     reading("no bytes", "", 0, 0, token(FLOO_END, 0, 0, 0));
-    reading("no bytes, offset 1", "", 0, 1, no_token(FLOO_OFFSET_PAST_END, 0, 1));
-    reading("no bytes, offset SIZE_MAX", "", 0, SIZE_MAX, no_token(FLOO_OFFSET_PAST_END, 0, SIZE_MAX));
+    reading("no bytes, offset 1", "", 0, 1, refusal(FLOO_OFFSET_PAST_END, 1));
+    reading("no bytes, offset SIZE_MAX", "", 0, SIZE_MAX, refusal(FLOO_OFFSET_PAST_END, SIZE_MAX));
     reading("a script of 32768", hello, limit, 0, token(FLOO_INTEGER, 7, 6, 1));
     reading("a script of 32768, its end", hello, limit, bytes, token(FLOO_END, limit, limit, 0));
     reading("a script of 32768, at the length", hello, limit, limit, token(FLOO_END, limit, limit, 0));
-    reading("a script of 32768, one past", hello, limit, limit + 1, no_token(FLOO_OFFSET_PAST_END, 0, limit + 1));
-    reading("a script of 32769", hello, limit + 1, 0, no_token(FLOO_SCRIPT_TOO_LONG, 0, 0));
-    reading("a script of 32769, one past", hello, limit + 1, limit + 2, no_token(FLOO_SCRIPT_TOO_LONG, 0, limit + 2));
+    reading("a script of 32768, one past", hello, limit, limit + 1, refusal(FLOO_OFFSET_PAST_END, limit + 1));
+    reading("a script of 32769", hello, limit + 1, 0, refusal(FLOO_SCRIPT_TOO_LONG, 0));
+    reading("a script of 32769, one past", hello, limit + 1, limit + 2, refusal(FLOO_SCRIPT_TOO_LONG, limit + 2));
     cut("#", token(FLOO_END, 1, 1, 0));
     cut("x", token(FLOO_EXECUTABLE_NAME, 1, 0, 1));
     cut("-", token(FLOO_EXECUTABLE_NAME, 1, 0, 1));
     cut("-1", token(FLOO_INTEGER, 2, 0, 2));
-    cut("0x", no_token(0, FLOO_SYNTAXERROR, 0));
-    cut("4294967296", no_token(0, FLOO_LIMITCHECK, 0));
-    cut("/", no_token(0, FLOO_SYNTAXERROR, 0));
+    cut("0x", fault(FLOO_BADNUMBER, 2));
+    cut("0x1g", fault(FLOO_BADNUMBER, 3));
+    cut("5a", fault(FLOO_BADNUMBER, 1));
+    cut("4294967296", fault(FLOO_LIMITCHECK, 0));
+    cut("/", fault(FLOO_BADBYTE, 1));
+    cut("/-5", fault(FLOO_BADBYTE, 2));
+    cut(" \x7f", fault(FLOO_BADBYTE, 1));
     cut("/x", token(FLOO_LITERAL_NAME, 2, 1, 1));
     cut("[", token(FLOO_EXECUTABLE_NAME, 1, 0, 1));
     cut("{", token(FLOO_OPEN_BRACE, 1, 0, 1));
     cut("}", token(FLOO_CLOSE_BRACE, 1, 0, 1));
-    cut("\"", no_token(0, FLOO_SYNTAXERROR, 0));
-    cut("\"\\", no_token(0, FLOO_SYNTAXERROR, 0));
-    cut("\"\\1", no_token(0, FLOO_SYNTAXERROR, 0));
-    cut("\"\\12", no_token(0, FLOO_SYNTAXERROR, 0));
-    cut("\"\\\r", no_token(0, FLOO_SYNTAXERROR, 0));
-    cut("\"\\\r\n", no_token(0, FLOO_SYNTAXERROR, 0));
+    cut("\"", fault(FLOO_OPENSTRING, 0));
+    cut("\"\\", fault(FLOO_OPENSTRING, 0));
+    cut("\"\\4", fault(FLOO_BADESCAPE, 2));
+    cut("\"\\400\"", fault(FLOO_BADESCAPE, 2));
+    cut("\"\\19", fault(FLOO_BADESCAPE, 3));
+    cut("\"\\1", fault(FLOO_OPENSTRING, 0));
+    cut("\"\\12", fault(FLOO_OPENSTRING, 0));
+    cut("\"\\\r", fault(FLOO_OPENSTRING, 0));
+    cut("\"\\\r\n", fault(FLOO_OPENSTRING, 0));
     cut("\"\\123\"", token(FLOO_STRING, 6, 1, 4));
     for (size_t i = 0; i < sizeof huge / sizeof huge[0]; i++) {
-        reading("a huge length", hello, huge[i], 0, no_token(FLOO_SCRIPT_TOO_LONG, 0, 0));
-        reading("a huge length, offset SIZE_MAX", hello, huge[i], SIZE_MAX, no_token(FLOO_SCRIPT_TOO_LONG, 0, SIZE_MAX));
+        reading("a huge length", hello, huge[i], 0, refusal(FLOO_SCRIPT_TOO_LONG, 0));
+        reading("a huge length, offset SIZE_MAX", hello, huge[i], SIZE_MAX, refusal(FLOO_SCRIPT_TOO_LONG, SIZE_MAX));
     }
+}
+
+/* Line and column of an offset, in a script that ends right before the page that no one may touch; both 0 for no place. */
+static void position(const char *script, size_t offset, size_t line, size_t column) {
+    size_t length = strlen(script);
+    tests++;
+    write_script(script, length);
+    floo_position p = floo_position_at(buffer(SCRIPT, length), length, offset);
+    if (p.line != line || p.column != column) {
+        printf("offset %zu of a script of %zu: line %zu, column %zu and not %zu, %zu\n", offset, length, p.line, p.column, line, column);
+        faults++;
+    }
+}
+
+static void positions(void) {
+    /* one line: every byte is a column, a tab too, and so is the end */
+    position("#FLOO 1", 0, 1, 1);
+    position("#FLOO 1", 6, 1, 7);
+    position("#FLOO 1", 7, 1, 8);
+    position("\t\tx", 2, 1, 3);
+    position("\xc3\xa4x", 2, 1, 3);
+    /* a break is the last column of the line that it ends */
+    position("ab\ncd", 2, 1, 3);
+    position("ab\ncd", 3, 2, 1);
+    position("ab\ncd", 5, 2, 3);
+    position("ab\rcd", 2, 1, 3);
+    position("ab\rcd", 3, 2, 1);
+    /* CR LF is one break: its CR, between the two, after it */
+    position("ab\r\ncd", 2, 1, 3);
+    position("ab\r\ncd", 3, 1, 4);
+    position("ab\r\ncd", 4, 2, 1);
+    /* LF CR are two, and so are two of one kind; CR CR LF are two */
+    position("a\n\rb", 2, 2, 1);
+    position("a\n\rb", 3, 3, 1);
+    position("\n\n", 1, 2, 1);
+    position("\n\n", 2, 3, 1);
+    position("\r\r\nx", 1, 2, 1);
+    position("\r\r\nx", 2, 2, 2);
+    position("\r\r\nx", 3, 3, 1);
+    /* a script that ends with a break has its end in the next line; a CR at the end has no byte after it */
+    position("ab\n", 3, 2, 1);
+    position("ab\r", 3, 2, 1);
+    position("ab\r\n", 3, 1, 4);
+    position("ab\r\n", 4, 2, 1);
+    /* no bytes; past the end */
+    position("", 0, 1, 1);
+    position("", 1, 0, 0);
+    position("ab\n", 4, 0, 0);
+    position("ab\n", SIZE_MAX, 0, 0);
 }
 
 /* A scan: socket 7 is on the tester at time 20. Log and outcome are those of its run. */
 static const char moved[] = "#FLOO\n7 label 20 \"moved\" print\n";
-static const char moved_outcome[] = "ending=finished\nerror=none\ncommand=\nat=31\nsteps=7\ndepth=3\nheld=2\nlog=5\n"
+static const char moved_outcome[] = "ending=finished\nerror=none\ncommand=\nat=31\nwhere=\nsteps=7\ndepth=3\nheld=2\nlog=5\n"
                                     "item=integer:7\nitem=string:8/8\nitem=integer:20\n";
 static const char tester[] = "tester 3";
 
@@ -445,6 +503,7 @@ int main(void) {
         }
     }
     readings();
+    positions();
     scans();
     printf("%d calls, %d faults\n", tests, faults);
     return faults != 0;

@@ -1,8 +1,9 @@
 /*
  * The counter of a stockroom: for each label that is scanned a Floo script takes the label apart and writes a line of the ledger.
- * A label is SOCKET:PLACE:TIME. One that is not gives an error, and the counter says which. embed/run_c.sh builds and runs it.
+ * A label is SOCKET:PLACE:TIME. One that is not gives an error, and the counter says which; of a slip in the script it says where. embed/run_c.sh builds and runs it.
  */
 #include <stdio.h>
+#include <stdlib.h>
 #include <string.h>
 
 #include "floo.h"
@@ -17,7 +18,9 @@ static uint32_t cells[FLOO_CELL_WORDS(CELLS)];
 static uint8_t log_bytes[LOG];
 static uint8_t outcome[FLOO_OUTCOME_BYTES(STACK)];
 
-/* The rule, as the stockroom keeper wrote it. The label stands in front of it. */
+/* The rule, as the stockroom keeper wrote it. The label stands in front of it, on two lines. */
+enum { LINES_BEFORE = 2 };
+
 static const char rule[] =
     "# from -> place of the next colon, or the label's length\n"
     "/colon {\n"
@@ -39,8 +42,13 @@ static const char rule[] =
     "\" at \" print place print\n"
     "\" since \" print time 12 string cvs print \"\\n\" print\n";
 
+/* A rule with a slip: there is no escape \w. */
+static const char slip[] =
+    "label print\n"
+    "{ \" is \\where?\" print } exec\n";
+
 /* The script for a label: its bytes as a Floo string, each one that is not a plain character in octal. NULL if there is no room. */
-static const char *write_script(const char *label, char *script, size_t size) {
+static const char *write_script(const char *label, const char *rule, char *script, size_t size) {
     size_t n = (size_t)snprintf(script, size, "#FLOO\n/label \"");
     for (; *label != '\0'; label++) {
         unsigned char byte = (unsigned char)*label;
@@ -53,23 +61,30 @@ static const char *write_script(const char *label, char *script, size_t size) {
     return (size_t)snprintf(script + n, size - n, "\" def\n%s", rule) < size - n ? script : NULL;
 }
 
-/* The value of a line of the outcome. */
-static void print_value(const char *key, size_t length) {
-    const char *at = (const char *)outcome, *end = at + length;
-    while (at < end) {
-        const char *stop = memchr(at, '\n', (size_t)(end - at));
-        if (strncmp(at, key, strlen(key)) == 0) {
-            at += strlen(key);
-            fwrite(at, 1, (size_t)(stop - at), stdout);
-            return;
-        }
-        at = stop + 1;
+/* The value of a line of the outcome, up to its line feed. */
+static const char *value(const char *key) {
+    const char *at = (const char *)outcome;
+    while (strncmp(at, key, strlen(key)) != 0) {
+        at = strchr(at, '\n') + 1;
+    }
+    return at + strlen(key);
+}
+
+/* The error, with the place of a fault in the rule or with the operator or name that failed. */
+static void print_error(const char *script) {
+    const char *error = value("error="), *where = value("where="), *command = value("command=");
+    printf("%.*s in ", (int)strcspn(error, "\n"), error);
+    if (*where != '\n') {
+        floo_position position = floo_position_at((const uint8_t *)script, strlen(script), strtoul(where, NULL, 10));
+        printf("line %zu of the rule, column %zu", position.line - LINES_BEFORE, position.column);
+    } else {
+        printf("%.*s", (int)strcspn(command, "\n"), command);
     }
 }
 
-static void scan(const char *label) {
+static void scan(const char *label, const char *rule) {
     static char space[4096];
-    const char *script = write_script(label, space, sizeof space);
+    const char *script = write_script(label, rule, space, sizeof space);
     if (script == NULL) {
         printf("no line: the label is too long\n");
         return;
@@ -84,9 +99,7 @@ static void scan(const char *label) {
         fwrite(log_bytes, 1, reply.log, stdout);
     } else {
         printf("no line: ");
-        print_value("error=", reply.outcome);
-        printf(" in ");
-        print_value("command=", reply.outcome);
+        print_error(script);
         printf(" after %u steps\n", reply.steps);
     }
 }
@@ -95,12 +108,13 @@ int main(int argc, char **argv) {
     static const char *const labels[] = {"0417:rack B-7:1731690000", "0388:drawer \"12\":1731690412", "0417"};
     if (argc > 1) {
         for (int i = 1; i < argc; i++) {
-            scan(argv[i]);
+            scan(argv[i], rule);
         }
         return 0;
     }
     for (size_t i = 0; i < sizeof labels / sizeof labels[0]; i++) {
-        scan(labels[i]);
+        scan(labels[i], rule);
     }
+    scan(labels[0], slip);
     return 0;
 }

@@ -18,7 +18,7 @@ mod shown;
 
 use floo_reference::setup::PREDEFINED_NAMES;
 use floo_reference::value::Object;
-use floo_reference::{run, Answer, Machine, Ran, Sizes};
+use floo_reference::{run, Answer, Ending, Fault, Machine, Ran, Sizes};
 use lent::Lent;
 use random::Random;
 use shown::Shown;
@@ -38,6 +38,8 @@ pub struct Tally {
     pub least: [usize; 3],
     /// Runs in which a `for` ends on a number above 32 bits, and on one below.
     pub loops_past: [usize; 2],
+    /// Runs that each fault of a token ends, in the order of `fault_number`, outside braces and in a brace group.
+    pub misread: [[usize; 2]; 6],
     pub readings: Readings,
     pub scans: Scans,
 }
@@ -83,8 +85,8 @@ fn compare_run(script: &[u8], random: &mut Random, tally: &mut Tally) -> Result<
         Answer::Run(Ran {
             log,
             outcome,
+            ending,
             mut machine,
-            ..
         }) => {
             tally.steps += machine.steps;
             if reply.refused != 0 {
@@ -98,6 +100,10 @@ fn compare_run(script: &[u8], random: &mut Random, tally: &mut Tally) -> Result<
             tally.circled += shown.circled;
             let in_string = |object: &Object| matches!(object, Object::String(bytes) if has_least(bytes));
             let least = [has_least(&log), machine.store.iter().any(in_string), has_least(&outcome)];
+            if let Ending::Misread(fault) = ending {
+                let in_group = script[machine.at] == b'{';
+                tally.misread[fault_number(fault)][usize::from(in_group)] += 1;
+            }
             for (count, loops) in tally.loops_past.iter_mut().zip(machine.loops_past) {
                 *count += usize::from(loops > 0);
             }
@@ -120,6 +126,18 @@ fn check_left(lent: &Lent, before: &Lent, counts: [usize; 2], texts: [&[u8]; 2],
 fn has_least(text: &[u8]) -> bool {
     const LEAST: &[u8] = b"-2147483648";
     text.windows(LEAST.len()).any(|part| part == LEAST)
+}
+
+/// In the order of the change request, and limitcheck after them.
+fn fault_number(fault: Fault) -> usize {
+    match fault {
+        Fault::Badnumber(_) => 0,
+        Fault::Badescape(_) => 1,
+        Fault::Openstring(_) => 2,
+        Fault::Badbrace(_) => 3,
+        Fault::Badbyte(_) => 4,
+        Fault::Limitcheck => 5,
+    }
 }
 
 fn fuel(random: &mut Random) -> u32 {

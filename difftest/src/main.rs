@@ -2,7 +2,7 @@
 
 use std::process::ExitCode;
 
-use floo_difftest::{compare_all, Scans};
+use floo_difftest::{compare_all, Readings, Scans};
 
 fn main() -> ExitCode {
     let numbers: Vec<u64> = std::env::args().skip(1).filter_map(|word| word.parse().ok()).collect();
@@ -20,17 +20,8 @@ fn main() -> ExitCode {
             let [above, below] = tally.loops_past;
             println!("{above} runs with a loop that ends above 32 bits, {below} with one that ends below");
             println!("the least number written into {log} logs, by {string} runs into strings, into {outcome} outcomes");
-            let read = tally.readings;
-            let [integers, strings, literal, executable, open, close, ends] = read.kinds;
-            println!(
-                "{} tokens: {integers} integers, {strings} strings, {literal} literal names, {executable} executable names, {open} open braces, \
-                 {close} close braces, {ends} ends, {} syntaxerror, {} limitcheck, {} refused with 1, {} with 10: no difference",
-                read.total(),
-                read.syntaxerrors,
-                read.limitchecks,
-                read.too_long,
-                read.past_end
-            );
+            print_misread(tally.misread);
+            print_readings(&tally.readings);
             print_scans(&tally.scans);
             ExitCode::SUCCESS
         }
@@ -39,6 +30,29 @@ fn main() -> ExitCode {
             ExitCode::FAILURE
         }
     }
+}
+
+fn print_misread(misread: [[usize; 2]; 6]) {
+    let [badnumber, badescape, openstring, badbrace, badbyte, limitcheck] = misread.map(|[outside, inside]| format!("{outside} and {inside}"));
+    println!(
+        "runs that a token ends, outside braces and in a group: badnumber {badnumber}, badescape {badescape}, openstring {openstring}, \
+         badbrace {badbrace} (stray and unclosed), badbyte {badbyte}, limitcheck {limitcheck}"
+    );
+}
+
+fn print_readings(read: &Readings) {
+    let [integers, strings, literal, executable, open, close, ends] = read.kinds;
+    let [badnumber, badescape, openstring, _, badbyte] = read.faults;
+    println!(
+        "{} tokens: {integers} integers, {strings} strings, {literal} literal names, {executable} executable names, {open} open braces, \
+         {close} close braces, {ends} ends, {badnumber} badnumber, {badescape} badescape, {openstring} openstring, {badbyte} badbyte \
+         ({} of these where the script ended first), {} limitcheck, {} refused with 1, {} with 10: no difference",
+        read.total(),
+        read.faults_at_end,
+        read.limitchecks,
+        read.too_long,
+        read.past_end
+    );
 }
 
 fn print_scans(scans: &Scans) {

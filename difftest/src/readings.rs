@@ -1,9 +1,8 @@
-//! The token reading at every offset of a script, by the exported function and by the reference interpreter: the refusal, the fault or the kind, the offset
-//! after, and the part, which is the script's own bytes at one place.
+//! The token reading at every offset of a script, by the exported function and by the reference interpreter: the refusal, the fault with its place or the kind,
+//! the offset after, and the part, which is the script's own bytes at one place.
 
 use floo::{token, token_reply, TokenError, TokenReply};
-use floo_reference::error::Error;
-use floo_reference::{read_token, Kind, Reading, TokenAnswer};
+use floo_reference::{read_token, Fault, Kind, Reading, TokenAnswer};
 
 use crate::random::Random;
 
@@ -21,14 +20,19 @@ const NUMBERS: &[&str] = &[
     "00000000000000000000000000000000001",
 ];
 
-const ESCAPES: &[&str] = &["\\n", "\\\"", "\\101", "\\377", "\\400", "\\\r\n", "\\\r", "\\\n", "\\\\", "\\q"];
+const ESCAPES: &[&str] = &[
+    "\\n", "\\\"", "\\101", "\\377", "\\400", "\\7", "\\3", "\\38", "\\01", "\\018", "\\\r\n", "\\\r", "\\\n", "\\\\", "\\q",
+];
 
 /// How often each answer was given, by both.
 #[derive(Clone, Copy, Default)]
 pub struct Readings {
     /// By the number of the kind, less 1.
     pub kinds: [usize; 7],
-    pub syntaxerrors: usize,
+    /// By the number of the fault, less 13: badnumber, badescape, openstring, badbrace, which is the runner's alone, and badbyte.
+    pub faults: [usize; 5],
+    /// Of these, the ones whose place is the script's length: it ended first.
+    pub faults_at_end: usize,
     pub limitchecks: usize,
     pub too_long: usize,
     pub past_end: usize,
@@ -36,7 +40,9 @@ pub struct Readings {
 
 impl Readings {
     pub fn total(&self) -> usize {
-        self.kinds.iter().sum::<usize>() + self.syntaxerrors + self.limitchecks + self.too_long + self.past_end
+        let tokens: usize = self.kinds.iter().sum();
+        let faults: usize = self.faults.iter().sum();
+        tokens + faults + self.limitchecks + self.too_long + self.past_end
     }
 }
 
@@ -95,35 +101,70 @@ fn compare_at(script: &[u8], offset: usize, tally: &mut Readings) -> Result<(), 
     }
     match expected.answer {
         TokenAnswer::Kind(_) => tally.kinds[reply.kind as usize - 1] += 1,
-        TokenAnswer::Fault(Error::Limitcheck) => tally.limitchecks += 1,
-        TokenAnswer::Fault(_) => tally.syntaxerrors += 1,
+        TokenAnswer::Fault(fault) => match place_of(fault) {
+            None => tally.limitchecks += 1,
+            Some((number, place)) => {
+                tally.faults[number as usize - FIRST_PLACED as usize] += 1;
+                tally.faults_at_end += usize::from(place == script.len());
+            }
+        },
         TokenAnswer::Refused(1) => tally.too_long += 1,
         TokenAnswer::Refused(_) => tally.past_end += 1,
     }
     Ok(())
 }
 
-/// The numbers, the offset after and the part, and the same by the Rust crate's own function.
+/// The numbers, the place, the offset after and the part, and the same by the Rust crate's own function.
 fn agrees(script: &[u8], offset: usize, expected: &Reading<'_>, reply: &TokenReply) -> bool {
+    // the refusal, the fault, the kind and the place
     let numbers = match expected.answer {
-        TokenAnswer::Refused(number) => (number.into(), 0, 0),
-        TokenAnswer::Fault(Error::Syntaxerror) => (0, 1, 0),
-        TokenAnswer::Fault(Error::Limitcheck) => (0, 2, 0),
-        TokenAnswer::Fault(_) => return false,
-        TokenAnswer::Kind(kind) => (0, 0, number(kind)),
+        TokenAnswer::Refused(number) => (number.into(), 0, 0, 0),
+        TokenAnswer::Fault(fault) => match place_of(fault) {
+            None => (0, LIMITCHECK, 0, 0),
+            Some((number, place)) => (0, number, 0, place),
+        },
+        TokenAnswer::Kind(kind) => (0, 0, number(kind), 0),
     };
     let own = match token(script, offset) {
         Ok(read) => {
-            read.next == expected.next && is_part(read.part, expected.part) && numbers == (0, 0, read.kind as u32)
+            read.next == expected.next && is_part(read.part, expected.part) && numbers == (0, 0, read.kind as u32, 0)
         }
-        Err(TokenError::Refused(refusal)) => numbers == (refusal.number(), 0, 0),
-        Err(TokenError::SyntaxError) => numbers == (0, 1, 0),
-        Err(TokenError::LimitCheck) => numbers == (0, 2, 0),
+        Err(TokenError::Refused(refusal)) => numbers == (refusal.number(), 0, 0, 0),
+        Err(error) => expected.answer == TokenAnswer::Fault(to_reference(error)),
     };
     let part = script.get(reply.start..).and_then(|rest| rest.get(..reply.size));
-    own && numbers == (reply.refused, reply.fault, reply.kind)
+    own && numbers == (reply.refused, reply.fault, reply.kind, reply.place as usize)
         && reply.next == expected.next
         && part.is_some_and(|part| is_part(part, expected.part))
+}
+
+const LIMITCHECK: u32 = 2;
+
+/// The faults that have a place are numbered from here on.
+const FIRST_PLACED: u32 = 13;
+
+/// The number of a fault and its place, but for limitcheck.
+fn place_of(fault: Fault) -> Option<(u32, usize)> {
+    match fault {
+        Fault::Badnumber(place) => Some((FIRST_PLACED, place)),
+        Fault::Badescape(place) => Some((FIRST_PLACED + 1, place)),
+        Fault::Openstring(place) => Some((FIRST_PLACED + 2, place)),
+        Fault::Badbrace(place) => Some((FIRST_PLACED + 3, place)),
+        Fault::Badbyte(place) => Some((FIRST_PLACED + 4, place)),
+        Fault::Limitcheck => None,
+    }
+}
+
+/// The fault that the Rust crate tells.
+fn to_reference(error: TokenError) -> Fault {
+    match error {
+        TokenError::BadNumber(place) => Fault::Badnumber(place),
+        TokenError::BadEscape(place) => Fault::Badescape(place),
+        TokenError::OpenString(place) => Fault::Openstring(place),
+        TokenError::BadByte(place) => Fault::Badbyte(place),
+        TokenError::LimitCheck => Fault::Limitcheck,
+        other => unreachable!("{other} is no fault"),
+    }
 }
 
 /// The same bytes of the script, not equal ones. An empty part is anywhere.

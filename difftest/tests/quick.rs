@@ -11,6 +11,7 @@ fn runs_readings_and_scans_agree_with_the_reference() {
     assert!(tally.circled > 500, "{} in circles alone", tally.circled);
     assert!(tally.least.iter().all(|&count| count > 100), "{:?} with the least number in log, string, outcome", tally.least);
     assert!(tally.loops_past.iter().all(|&count| count > 100), "{:?} runs with a loop that ends above and below 32 bits", tally.loops_past);
+    assert!(tally.misread.iter().flatten().all(|&count| count > 25), "{:?} runs ended by each fault, outside braces and in a group", tally.misread);
     let scans = &tally.scans;
     assert_eq!(scans.total(), 5_000);
     let [refused, malformed, too_long, no_slot, no_cells, not_finished, bad_stack, late, no_room, replaced, added] = scans.answers;
@@ -29,7 +30,10 @@ fn runs_readings_and_scans_agree_with_the_reference() {
     let read = tally.readings;
     assert!(read.total() > 2_000_000, "{} tokens", read.total());
     assert!(read.kinds.iter().all(|&count| count > 20_000), "{:?} of each kind", read.kinds);
-    assert!(read.syntaxerrors > 100_000, "{} syntaxerror", read.syntaxerrors);
+    let [badnumber, badescape, openstring, badbrace, badbyte] = read.faults;
+    let least = badnumber.min(badescape).min(openstring).min(badbyte);
+    assert!(least > 5_000 && badbrace == 0, "{:?} of each fault", read.faults);
+    assert!(read.faults_at_end > 300, "{} faults where the script ended first", read.faults_at_end);
     assert!(read.limitchecks > 50_000, "{} limitcheck", read.limitchecks);
     assert!(read.too_long > 500, "{} refused with 1", read.too_long);
     assert!(read.past_end > 20_000, "{} refused with 10", read.past_end);

@@ -1,8 +1,8 @@
-//! The twelve errors that can end a run.
+//! The eleven errors of a step that has read its token, if it takes one. What can be wrong with
+//! a token itself is a `Fault` (token.rs).
 
 #[derive(Clone, Copy, Debug, PartialEq, Eq)]
 pub enum Error {
-    Syntaxerror,
     Undefined,
     Stackunderflow,
     Typecheck,
@@ -19,7 +19,6 @@ pub enum Error {
 impl Error {
     pub fn name(self) -> &'static str {
         match self {
-            Error::Syntaxerror => "syntaxerror",
             Error::Undefined => "undefined",
             Error::Stackunderflow => "stackunderflow",
             Error::Typecheck => "typecheck",

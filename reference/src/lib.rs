@@ -23,7 +23,7 @@ pub mod value;
 pub use machine::Machine;
 pub use run::Ending;
 pub use setup::Sizes;
-pub use token::{read_token, Kind, Reading, TokenAnswer};
+pub use token::{read_token, Fault, Kind, Reading, TokenAnswer};
 
 /// The answer to a script: the number of a refusal, or a run.
 pub enum Answer {

@@ -142,17 +142,23 @@ pub fn cvs(machine: &Machine, value: Value) -> Vec<u8> {
 
 /// The outcome's lines in their order (01, Outcome).
 pub fn outcome(machine: &mut Machine, ending: &Ending) -> Vec<u8> {
+    let place = match ending {
+        Ending::Misread(fault) => fault.place(),
+        _ => None,
+    };
+    let place = place.map_or(String::new(), |place| place.to_string());
     let (ending, error, command) = match ending {
         Ending::Finished => ("finished", "none", &[][..]),
         Ending::Stopped => ("stopped", "none", &[][..]),
         Ending::Error { error, command } => ("error", error.name(), &command[..]),
+        Ending::Misread(fault) => ("error", fault.name(), &[][..]),
         Ending::Fuel => ("fuel", "none", &[][..]),
     };
     let mut text = format!("ending={ending}\nerror={error}\ncommand=").into_bytes();
     text.extend(escaped_name(command));
     let held = machine.held_cells();
     let numbers = format!(
-        "\nat={}\nsteps={}\ndepth={}\nheld={}\nlog={}\n",
+        "\nat={}\nwhere={place}\nsteps={}\ndepth={}\nheld={}\nlog={}\n",
         machine.at,
         machine.steps,
         machine.stack.len(),
@@ -191,7 +197,10 @@ fn item(machine: &Machine, value: Value) -> Vec<u8> {
 pub fn token_line(reading: Reading) -> Vec<u8> {
     let mut line = match reading.answer {
         TokenAnswer::Refused(number) => format!("refused={number}").into_bytes(),
-        TokenAnswer::Fault(error) => error.name().as_bytes().to_vec(),
+        TokenAnswer::Fault(fault) => match fault.place() {
+            Some(place) => format!("{} {place}", fault.name()).into_bytes(),
+            None => fault.name().as_bytes().to_vec(),
+        },
         TokenAnswer::Kind(kind) => {
             let head = format!("kind={} next={} part=", kind_name(kind), reading.next);
             [head.as_bytes(), reading.part].concat()

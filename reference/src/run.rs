@@ -3,7 +3,7 @@
 use crate::change::Change;
 use crate::error::Error;
 use crate::machine::{Frame, Machine, Repetition};
-use crate::token::{skip_space, token_at, Content};
+use crate::token::{skip_space, token_at, Content, Fault};
 use crate::value::{NameId, Object, Value};
 
 const DEEPEST_BRACES: usize = 16;
@@ -13,7 +13,27 @@ pub enum Ending {
     Finished,
     Stopped,
     Error { error: Error, command: Vec<u8> },
+    /// The step could not read its token.
+    Misread(Fault),
     Fuel,
+}
+
+/// Why a step is the last one.
+enum Failure {
+    Error(Error),
+    Fault(Fault),
+}
+
+impl From<Error> for Failure {
+    fn from(error: Error) -> Failure {
+        Failure::Error(error)
+    }
+}
+
+impl From<Fault> for Failure {
+    fn from(fault: Fault) -> Failure {
+        Failure::Fault(fault)
+    }
 }
 
 /// Takes steps until the run ends. The end of the script is looked for before fuel.
@@ -35,12 +55,17 @@ pub fn run_to_end(machine: &mut Machine, script: &[u8], fuel: u64) -> Ending {
 /// One step; the ending if it is the last one.
 fn step(machine: &mut Machine, script: &[u8]) -> Option<Ending> {
     let mut change = Change::new(machine);
-    let checked = work_out(machine, script, &mut change).and_then(|()| change.fits(machine));
+    let checked = work_out(machine, script, &mut change)
+        .and_then(|()| change.fits(machine).map_err(Failure::Error));
     machine.steps += 1;
     machine.at = change.at;
-    if let Err(error) = checked {
-        let command = change.command;
-        return Some(Ending::Error { error, command });
+    match checked {
+        Err(Failure::Fault(fault)) => return Some(Ending::Misread(fault)),
+        Err(Failure::Error(error)) => {
+            let command = change.command;
+            return Some(Ending::Error { error, command });
+        }
+        Ok(()) => {}
     }
     let stops = change.stops;
     change.apply(machine);
@@ -48,20 +73,20 @@ fn step(machine: &mut Machine, script: &[u8]) -> Option<Ending> {
 }
 
 /// Acts once on the top of the execution stack, which goes unless it enters again.
-fn work_out(machine: &Machine, script: &[u8], change: &mut Change) -> Result<(), Error> {
+fn work_out(machine: &Machine, script: &[u8], change: &mut Change) -> Result<(), Failure> {
     let Some(&top) = machine.frames.last() else {
         return take_token(machine, script, change);
     };
     change.keep -= 1;
     match top {
-        Frame::Pending(object) => execute(machine, object, change),
+        Frame::Pending(object) => Ok(execute(machine, object, change)?),
         Frame::Running { array, position } => {
             let Some(&object) = machine.elements(array).get(position) else {
                 return Ok(());
             };
             let position = position + 1;
             change.enter.push(Frame::Running { array, position });
-            take(machine, object, change)
+            Ok(take(machine, object, change)?)
         }
         Frame::Loop { repetition, body } => {
             if let Some(repetition) = repeat(repetition, change) {
@@ -154,30 +179,33 @@ fn repeat(repetition: Repetition, change: &mut Change) -> Option<Repetition> {
 
 /// "With an empty execution stack the next script token is taken and treated as from a procedure."
 /// Outside braces an unknown executable name is undefined and takes no slot.
-fn take_token(machine: &Machine, script: &[u8], change: &mut Change) -> Result<(), Error> {
+fn take_token(machine: &Machine, script: &[u8], change: &mut Change) -> Result<(), Failure> {
     change.at = skip_space(script, machine.next);
     let token = token_at(script, change.at)?;
     change.next = token.next;
     if let Content::ExecutableName(name) = token.content {
         let Some(known) = machine.find_name(name) else {
             change.command = name.to_vec();
-            return Err(Error::Undefined);
+            return Err(Error::Undefined.into());
         };
-        return execute_name(machine, known, change);
+        return Ok(execute_name(machine, known, change)?);
     }
-    let object = object_of(machine, script, token.content, DEEPEST_BRACES, change)?;
+    let start = change.at;
+    let object = object_of(machine, script, start, token.content, DEEPEST_BRACES, change)?;
     change.push(object);
     Ok(())
 }
 
-/// The object that a token stands for. A brace group is read whole; `depth` more braces may open.
+/// The object that the token at `start` stands for. A brace group is read whole; `depth` more
+/// braces may open.
 fn object_of(
     machine: &Machine,
     script: &[u8],
+    start: usize,
     content: Content,
     depth: usize,
     change: &mut Change,
-) -> Result<Value, Error> {
+) -> Result<Value, Fault> {
     match content {
         Content::Integer(number) => Ok(Value::Integer(number)),
         Content::String(bytes) => Ok(Value::String(change.make(machine, Object::String(bytes)))),
@@ -190,32 +218,35 @@ fn object_of(
             executable: true,
         }),
         Content::OpenBrace => {
-            let depth = depth.checked_sub(1).ok_or(Error::Limitcheck)?;
-            let elements = group(machine, script, depth, change)?;
+            let depth = depth.checked_sub(1).ok_or(Fault::Limitcheck)?;
+            let elements = group(machine, script, start, depth, change)?;
             Ok(Value::Array {
                 id: change.make(machine, Object::Array(elements)),
                 executable: true,
             })
         }
-        // A stray brace, or the script's end in a brace group.
-        Content::CloseBrace | Content::End => Err(Error::Syntaxerror),
+        // A stray brace. At the script's end no token is taken.
+        Content::CloseBrace | Content::End => Err(Fault::Badbrace(start)),
     }
 }
 
-/// The elements up to the matching close brace, its tokens judged left to right.
+/// The elements up to the brace that closes the one at `brace`, the tokens judged left to right.
 fn group(
     machine: &Machine,
     script: &[u8],
+    brace: usize,
     depth: usize,
     change: &mut Change,
-) -> Result<Vec<Value>, Error> {
+) -> Result<Vec<Value>, Fault> {
     let mut elements = Vec::new();
     loop {
-        let token = token_at(script, skip_space(script, change.next))?;
+        let start = skip_space(script, change.next);
+        let token = token_at(script, start)?;
         change.next = token.next;
-        if token.content == Content::CloseBrace {
-            return Ok(elements);
+        match token.content {
+            Content::CloseBrace => return Ok(elements),
+            Content::End => return Err(Fault::Badbrace(brace)),
+            content => elements.push(object_of(machine, script, start, content, depth, change)?),
         }
-        elements.push(object_of(machine, script, token.content, depth, change)?);
     }
 }

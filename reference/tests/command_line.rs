@@ -38,7 +38,7 @@ fn state(script: &str) -> Vec<String> {
 #[test]
 fn the_example_of_the_paper() {
     let output = standard_output(&[], b"#FLOO\n5 /two 2 def two add echo 7\n");
-    let expected = "7\nending=finished\nerror=none\ncommand=\nat=34\nsteps=12\ndepth=1\nheld=0\n\
+    let expected = "7\nending=finished\nerror=none\ncommand=\nat=34\nwhere=\nsteps=12\ndepth=1\nheld=0\n\
                     log=2\nitem=integer:7\n";
     assert_eq!(output, expected);
 }
@@ -79,7 +79,7 @@ fn token_prints_one_reading() {
         "kind=end next=0 part=\n"
     );
     assert_eq!(standard_output(&["--token", "1"], b""), "refused=10\n");
-    assert_eq!(standard_output(&["--token", "0"], b"1x"), "syntaxerror\n");
+    assert_eq!(standard_output(&["--token", "0"], b"1x"), "badnumber 1\n");
     assert_eq!(
         standard_output(&["--token", "0"], b"2147483648"),
         "limitcheck\n"

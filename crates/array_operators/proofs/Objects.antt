@@ -7,6 +7,7 @@ use Prim.Native.Nat.{ℕ, suc, _+_, _-_, _≤_, _<_}
 use native.Mathlib.Omega.{arith}
 use lib.ListN.{length, getD}
 use Rattle.semantics.specs.Values.{Value, integer, boolean, null, mark, operator, name, string, array, elements, text, ok, objectId}
+use Rattle.semantics.specs.ResultLaws.{ok-injective}
 use Rattle.semantics.specs.Machine as Floo
 use Rattle.semantics.specs.Machine.{object, elementsOf, bytesOf}
 use Rattle.semantics.specs.ObjectOperators.{isMark, lengthOf}
@@ -115,9 +116,6 @@ module _ {i : ℕ} {m : Machine} {s c : List ℕ} where
 
 same-id : (v : Value) {j k : ℕ} → objectId v ≡ ok j → objectId v ≡ ok k → j ≡ k
 same-id v p q = ok-injective (sym p ∙ q)
-  where
-    ok-injective : {j k : ℕ} → ok j ≡ ok k → j ≡ k
-    ok-injective e = cc
 
 module _ {i : ℕ} {m : Machine} {s c : List ℕ} {r : ℕ} (deep : i < m .depth) where
   pub string-length : StringItem i m s → CurrentSize i m s c r → ItemLength i m s c r

@@ -11,7 +11,7 @@ use Rattle.store.specs.Rep.{titles}
 use Rattle.ending.specs.declared.Command.{Command}
 use Rattle.ending.specs.declared.Command.the-variants.{Nothing, Operator, Name, Token}
 use Rattle.ending.specs.declared.Ending.{Ending}
-use Rattle.ending.specs.declared.Ending.the-variants.{Finished, Stopped, OutOfFuel, Failed}
+use Rattle.ending.specs.declared.Ending.the-variants.{Finished, Stopped, OutOfFuel, Failed, Misread}
 
 -- The text of a command, given the script and the names by their slots.
 unfoldable pub commandText : List ℕ → List (List ℕ) → Command → List ℕ
@@ -32,9 +32,11 @@ endingOf script names Finished = steps.finished
 endingOf script names Stopped = steps.stopped
 endingOf script names OutOfFuel = steps.outOfFuel
 endingOf script names (Failed e command) = steps.failed e (commandText script names command)
+endingOf script names (Misread f) = steps.misread f
 
 abbrev pub IsEnding : List ℕ → List (List ℕ) → Ending → Type 0
 IsEnding script names Finished = Unit {0}
 IsEnding script names Stopped = Unit {0}
 IsEnding script names OutOfFuel = Unit {0}
 IsEnding script names (Failed e command) = IsCommand script names command
+IsEnding script names (Misread f) = Unit {0}

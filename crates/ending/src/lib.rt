@@ -1,5 +1,6 @@
 // How a run ends, said in numbers and offsets: what a failing step hands on and the outcome writes.
 use semantics::Error;
+use semantics::Fault;
 
 // The operator or executable name whose execution failed: none, an operator by its number, a name by its slot, or a name of the script by its offset and size.
 pub enum Command {
@@ -14,4 +15,5 @@ pub enum Ending {
     Stopped,
     OutOfFuel,
     Failed(Error, Command),
+    Misread(Fault),
 }

@@ -4,10 +4,11 @@ use mathlib.Core.Path.{_≡_, refl, sym, ap, _∙_}
 use mathlib.Core.Bool.{true, false}
 use mathlib.Core.List.{List, [], _∷_, _++_, append-assoc}
 use Prim.Native.Nat.{ℕ, suc}
-use Rattle.semantics.specs.Steps.{Limits, State, goes, fails, step, Run, stopped, outOfFuel, failed, isFinished, finish, run}
+use Rattle.semantics.specs.Steps.{Limits, State, goes, fails, misreads, step, Run, stopped, outOfFuel, failed, misread, isFinished, finish, run}
 use Rattle.semantics.specs.declared.Error.{Error}
+use Rattle.semantics.specs.declared.Fault.{Fault}
 use Rattle.exactness.specs.Traces.{trace}
-use Rattle.exactness.proofs.Tracing.{trace-finished, trace-spent, trace-fails, trace-stops, trace-goes, run-finished, run-spent, run-fails, run-stops, run-goes}
+use Rattle.exactness.proofs.Tracing.{trace-finished, trace-spent, trace-fails, trace-misreads, trace-stops, trace-goes, run-finished, run-spent, run-fails, run-misreads, run-stops, run-goes}
 
 -- The states before have been passed, τ is the present one, and `left` is the fuel that is left.
 pub record Reached (l : Limits) (script : List ℕ) (fuel : ℕ) (σ : State) (before : List State) (left : ℕ) (τ : State) : Type 0 where
@@ -43,6 +44,10 @@ module _ {l : Limits} {script : List ℕ} {fuel : ℕ} {σ : State} {before : Li
     pub over-fails : {e : Error} {c : List ℕ} {υ : State} → step l script τ ≡ fails e c υ
         → Over l script fuel σ ((before ++ (τ ∷ [])) ++ (υ ∷ [])) (record { ending = failed e c; final = υ })
     over-fails s = record { states = passed (trace-fails l script τ n more s); runs = R .runs ∙ run-fails l script τ n more s }
+
+    pub over-misreads : {f : Fault} {υ : State} → step l script τ ≡ misreads f υ
+        → Over l script fuel σ ((before ++ (τ ∷ [])) ++ (υ ∷ [])) (record { ending = misread f; final = υ })
+    over-misreads s = record { states = passed (trace-misreads l script τ n more s); runs = R .runs ∙ run-misreads l script τ n more s }
 
     pub over-stops : {υ : State} → step l script τ ≡ goes υ → υ .machine .stopped ≡ true
         → Over l script fuel σ ((before ++ (τ ∷ [])) ++ (υ ∷ [])) (record { ending = stopped; final = υ })

@@ -7,10 +7,11 @@ use mathlib.Core.List.{List, [], _∷_}
 use Prim.Native.Nat.{ℕ, zero, suc, _+_, _≤_, _<_}
 use native.Mathlib.Omega.{arith}
 use lib.ListN.{length, getD, take}
-use Rattle.semantics.specs.Steps.{Limits, State, Step, goes, fails, step, Run, stopped, outOfFuel, failed, isFinished, finish, goOn, run}
-use Rattle.semantics.specs.RunLaws.{Stepped, went, stuck, step-stepped}
+use Rattle.semantics.specs.Steps.{Limits, State, Step, goes, fails, misreads, step, Run, stopped, outOfFuel, failed, misread, isFinished, finish, goOn, run}
+use Rattle.semantics.specs.RunLaws.{Stepped, went, stuck, unread, step-stepped}
 use Rattle.semantics.specs.ResultLaws.{choose}
 use Rattle.semantics.specs.declared.Error.{Error}
+use Rattle.semantics.specs.declared.Fault.{Fault}
 use Rattle.exactness.specs.Traces.{leaves, traceOn, trace, last}
 
 -- ---- choices
@@ -36,6 +37,7 @@ traceOn-length rest runs h σ (went {τ = τ} k) =
     (τ ∷ []) (rest τ) (record { ending = stopped; final = τ }) (runs τ)
     (omega arith) (omega (arith, h τ))
 traceOn-length rest runs h σ (stuck m n k) = omega arith
+traceOn-length rest runs h σ (unread m n k) = omega arith
 
 -- One more than the steps that are made.
 pub trace-length : (l : Limits) (script : List ℕ) (fuel : ℕ) (σ : State) → length (trace l script fuel σ) + σ .steps ≡ suc (run l script fuel σ .final .steps)
@@ -58,6 +60,7 @@ traceOn-last : (rest : State → List State) (runs : State → Run) → ((d τ :
     → (σ : State) (s : Step) → Agrees (last σ (traceOn rest s)) (goOn runs s .final)
 unfolding traceOn goOn last
 traceOn-last rest runs h σ (fails e c τ) = (refl, refl)
+traceOn-last rest runs h σ (misreads f τ) = (refl, refl)
 traceOn-last rest runs h σ (goes τ) =
     alike (λ (xs : List State) (r : Run). Agrees (last σ xs) (r .final)) (τ .machine .stopped)
     (τ ∷ []) (rest τ) (record { ending = stopped; final = τ }) (runs τ)
@@ -79,6 +82,7 @@ trace-last l script (suc fuel) d σ =
 traceOn-first : (rest : State → List State) (d : State) → ((τ : State) → getD (rest τ) 0 d ≡ τ) → (s : Step) → getD (traceOn rest s) 0 d ≡ leaves s
 unfolding traceOn
 traceOn-first rest d h (fails e c τ) = refl
+traceOn-first rest d h (misreads f τ) = refl
 traceOn-first rest d h (goes τ) = choose (λ (xs : List State). getD xs 0 d ≡ τ) (τ .machine .stopped) (τ ∷ []) (rest τ) (λ t. refl) (λ t. h τ)
 
 -- The first state is the one at the start.
@@ -99,6 +103,7 @@ traceOn-next : (l : Limits) (script : List ℕ) (d : State) (n : ℕ) (rest : St
     → (s : Step) → Next l script d n (traceOn rest s)
 unfolding traceOn
 traceOn-next l script d n rest h (fails e c τ) = one-only l script d n τ
+traceOn-next l script d n rest h (misreads f τ) = one-only l script d n τ
 traceOn-next l script d n rest h (goes τ) =
     choose (Next l script d n) (τ .machine .stopped) (τ ∷ []) (rest τ) (λ t. one-only l script d n τ) (λ t. h τ)
 
@@ -122,6 +127,7 @@ front-one (suc k) σ = refl
 traceOn-take : (k : ℕ) (rest more : State → List State) → ((τ : State) → rest τ ≡ take (suc k) (more τ)) → (s : Step) → traceOn rest s ≡ take (suc k) (traceOn more s)
 unfolding traceOn
 traceOn-take k rest more h (fails e c τ) = front-one k τ
+traceOn-take k rest more h (misreads f τ) = front-one k τ
 traceOn-take k rest more h (goes τ) =
     alike (λ (xs ys : List State). xs ≡ take (suc k) ys) (τ .machine .stopped) (τ ∷ []) (rest τ) (τ ∷ []) (more τ) (front-one k τ) (h τ)
 
@@ -174,6 +180,14 @@ module _ (l : Limits) (script : List ℕ) (σ : State) where
     pub run-fails : {e : Error} {c : List ℕ} {τ : State} → step l script σ ≡ fails e c τ → run l script (suc n) σ ≡ record { ending = failed e c; final = τ }
     unfolding goOn
     run-fails s = run-on ∙ ap (goOn (run l script n)) s
+
+    pub trace-misreads : {f : Fault} {τ : State} → step l script σ ≡ misreads f τ → trace l script (suc n) σ ≡ σ ∷ τ ∷ []
+    unfolding traceOn
+    trace-misreads s = trace-on ∙ ap (λ x. σ ∷ traceOn (trace l script n) x) s
+
+    pub run-misreads : {f : Fault} {τ : State} → step l script σ ≡ misreads f τ → run l script (suc n) σ ≡ record { ending = misread f; final = τ }
+    unfolding goOn
+    run-misreads s = run-on ∙ ap (goOn (run l script n)) s
 
     module _ {τ : State} (s : step l script σ ≡ goes τ) where
       pub trace-stops : τ .machine .stopped ≡ true → trace l script (suc n) σ ≡ σ ∷ τ ∷ []

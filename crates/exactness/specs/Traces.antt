@@ -4,16 +4,18 @@
 use mathlib.Core.Bool.{true, false}
 use mathlib.Core.List.{List, [], _∷_}
 use Prim.Native.Nat.{ℕ, zero, suc}
-use Rattle.semantics.specs.Steps.{Limits, State, Step, goes, fails, step, isFinished}
+use Rattle.semantics.specs.Steps.{Limits, State, Step, goes, fails, misreads, step, isFinished}
 
 -- The state that a step leaves.
 abbrev pub leaves : Step → State
 leaves (goes τ) = τ
 leaves (fails e c τ) = τ
+leaves (misreads f τ) = τ
 
 -- The states from a step on, given those of the rest. The failing or stopping step is the last.
 unfoldable pub traceOn : (State → List State) → Step → List State
 traceOn rest (fails e c τ) = τ ∷ []
+traceOn rest (misreads f τ) = τ ∷ []
 traceOn rest (goes τ) = elim (τ .machine .stopped) [ true ↦ τ ∷ [] | false ↦ rest τ ]
 
 -- The state at the start, then the state after each step that `run` makes.

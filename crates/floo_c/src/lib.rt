@@ -4,9 +4,9 @@ ghost use Prim.Native.Nat.{_+_, _≤_};
 ghost use lib.ListN.{length};
 ghost use Rattle.semantics.specs.Setup as setup;
 ghost use Rattle.floo_c.specs.Reply.{Replies};
-ghost use Rattle.floo_c.specs.TokenReply.{tokenReplyOf, refusalNumber, faultNumber, errorNumber, kindNumber};
+ghost use Rattle.floo_c.specs.TokenReply.{tokenReplyOf, refusalNumber, faultNumber, faultPlace, numberOf, placeOf, kindNumber};
 use runner::Answer;
-use semantics::Error;
+use semantics::Fault;
 use semantics::Kind;
 use token::Located;
 
@@ -19,13 +19,14 @@ pub struct Reply {
     pub outcome: usize,
 }
 
-// The number of the refusal, of the fault or of the token's kind, the other two being 0; the offset after the token, and where in the script its own bytes
-// begin and how many they are. A function for C can hand out no part of a slice.
+// The number of the refusal, of the fault or of the token's kind, the other two being 0; the offset of the first byte that could not be accepted, of a fault that
+// has one; the offset after the token, and where in the script its own bytes begin and how many they are. A function for C can hand out no part of a slice.
 #[repr(C)]
 pub struct TokenReply {
     pub refused: u32,
     pub fault: u32,
     pub kind: u32,
+    pub place: u32,
     pub next: usize,
     pub start: usize,
     pub size: usize,
@@ -80,12 +81,18 @@ pub extern "C" fn floo_token(script: &[u8], offset: usize) -> TokenReply
 {
     let located = token::locate(script, offset);
     let Located::At(kind, next, start, size) = located else {
-        return no_token(refusal_number(located), fault_number(located), offset);
+        return no_token(
+            refusal_number(located),
+            fault_number(located),
+            fault_place(located),
+            offset,
+        );
     };
     TokenReply {
         refused: 0,
         fault: 0,
         kind: kind_number(kind),
+        place: 0,
         next,
         start,
         size,
@@ -93,13 +100,14 @@ pub extern "C" fn floo_token(script: &[u8], offset: usize) -> TokenReply
 }
 
 // A refusal or a fault: the offset after is the one given, and the part is empty.
-fn no_token(refused: u32, fault: u32, offset: usize) -> TokenReply
-    ensures { λ r. ⌜ r ≡ record { refused = refused; fault = fault; kind = 0; next = offset; start = 0; size = 0 } ⌝ }
+fn no_token(refused: u32, fault: u32, place: u32, offset: usize) -> TokenReply
+    ensures { λ r. ⌜ r ≡ record { refused = refused; fault = fault; kind = 0; place = place; next = offset; start = 0; size = 0 } ⌝ }
 {
     TokenReply {
         refused,
         fault,
         kind: 0,
+        place,
         next: offset,
         start: 0,
         size: 0,
@@ -125,28 +133,47 @@ fn fault_number(located: Located) -> u32
     match located {
         Located::TooLong => 0,
         Located::PastEnd => 0,
-        Located::Faulty(e) => error_number(e),
+        Located::Faulty(f) => number_of(f),
         Located::At(_, _, _, _) => 0,
     }
 }
 
-// An error by its number: C has no name for the enum.
-fn error_number(e: Error) -> u32
-    ensures { λ r. ⌜ r ≡ errorNumber e ⌝ }
+// The offset of the first byte that could not be accepted; 0 where there is none.
+fn fault_place(located: Located) -> u32
+    ensures { λ r. ⌜ r ≡ faultPlace located ⌝ }
 {
-    match e {
-        Error::SyntaxError => 1,
-        Error::LimitCheck => 2,
-        Error::Undefined => 3,
-        Error::StackUnderflow => 4,
-        Error::TypeCheck => 5,
-        Error::RangeCheck => 6,
-        Error::UndefinedResult => 7,
-        Error::UnmatchedMark => 8,
-        Error::ExecStackOverflow => 9,
-        Error::StackOverflow => 10,
-        Error::VmError => 11,
-        Error::IoError => 12,
+    match located {
+        Located::TooLong => 0,
+        Located::PastEnd => 0,
+        Located::Faulty(f) => place_of(f),
+        Located::At(_, _, _, _) => 0,
+    }
+}
+
+// A fault by its number: C has no name for the enum.
+fn number_of(f: Fault) -> u32
+    ensures { λ r. ⌜ r ≡ numberOf f ⌝ }
+{
+    match f {
+        Fault::BadNumber(_) => 13,
+        Fault::BadEscape(_) => 14,
+        Fault::OpenString(_) => 15,
+        Fault::BadBrace(_) => 16,
+        Fault::BadByte(_) => 17,
+        Fault::OverLimit => 2,
+    }
+}
+
+fn place_of(f: Fault) -> u32
+    ensures { λ r. ⌜ r ≡ placeOf f ⌝ }
+{
+    match f {
+        Fault::BadNumber(place) => place,
+        Fault::BadEscape(place) => place,
+        Fault::OpenString(place) => place,
+        Fault::BadBrace(place) => place,
+        Fault::BadByte(place) => place,
+        Fault::OverLimit => 0,
     }
 }
 

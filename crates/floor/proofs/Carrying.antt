@@ -11,7 +11,7 @@ use Rattle.semantics.specs.Text.{bytes}
 use Rattle.semantics.specs.Steps.{Run}
 use Rattle.ending.specs.Endings.{endingOf}
 use Rattle.ending.specs.declared.Ending.{Ending}
-use Rattle.ending.specs.declared.Ending.the-variants.{Finished, Stopped, OutOfFuel, Failed}
+use Rattle.ending.specs.declared.Ending.the-variants.{Finished, Stopped, OutOfFuel, Failed, Misread}
 use Rattle.machine.specs.Places.{keys}
 use Rattle.machine.specs.Rep.{Somewhere}
 use Rattle.step.specs.Stepping.{stateOf}
@@ -32,6 +32,7 @@ final-is script names Finished = refl
 final-is script names Stopped = refl
 final-is script names OutOfFuel = refl
 final-is script names (Failed e command) = refl
+final-is script names (Misread f) = refl
 
 module _ {script : List ℕ} {fuel : ℕ} {label s s′ e e′ d d′ c c′ l l′ o o′ : List ℕ} {done : Proceeded}
     (C : Carries script fuel (bytes "label") label s s′ e e′ d d′ c c′ l l′ o o′ done) where

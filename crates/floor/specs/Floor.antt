@@ -10,7 +10,7 @@ use Rattle.semantics.specs.Sizes.{nameCount}
 use Rattle.semantics.specs.Text.{bytes, decimal}
 use Rattle.semantics.specs.Values.{Value, integer, boolean, null, mark, operator, name, string, array, text, current, cells}
 use Rattle.semantics.specs.Machine.{Machine, object, bytesOf}
-use Rattle.semantics.specs.Steps.{State, Ending, finished, stopped, outOfFuel, failed, Run, run, startOf, initial, lending}
+use Rattle.semantics.specs.Steps.{State, Ending, finished, stopped, outOfFuel, failed, misread, Run, run, startOf, initial, lending}
 use Rattle.semantics.specs.Setup.{Lent, limits, refusal}
 use Rattle.book.specs.Books.{Entry, greatest, isPlaceLength, isSound, recordOf, placeOf}
 use Rattle.book.specs.Fates.{fateIn, bookAfter, countAfter}
@@ -111,6 +111,7 @@ isFinal finished = true
 isFinal stopped = false
 isFinal outOfFuel = false
 isFinal (failed e c) = false
+isFinal (misread f) = false
 
 -- ---- the whole scan
 

@@ -9,7 +9,7 @@ use lib.ListN.{length}
 use Rattle.semantics.specs.Machine as Floo
 use Rattle.semantics.specs.Steps.{Run}
 use Rattle.ending.specs.declared.Ending.{Ending}
-use Rattle.ending.specs.declared.Ending.the-variants.{Finished, Stopped, OutOfFuel, Failed}
+use Rattle.ending.specs.declared.Ending.the-variants.{Finished, Stopped, OutOfFuel, Failed, Misread}
 use Rattle.machine.specs.Rep.{Rep}
 use Rattle.machine.specs.declared.Machine.{Machine}
 use Rattle.runner.specs.Promise.{lentOf, whole, RunIs, CarriesOut}
@@ -62,6 +62,7 @@ isFinished Finished = true
 isFinished Stopped = false
 isFinished OutOfFuel = false
 isFinished (Failed e command) = false
+isFinished (Misread f) = false
 
 -- What the stack's items say.
 abbrev pub readOf : Option Entry → Read

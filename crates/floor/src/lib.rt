@@ -304,6 +304,7 @@ fn is_final(ending: Ending) -> bool
         Ending::Stopped => false,
         Ending::OutOfFuel => false,
         Ending::Failed(_, _) => false,
+        Ending::Misread(_) => false,
     }
 }
 

@@ -6,11 +6,11 @@ use mathlib.Core.List.{List, []}
 use Prim.Native.Nat.{ℕ, suc, _+_, _-_, _≤_, _<_}
 use native.Mathlib.Omega.{arith}
 use lib.ListN.{length, take, drop}
-use Rattle.semantics.specs.Tokens.{Token, Lexeme, lex, lexeme}
-use Rattle.semantics.specs.Values.{Result, ok, fault}
+use Rattle.semantics.specs.Tokens.{Lexing, Token, Lexeme, lex, lexeme}
+use Rattle.semantics.specs.Values.{ok, fault}
 use Rattle.semantics.specs.Machine as Floo
 use Rattle.semantics.specs.Groups.{Taken, taken, skip, group}
-use Rattle.semantics.specs.declared.Error.{Error}
+use Rattle.semantics.specs.declared.Fault.{Fault}
 use Rattle.token.specs.Lexing.{Lexes, LexedAt, TokenAt}
 use Rattle.token.specs.declared.Lexed.{Lexed}
 use Rattle.token.specs.declared.Lexed.the-variants as lexed
@@ -25,11 +25,11 @@ use Rattle.group_building.specs.declared.Piece.the-variants as piece
 -- ---- one token
 
 -- A reading by its parts; another token than any where there is none.
-abbrev tokenIn : Result Lexeme → Token
+abbrev tokenIn : Lexing Lexeme → Token
 tokenIn (ok l) = l .token
 tokenIn (fault e) = Token.end
 
-abbrev sizeIn : Result Lexeme → ℕ
+abbrev sizeIn : Lexing Lexeme → ℕ
 sizeIn (ok l) = l .size
 sizeIn (fault e) = 0
 
@@ -58,13 +58,13 @@ module _ {script : List ℕ} {start : ℕ} where
       let e = sym (L .lexes) ∙ K .lexes in
       (ap tokenIn e, omega (arith, L .past, K .past, ap sizeIn e))
 
-  no-fault : {t : Token} {a : ℕ} {e : Error} → Lexes script start t a → lex (drop start script) ≡ fault e → sort t ≡ 3
+  no-fault : {t : Token} {a : ℕ} {e : Fault} → Lexes script start t a → lex start (drop start script) ≡ fault e → sort t ≡ 3
   unfolding lexeme
-  no-fault L h = ap (λ (r : Result Lexeme). sort (tokenIn r)) (sym (L .lexes) ∙ h)
+  no-fault L h = ap (λ (r : Lexing Lexeme). sort (tokenIn r)) (sym (L .lexes) ∙ h)
 
-  no-end : {t : Token} {a : ℕ} → Lexes script start t a → lex (drop start script) ≡ lexeme Token.end 0 → sort t ≡ 3
+  no-end : {t : Token} {a : ℕ} → Lexes script start t a → lex start (drop start script) ≡ lexeme Token.end 0 → sort t ≡ 3
   unfolding lexeme
-  no-end L h = ap (λ (r : Result Lexeme). sort (tokenIn r)) (sym (L .lexes) ∙ h)
+  no-end L h = ap (λ (r : Lexing Lexeme). sort (tokenIn r)) (sym (L .lexes) ∙ h)
 
 -- ---- a group's first token
 
@@ -121,16 +121,16 @@ module _ {script : List ℕ} where
       let z = parsed-one q (subst (λ n. Parsed script (suc d) n (x .2) b) (sym (y .1)) (x .7)) in
       (ap (λ m. inner m ns) (y .0) ∙ ap (λ n. inner (x .1) n) (z .0) ∙ sym (x .5), z .1)
 
-abbrev isTaken : Result Taken → ℕ
+abbrev isTaken : Lexing Taken → ℕ
 isTaken (ok t) = 0
 isTaken (fault e) = 1
 
 -- A group that is there has no fault.
-pub no-faults : {script : List ℕ} {d o after : ℕ} {ns : Nodes} {e : Error} → Parsed script d o ns after → o ≤ length script → Floo.Machine → Faults script d o e → ⊥
+pub no-faults : {script : List ℕ} {d o after : ℕ} {ns : Nodes} {e : Fault} → Parsed script d o ns after → o ≤ length script → Floo.Machine → {brace : ℕ} → Faults script brace d o e → ⊥
 unfolding taken
-no-faults {script} {o = o} p le μ F =
+no-faults {script} {o = o} p le μ {brace} F =
     let enough : length script < o + suc (length script) = omega arith in
-    let z = sym (group-parsed script p le (suc (length script)) 0 [] μ enough) ∙ F .says (suc (length script)) 0 [] μ enough in
+    let z = sym (group-parsed script p le (suc (length script)) 0 brace [] μ enough) ∙ F .says (suc (length script)) 0 [] μ enough in
     omega (arith, ap isTaken z)
 
 -- ---- what is read
@@ -140,11 +140,11 @@ module _ (script : List ℕ) (at start : ℕ) (begins : start ≡ skip script at
   moved : {u : Token} {next : ℕ} → Lexes script start u next → Lexes script (skip script at) u next
   moved {u} {next} l = subst (λ n. Lexes script n u next) begins l
 
-  pub piece-fault : {e : Error} → answer ≡ lexed.Fault e → (n : ℕ) → PieceAt script at (piece.Close n)
+  pub piece-fault : {e : Fault} → answer ≡ lexed.Fault e → (n : ℕ) → PieceAt script at (piece.Close n)
   piece-fault {e} g n =
-      let h : lex (drop start script) ≡ fault e = subst (LexedAt script start) g k in
+      let h : lex start (drop start script) ≡ fault e = subst (LexedAt script start) g k in
       let x = some-token P in
-      absurd (omega (arith, x .3, no-fault (x .2) (subst (λ n. lex (drop n script) ≡ fault e) begins h)))
+      absurd (omega (arith, x .3, no-fault (x .2) (subst (λ n. lex n (drop n script) ≡ fault e) begins h)))
 
   module _ (t : scanned.Token) (next : ℕ) (g : answer ≡ lexed.Token t next) where
     at-token : (u : scanned.Token) → t ≡ u → TokenAt script start next u
@@ -177,4 +177,4 @@ module _ (script : List ℕ) (at start : ℕ) (begins : start ≡ skip script at
     pub piece-end : t ≡ read.End → (n : ℕ) → PieceAt script at (piece.Close n)
     piece-end q n =
         let x = some-token P in
-        absurd (omega (arith, x .3, no-end (x .2) (subst (λ n. lex (drop n script) ≡ lexeme Token.end 0) begins (at-token read.End q .lexes))))
+        absurd (omega (arith, x .3, no-end (x .2) (subst (λ n. lex n (drop n script) ≡ lexeme Token.end 0) begins (at-token read.End q .lexes))))

@@ -13,7 +13,8 @@ use Rattle.semantics.specs.Machine as Floo
 use Rattle.semantics.specs.Machine.{withStore, elementsOf, make, made, change}
 use Rattle.semantics.specs.Groups.{skip}
 use Rattle.semantics.specs.ListLaws.{All, all-take, all-drop}
-use Rattle.semantics.specs.declared.Error.{Error}
+use Rattle.semantics.specs.Sizes.{scriptMost}
+use Rattle.semantics.specs.declared.Fault.{Fault}
 use Rattle.store.specs.Rep.{objectAt, element}
 use Rattle.machine.specs.Rep.{Rep}
 use Rattle.machine.specs.declared.Machine.{Machine}
@@ -45,16 +46,18 @@ unfoldable pub array-at : {s e d l script : List ℕ} {depth h id after : ℕ} {
     → FirstCell cs h (count ns) first
     → Parsed script depth at ns after
     → at ≤ length script
+    → length script ≤ scriptMost
     → Known μ (names ns)
     → wanted ns ≤ freeCells m cs
     → At s e d l script depth h id after m cs at first μ 0 ns
 unfolding elementsOf
-array-at {id = id} {first = first} {μ = μ} {ns = ns} R I is F P inside known room =
+array-at {id = id} {first = first} {μ = μ} {ns = ns} R I is F P inside short known room =
     let all : length (elementsOf (objectAt (μ .store) id)) ≡ count ns = ap (λ (o : Object). length (elementsOf o)) is ∙ length-replicate (count ns) null in
     record {
       rep = R;
       parsed = P;
       inside = inside;
+      short = short;
       array = I;
       cell = λ k e.
           let rank : length (elementsOf (objectAt (μ .store) id)) ≡ 0 + suc k = all ∙ omega (arith, e) in
@@ -122,7 +125,7 @@ module _ {s e d l script : List ℕ} {depth h id after : ℕ} {m : Machine} {cs 
   inner-room = omega (arith, A .room, inner-wanted)
 
   module _ {answer : Judged} (J : JudgedAs script (depth - 1) next answer) where
-    pub never-bad : {x : Error} → answer ≡ Bad x → ⊥
+    pub never-bad : {x : Fault} → answer ≡ Bad x → ⊥
     never-bad u = no-faults parsed-less (L .inside) μ (subst (JudgedAs script (depth - 1) next) u J)
 
     module _ {size wants last : ℕ} (u : answer ≡ Good size wants last) where
@@ -161,7 +164,7 @@ module _ {s e d l script : List ℕ} {depth h id after : ℕ} {m : Machine} {cs 
           subst (λ (ds : List Floo.Slot). All (λ n. slotOf n ds < length ds) (names inner-nodes)) (sym (same-dictionary id q n μ))
           (all-left (names inner-nodes) (names later-nodes) both) in
           let F′ = subst (λ n. FirstCell cs₁ x n first) size-is F in (
-            array-at (X .0) (X .2) (new-array id q n μ low) F′ parsed-less (L .inside) known (omega (arith, free, size-is, A .room, inner-wanted)),
+            array-at (X .0) (X .2) (new-array id q n μ low) F′ parsed-less (L .inside) (A .short) known (omega (arith, free, size-is, A .room, inner-wanted)),
             X .1,
           )
 

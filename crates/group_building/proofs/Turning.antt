@@ -85,6 +85,7 @@ module _ {s e d l script : List ℕ} {depth h id after : ℕ} {m : Machine} {cs 
         rep = R;
         parsed = P;
         inside = inside;
+        short = A .short;
         array = grown-array G extended low (A .array);
         cell = rest-cell;
         long = extended .lengths id low ∙ A .long ∙ omega (arith, some);
@@ -271,7 +272,7 @@ finish {d = d} {m = m} {cs = cs} G L =
 
 module _ {d script : List ℕ} {depth : ℕ} {m₀ : Machine} {cs₀ : List ℕ} {from first : ℕ} {m : Machine} {cs : List ℕ} {at c : ℕ} (G : Going d script depth m₀ cs₀ from first m cs at c) where
   pub readable : Readable script at
-  readable = (depth, G .some .8, G .some .5, G .some .9 .parsed, G .some .9 .inside)
+  readable = (depth, G .some .8, G .some .5, G .some .9 .parsed, G .some .9 .inside, G .some .9 .short)
 
   module _ {answer : Piece} (K : PieceAt script at answer) where
     module _ (u : scanned.Token) (next : ℕ) (g : answer ≡ piece.Leaf u next) where

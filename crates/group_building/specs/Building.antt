@@ -5,7 +5,7 @@ use mathlib.Core.Bool.{Bool, true, false}
 use mathlib.Core.List.{List}
 use Prim.Native.Nat.{ℕ, suc, _+_, _-_, _≤_, _<_}
 use lib.ListN.{length, take, drop}
-use Rattle.semantics.specs.Sizes.{nameMost}
+use Rattle.semantics.specs.Sizes.{nameMost, scriptMost}
 use Rattle.semantics.specs.Tokens.{Token}
 use Rattle.semantics.specs.Values.{integer, null, name, string, array, cells}
 use Rattle.semantics.specs.Machine as Floo
@@ -59,6 +59,7 @@ pub record At (s e d l script : List ℕ) (depth h id after : ℕ) (m : Machine)
   pub rep : Rep m s e d cs l μ
   pub parsed : Parsed script depth at ns after
   pub inside : at ≤ length script
+  pub short : length script ≤ scriptMost
   pub array : IsArray (rep .world) (μ .store) h id
   pub cell : (k : ℕ) → count ns ≡ suc k → ElementAt (rep .world) (μ .store) c h k id q
   pub long : length (elementsOf (objectAt (μ .store) id)) ≡ q + count ns
@@ -83,7 +84,7 @@ pub record Builds (d script : List ℕ) (depth : ℕ) (m : Machine) (cs : List �
 
 -- From an offset on there is a group.
 abbrev pub Readable : List ℕ → ℕ → Type 0
-Readable script at = (depth : ℕ) × (ns : Nodes) × (after : ℕ) × Parsed script depth at ns after × (at ≤ length script)
+Readable script at = (depth : ℕ) × (ns : Nodes) × (after : ℕ) × Parsed script depth at ns after × (at ≤ length script) × (length script ≤ scriptMost)
 
 -- The token that was read is this one of the definition, no brace.
 abbrev pub LeafIs : List ℕ → scanned.Token → Token → Type 0

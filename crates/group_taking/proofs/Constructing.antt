@@ -8,6 +8,7 @@ use Prim.Native.Nat.{ℕ, _+_, _*_, _≤_, _<_}
 use native.Mathlib.Omega.{arith}
 use lib.ListN.{length, getD, set, replicate, length-append, length-replicate}
 use lib.Seq.{getD-append-seam}
+use Rattle.semantics.specs.Sizes.{scriptMost}
 use Rattle.semantics.specs.Values.{Value, null, array, elements}
 use Rattle.semantics.specs.Machine as Floo
 use Rattle.semantics.specs.Machine.{withStack, withStore, push, make, made, elementsOf}
@@ -99,11 +100,11 @@ module _ {m : Machine} {s c : List ℕ} (room : 2 * m .depth + 2 ≤ length s) {
         let long : length (elementsOf (objectAt (blank n μ .store) (made μ))) ≡ n = ap (λ o. length (elementsOf o)) (blank-object μ) ∙ length-replicate n null in
         element-sought (blank-rep (G .rep)) 0 (blank-array (G .rep)) (omega (arith, long, some))
 
-    module _ (inside : from ≤ length script) (free : freeCells q c₂ + (n + 1) ≡ freeCells p c) {first : ℕ} (F : FirstCell c₂ (header s₂ (m .depth)) n first) where
+    module _ (inside : from ≤ length script) (short : length script ≤ scriptMost) (free : freeCells q c₂ + (n + 1) ≡ freeCells p c) {first : ℕ} (F : FirstCell c₂ (header s₂ (m .depth)) n first) where
       at-group : At (set s₂ (2 * m .depth) 10) e d l script 15 (header s₂ (m .depth)) (made μ) after q c₂ from first (blank n μ) 0 ns
       unfolding retagged arrayMade push make withStack withStore
       at-group =
-          array-at (blank-rep (G .rep)) (blank-array (G .rep)) (blank-object μ ∙ ap (λ k. elements (replicate k null)) size) (subst (λ k. FirstCell c₂ (header s₂ (m .depth)) k first) size F) (G .parsed) inside
+          array-at (blank-rep (G .rep)) (blank-array (G .rep)) (blank-object μ ∙ ap (λ k. elements (replicate k null)) size) (subst (λ k. FirstCell c₂ (header s₂ (m .depth)) k first) size F) (G .parsed) inside short
           (G .known) (omega (arith, free, words-free c W, G .cells, size))
 
       pub ready-group : Ready d script 15 q c₂ from first
@@ -118,7 +119,7 @@ module _ {m : Machine} {s c : List ℕ} (room : 2 * m .depth + 2 ≤ length s) {
 -- ---- what is returned
 
 module _ {m : Machine} {s c : List ℕ} (room : 2 * m .depth + 2 ≤ length s) {p : Machine} {s₁ : List ℕ} (W : PushesWords 0 0 m p s s₁) (n : ℕ) {q : Machine} {s₂ c₂ : List ℕ}
-    (A : MovesHeap (arrayMade 0 n) p q s₁ s₂ c c₂) (deep : q .depth ≡ p .depth) (free : freeCells q c₂ + (n + 1) ≡ freeCells p c) {script : List ℕ} {from : ℕ} (inside : from ≤ length script) where
+    (A : MovesHeap (arrayMade 0 n) p q s₁ s₂ c c₂) (deep : q .depth ≡ p .depth) (free : freeCells q c₂ + (n + 1) ≡ freeCells p c) {script : List ℕ} {from : ℕ} (inside : from ≤ length script) (short : length script ≤ scriptMost) where
   pub constructed : {e d l : List ℕ} {μ : Floo.Machine} {ns : Nodes} {after : ℕ}
       → Roomy script from m s e d c l μ ns after
       → n ≡ count ns
@@ -129,5 +130,5 @@ module _ {m : Machine} {s c : List ℕ} (room : 2 * m .depth + 2 ≤ length s) {
       → ConstructsGroup script from m r s (set s₂ (2 * m .depth) 10) d c c₃
   constructed G size F B =
       record {
-        constructs = λ H. group-rep room W n A deep H (size ∙ ap count (parsed-one (G .parsed) (H .parsed) .0)) inside free F B;
+        constructs = λ H. group-rep room W n A deep H (size ∙ ap count (parsed-one (G .parsed) (H .parsed) .0)) inside short free F B;
       }

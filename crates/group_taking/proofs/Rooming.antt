@@ -6,12 +6,13 @@ use mathlib.Core.List.{List, [], _∷_, _++_}
 use Prim.Native.Nat.{ℕ, suc, _+_, _-_, _*_, _/_, _≤_, _<_}
 use native.Mathlib.Omega.{arith}
 use lib.ListN.{length}
-use Rattle.semantics.specs.Values.{Object, ok, fault, _>>=_, array, elements, cells}
+use Rattle.semantics.specs.Values.{Object, fault, array, elements, cells}
 use Rattle.semantics.specs.Machine as Floo
 use Rattle.semantics.specs.Machine.{withStack, withStore, withDictionary, push, make, made, change}
+use Rattle.semantics.specs.Sizes.{scriptMost}
 use Rattle.semantics.specs.Groups.{taken, group, opened}
 use Rattle.semantics.specs.Held.{sumOf}
-use Rattle.semantics.specs.Steps.{Limits, roomFor, silent, commandOf, isProcedure, treat, tokenMove}
+use Rattle.semantics.specs.declared.Fault.{Fault}
 use Rattle.semantics.specs.declared.Error.{Error}
 use Rattle.semantics.specs.declared.Error.the-variants.{LimitCheck, StackOverflow, VmError}
 use Rattle.machine.specs.Rep.{Rep}
@@ -33,29 +34,25 @@ use Rattle.taking.specs.declared.Named.{Named}
 use Rattle.taking.specs.declared.Named.the-variants as named
 use Rattle.taking.proofs.Flattening.{parsed-flat}
 use Rattle.group_building.proofs.Planting.{planted-group}
-use Rattle.group_taking.specs.Taking.{groupRead, groupTaken, Roomy, ReadyGroup, ConstructsGroup, TakesGroup}
-use Rattle.group_taking.specs.declared.Grouped.the-variants.{Done, Fail}
+use Rattle.group_taking.specs.Taking.{groupRead, Roomy, ReadyGroup, ConstructsGroup, TakesGroup}
+use Rattle.group_taking.specs.declared.Grouped.the-variants.{Done, Fail, Misread}
 
 -- ---- a fault
 
 pub group-fault : {script : List ℕ} {from : ℕ} {answer : Judged}
     → JudgedAs script 15 from answer
-    → {x : Error}
+    → {x : Fault}
     → answer ≡ Bad x
     → 1 ≤ from
-    → {r : Error}
+    → {r : Fault}
     → r ≡ faultOf answer
     → {m : Machine} {s d c : List ℕ}
-    → TakesGroup script from m s s d d c c (Fail r)
-unfolding groupTaken groupRead tokenMove silent _>>=_
+    → TakesGroup script from m s s d d c c (Misread m r)
+unfolding groupRead
 group-fault {script} {from} J u first {r} e {m} {s} {d} {c} =
     let F = subst (JudgedAs script 15 from) u J in
-    subst (λ y. TakesGroup script from m s s d d c c (Fail y)) (sym (e ∙ ap faultOf u))
-    (record {
-      takes = λ e l μ R.
-          let z = F .says (length script) (made μ) [] (opened μ) (omega (arith, first)) in
-          (ap (λ q. tokenMove q .result >>= roomFor (lent s e d c l) μ) z, ap (λ q. tokenMove q .command) z, refl, refl, R);
-    })
+    subst (λ y. TakesGroup script from m s s d d c c (Misread m y)) (sym (e ∙ ap faultOf u))
+    (record { takes = λ e l μ R. (F .says (length script) (made μ) [] (opened μ) (omega (arith, first)), refl, refl, R) })
 
 -- What a good answer says.
 pub judged-good : {script : List ℕ} {from : ℕ} {answer : Judged}
@@ -85,16 +82,7 @@ store-is ns μ = nested-store ns μ
 module _ {script : List ℕ} {from : ℕ} (first : 1 ≤ from) (inside : from ≤ length script) {ns : Nodes} {after : ℕ} (P : Parsed script 15 from ns after) where
   read-is : (μ : Floo.Machine) → groupRead script from μ ≡ taken (array true (made μ)) (nested ns μ) after
   unfolding groupRead
-  read-is μ = group-parsed script P inside (length script) (made μ) [] (opened μ) (omega (arith, first))
-
-  taken-is : (limits : Limits) (μ : Floo.Machine) → groupTaken limits script from μ ≡ roomFor limits μ (procedure ns μ)
-  unfolding groupTaken taken tokenMove treat isProcedure _>>=_
-  taken-is limits μ = ap (λ q. tokenMove q .result >>= roomFor limits μ) (read-is μ)
-
-  -- A group executes nothing.
-  quiet : (μ : Floo.Machine) → tokenMove (groupRead script from μ) .command ≡ []
-  unfolding taken tokenMove commandOf
-  quiet μ = ap (λ q. tokenMove q .command) (read-is μ)
+  read-is μ = group-parsed script P inside (length script) (made μ) (from - 1) [] (opened μ) (omega (arith, first))
 
   -- ---- the names
 
@@ -111,7 +99,7 @@ module _ {script : List ℕ} {from : ℕ} (first : 1 ≤ from) (inside : from �
       takes = λ e l μ R.
           let full = subst (NamedAs (names ns) m s e d d′ c l μ) u (named-as R) in
           let same : LimitCheck ≡ y = sym (q ∙ ap faultIn u ∙ full .0) in
-          (taken-is (lent s e d c l) μ ∙ room-slots (lent s e d c l) μ (procedure ns μ) (full .1) ∙ ap fault same, quiet μ, refl, refl, stays R);
+          (nested ns μ, after, read-is μ, room-slots (lent s e d c l) μ (procedure ns μ) (full .1) ∙ ap fault same, refl, refl, stays R);
     }
 
     module _ {q : Machine} (u : r ≡ named.Done q) where
@@ -127,7 +115,7 @@ module _ {script : List ℕ} {from : ℕ} (first : 1 ≤ from) (inside : from �
       group-over {s} {c} over = record {
         takes = λ e l μ R.
             let deep : length s / 2 < length (procedure ns μ .stack) = omega (arith, items-length (R .items), over) in
-            (taken-is (lent s e d c l) μ ∙ room-stack (lent s e d c l) μ (procedure ns μ) (names-fit R) (exec-fits R) deep, quiet μ, refl, refl, stays R);
+            (nested ns μ, after, read-is μ, room-stack (lent s e d c l) μ (procedure ns μ) (names-fit R) (exec-fits R) deep, refl, refl, stays R);
       }
 
       module _ {s c : List ℕ} (room : 2 * m .depth + 2 ≤ length s) where
@@ -140,7 +128,7 @@ module _ {script : List ℕ} {from : ℕ} (first : 1 ≤ from) (inside : from �
         group-none few = record {
           takes = λ e l μ R.
               let many : freeCells m c < sumOf cells (group-news ns μ) = omega (arith, few, group-cells ns μ) in
-              (taken-is (lent s e d c l) μ ∙ room-none R (procedure ns μ) (group-news ns μ) (store-is ns μ) (names-fit R) (exec-fits R) (stack-fit R) many, quiet μ, refl, refl, stays R);
+              (nested ns μ, after, read-is μ, room-none R (procedure ns μ) (group-news ns μ) (store-is ns μ) (names-fit R) (exec-fits R) (stack-fit R) many, refl, refl, stays R);
         }
 
         module _ (enough : count ns + 1 + wanted ns ≤ freeCells m c) where
@@ -156,8 +144,8 @@ module _ {script : List ℕ} {from : ℕ} (first : 1 ≤ from) (inside : from �
                 cells = subst (λ x. count ns + 1 + wanted ns ≤ x) (ap (λ x. x .listed + (length c / 4 - x .edge)) (sym (D .2 .lists))) enough;
               }
 
-          pub group-ready : {size : ℕ} → size ≡ count ns → size ≤ 32768 → (e : List ℕ) × (l : List ℕ) × (μ : Floo.Machine) × Rep m s e d c l μ → ReadyGroup script from size q s d′ c
-          group-ready is low (e, l, μ, R) = (inside, low, (e, l, withNames (names ns) μ, ns, after, roomy R, is))
+          pub group-ready : {size : ℕ} → length script ≤ scriptMost → size ≡ count ns → size ≤ 32768 → (e : List ℕ) × (l : List ℕ) × (μ : Floo.Machine) × Rep m s e d c l μ → ReadyGroup script from size q s d′ c
+          group-ready short is low (e, l, μ, R) = (inside, short, low, (e, l, withNames (names ns) μ, ns, after, roomy R, is))
 
           pub group-done : after ≤ length script → {r : Machine} {s′ c′ : List ℕ} → ConstructsGroup script from q r s s′ d′ c c′ → TakesGroup script from m s s′ d d′ c c′ (Done r after)
           unfolding made push withStack filled grown change opened make withStore withDictionary
@@ -167,7 +155,7 @@ module _ {script : List ℕ} {from : ℕ} (first : 1 ≤ from) (inside : from �
                 let log : length (procedure ns μ .log) ≤ length l = log-same l μ (log-fits R) in (
                   nested ns μ,
                   read-is μ,
-                  taken-is (lent s e d c l) μ ∙ room-made R (procedure ns μ) (group-news ns μ) (store-is ns μ) (names-fit R) (exec-fits R) (stack-fit R) few log,
+                  room-made R (procedure ns μ) (group-news ns μ) (store-is ns μ) (names-fit R) (exec-fits R) (stack-fit R) few log,
                   subst (λ ν. Rep r s′ e d′ c′ l (push (array true (made μ)) ν)) (planted-group ns μ) (C .constructs (roomy R)),
                   low,
                 );

@@ -7,13 +7,16 @@ use machine::Machine;
 use machine::TAG_NULL;
 use machine::TAG_PROCEDURE;
 use semantics::Error;
+use semantics::Fault;
 use semantics::STACK_WIDTH;
 use taking::Named;
 
-// What taking a group came to: the machine and the offset after the group, or the error.
+// What taking a group came to: the machine and the offset after the group; the error; or the machine as it was, and what is wrong with the group's text. The last
+// has the machine where the first has it, so that the compiler keeps its words whole.
 pub enum Grouped {
     Done(Machine, usize),
     Fail(Error),
+    Misread(Machine, Fault),
 }
 
 // The group whose opening brace is before `from` is pushed. Braces nest at most 16 deep, so 15 levels are left inside.
@@ -31,7 +34,7 @@ pub fn take_group(
 {
     let judged = groups::judge(script, from, 15);
     let Judged::Good(size, wants, after) = judged else {
-        return Grouped::Fail(groups::fault_of(judged));
+        return Grouped::Misread(m, groups::fault_of(judged));
     };
     let named = taking::add_names(m, dict, script, from, after);
     let Named::Done(with) = named else {

@@ -6,16 +6,16 @@ use mathlib.Core.List.{List, [], _∷_}
 use Prim.Native.Nat.{ℕ, zero, suc, _+_, _-_, _/_, _≤_, _<_}
 use native.Mathlib.Omega.{arith}
 use lib.ListN.{length, drop}
-use Rattle.semantics.specs.Tokens.{Met, nothing, Act, byte, go, close, bad, act, Quoted, quotedOn, quoted, Token, lex, lexeme}
-use Rattle.semantics.specs.Values.{Value, Result, ok, fault, _>>=_, cells}
+use Rattle.semantics.specs.Tokens.{Lexing, Met, nothing, Act, byte, go, close, cut, bad, act, Quoted, quotedOn, quoted, Token, lex, lexeme}
+use Rattle.semantics.specs.Values.{Value, Attempt, ok, fault, _>>=_, cells}
 use Rattle.semantics.specs.Machine.{Machine, made}
 use Rattle.semantics.specs.Held.{sumOf}
 use Rattle.semantics.specs.Groups.{taken, skip, opened, element, group}
 use Rattle.semantics.specs.TokenLaws.{skip-le}
 use Rattle.semantics.specs.ResultLaws.{Gives, gives, fails, gives-then}
-use Rattle.semantics.specs.declared.Error.{Error}
-use Rattle.semantics.specs.declared.Error.the-variants.{SyntaxError, LimitCheck}
-use Rattle.token.specs.Lexing.{Lexes, LexedAt, TokenAt, faultOf}
+use Rattle.semantics.specs.declared.Fault.{Fault}
+use Rattle.semantics.specs.declared.Fault.the-variants.{BadBrace, OverLimit}
+use Rattle.token.specs.Lexing.{Lexes, LexedAt, TokenAt, BraceToken, faultOf}
 use Rattle.token.specs.Strings.{StringAt}
 use Rattle.token.specs.declared.Lexed.{Lexed}
 use Rattle.token.specs.declared.Lexed.the-variants as lexed
@@ -28,7 +28,7 @@ use Rattle.groups.specs.declared.Judged.the-variants.{Bad, Good}
 use Rattle.groups.specs.declared.Weighed.{Weighed}
 use Rattle.groups.specs.declared.Weighed.the-variants as weighed
 use Rattle.groups.specs.declared.Weight.{Weight}
-use Rattle.groups.specs.declared.Weight.the-variants.{Element, Open, Close}
+use Rattle.groups.specs.declared.Weight.the-variants.{Element, Open, Close, End}
 use Rattle.groups.proofs.Trees.{group-token, group-parsed, element-leaf}
 
 -- ---- a string takes more bytes than it holds
@@ -36,53 +36,59 @@ use Rattle.groups.proofs.Trees.{group-token, group-parsed, element-leaf
 abbrev Shorter : Quoted → Type 0
 Shorter q = length (q .contents) < q .taken
 
-shorter-on : (rest : Met → Result Quoted) → ((next : Met) → Gives Shorter (rest next)) → (a : Act) → Gives Shorter (quotedOn rest a)
+shorter-on : (start at : ℕ) (rest : Met → Lexing Quoted) → ((next : Met) → Gives Shorter (rest next)) → (a : Act) → Gives Shorter (quotedOn start at rest a)
 unfolding quotedOn
-shorter-on rest f (byte c) = gives-then (f nothing) (λ q h. let l : suc (length (q .contents)) < suc (q .taken) = omega arith in gives l)
-shorter-on rest f (go next) = gives-then (f next) (λ q h. let l : length (q .contents) < suc (q .taken) = omega arith in gives l)
-shorter-on rest f close = let l : 0 < 1 = omega arith in gives l
-shorter-on rest f bad = fails
+shorter-on start at rest f (byte c) = gives-then (f nothing) (λ q h. let l : suc (length (q .contents)) < suc (q .taken) = omega arith in gives l)
+shorter-on start at rest f (go next) = gives-then (f next) (λ q h. let l : length (q .contents) < suc (q .taken) = omega arith in gives l)
+shorter-on start at rest f close = let l : 0 < 1 = omega arith in gives l
+shorter-on start at rest f cut = fails
+shorter-on start at rest f bad = fails
 
-quoted-shorter : (met : Met) (s : List ℕ) → Gives Shorter (quoted met s)
+quoted-shorter : (start at : ℕ) (met : Met) (s : List ℕ) → Gives Shorter (quoted start at met s)
 unfolding quoted
-quoted-shorter met [] = fails
-quoted-shorter met (b ∷ s) = shorter-on (λ next. quoted next s) (λ next. quoted-shorter next s) (act met b)
+quoted-shorter start at met [] = fails
+quoted-shorter start at met (b ∷ s) =
+    shorter-on start at (λ next. quoted start (suc at) next s) (λ next. quoted-shorter start (suc at) next s) (act met b)
 
-gives-at : {A : Type 0} {P : A → Type 0} {r : Result A} {a : A} → Gives P r → r ≡ ok a → P a
-gives-at {P = P} g e = by (subst (Gives P) e g)
+gives-at : {E A : Type 0} {P : A → Type 0} {r : Attempt E A} {a : A} → Gives P r → r ≡ ok a → P a
+gives-at {E} {P = P} g e = by (subst (Gives P) e g)
   where
-    by : {a : _} → Gives P (ok a) → P a
+    by : {a : _} → Gives {E = E} P (ok a) → P a
     by (gives p) = p
 
 pub string-shorter : {script : List ℕ} {at next : ℕ} {bs : List ℕ} → StringAt script at bs next → length bs < next - at
-string-shorter {script} {at} s = gives-at (quoted-shorter nothing (drop at script)) (s .reads)
+string-shorter {script} {at} s = gives-at (quoted-shorter 0 at nothing (drop at script)) (s .reads 0)
 
 -- ---- faults
 
-module _ (script : List ℕ) (depth at : ℕ) (le : at ≤ length script) {e : Error} where
+module _ (script : List ℕ) (brace depth at : ℕ) (le : at ≤ length script) {e : Fault} where
   -- What the first token comes to, the group comes to.
-  faults-on : ((fuel i : ℕ) (vs : List Value) (m : Machine) → length script < at + suc fuel → group script (suc fuel) i depth at vs m ≡ fault e) → Faults script depth at e
+  faults-on : ((fuel i : ℕ) (vs : List Value) (m : Machine) → length script < at + suc fuel → group script (suc fuel) i brace depth at vs m ≡ fault e)
+      → Faults script brace depth at e
   faults-on f = record { says = by }
     where
-      by : (fuel i : ℕ) (vs : List Value) (m : Machine) → length script < at + fuel → group script fuel i depth at vs m ≡ fault e
+      by : (fuel i : ℕ) (vs : List Value) (m : Machine) → length script < at + fuel → group script fuel i brace depth at vs m ≡ fault e
       by zero i vs m h = absurd (omega arith)
       by (suc fuel) i vs m h = f fuel i vs m h
 
-  faults-lex : lex (drop (skip script at) script) ≡ fault e → Faults script depth at e
+  faults-lex : lex (skip script at) (drop (skip script at) script) ≡ fault e → Faults script brace depth at e
   unfolding group _>>=_
   faults-lex h = faults-on (λ fuel i vs m l. rw h refl)
 
   -- A token is there, and what is read from the next offset on fails.
   faults-via : {next : ℕ} {t : Token}
       → Lexes script (skip script at) t next
-      → ((fuel i : ℕ) (vs : List Value) (m : Machine) → length script < next + fuel → element (group script fuel) i depth next vs m t ≡ fault e)
-      → Faults script depth at e
+      → ((fuel i : ℕ) (vs : List Value) (m : Machine)
+      → length script < next + fuel → element (group script fuel) i brace depth (skip script at) next vs m t ≡ fault e)
+      → Faults script brace depth at e
   faults-via l f =
-      faults-on (λ fuel i vs m h. group-token script at l fuel i depth vs m ∙ f fuel i vs m (omega (arith, l .past, skip-le script at le .0)))
+      faults-on (λ fuel i vs m h. group-token script at l fuel i brace depth vs m ∙ f fuel i vs m (omega (arith, l .past, skip-le script at le .0)))
 
-faults-end : (script : List ℕ) (depth at : ℕ) → at ≤ length script → lex (drop (skip script at) script) ≡ lexeme Token.end 0 → Faults script depth at SyntaxError
+-- The script's end is a fault of the brace that is open.
+faults-end : (script : List ℕ) (brace depth at : ℕ) → at ≤ length script → lex (skip script at) (drop (skip script at) script) ≡ lexeme Token.end 0
+    → Faults script brace depth at (BadBrace brace)
 unfolding group _>>=_ lexeme element
-faults-end script depth at le h = faults-on script depth at le (λ fuel i vs m l. rw h refl)
+faults-end script brace depth at le h = faults-on script brace depth at le (λ fuel i vs m l. rw h refl)
 
 -- ---- one token
 
@@ -90,11 +96,11 @@ module _ (script : List ℕ) (at start : ℕ) (begins : start ≡ skip script at
   far : at ≤ start
   far = subst (λ n. at ≤ n) (sym begins) (skip-le script at le .0)
 
-  pub weigh-fault : {e : Error} → answer ≡ lexed.Fault e → (r : Error) → r ≡ faultOf answer → WeighedAs script at (weighed.Bad r)
-  weigh-fault {e} g r q depth =
-      let h : lex (drop start script) ≡ fault e = subst (LexedAt script start) g k in
+  pub weigh-fault : {e : Fault} → answer ≡ lexed.Fault e → (r : Fault) → r ≡ faultOf answer → WeighedAs script at (weighed.Bad r)
+  weigh-fault {e} g r q brace depth =
+      let h : lex start (drop start script) ≡ fault e = subst (LexedAt script start) g k in
       let same : r ≡ e = q ∙ ap faultOf g in
-      rw same (faults-lex script depth at le (subst (λ n. lex (drop n script) ≡ fault e) begins h))
+      rw same (faults-lex script brace depth at le (subst (λ n. lex n (drop n script) ≡ fault e) begins h))
 
   module _ (t : scanned.Token) (next : ℕ) (g : answer ≡ lexed.Token t next) where
     here : TokenAt script start next t
@@ -134,14 +140,13 @@ module _ (script : List ℕ) (at start : ℕ) (begins : start ≡ skip script at
         (_, moved (l .token), refl, omega arith, omega (arith, l .token .past, far))
 
     pub weigh-open : t ≡ read.OpenBrace → WeighedAs script at (weighed.Good Open next)
-    weigh-open q = moved (at-token read.OpenBrace q .token)
+    weigh-open q = subst (λ n. BraceToken script n Token.openBrace next) begins (at-token read.OpenBrace q)
 
     pub weigh-close : t ≡ read.CloseBrace → WeighedAs script at (weighed.Good Close next)
     weigh-close q = moved (at-token read.CloseBrace q .token)
 
-    pub weigh-end : t ≡ read.End → WeighedAs script at (weighed.Bad SyntaxError)
-    weigh-end q depth =
-        faults-end script depth at le (subst (λ n. lex (drop n script) ≡ lexeme Token.end 0) begins (at-token read.End q .lexes))
+    pub weigh-end : t ≡ read.End → WeighedAs script at (weighed.Good End next)
+    weigh-end q = subst (λ n. lex n (drop n script) ≡ lexeme Token.end 0) begins (at-token read.End q .lexes)
 
 -- ---- the loop
 
@@ -149,7 +154,7 @@ module _ (script : List ℕ) (at start : ℕ) (begins : start ≡ skip script at
 pub record Judging (script : List ℕ) (depth from at size wants : ℕ) : Type 0 where
   pub inside : at ≤ length script
   pub few : from + size + wants ≤ at
-  pub failing : (e : Error) → Faults script depth at e → Faults script depth from e
+  pub failing : (e : Fault) → Faults script (from - 1) depth at e → Faults script (from - 1) depth from e
   pub parsing : (ns : Nodes) (next : ℕ)
       → Parsed script depth at ns next
       → (ms : Nodes) × Parsed script depth from ms next × (count ms ≡ size + count ns) × (wanted ms ≡ wants + wanted ns)
@@ -163,10 +168,10 @@ pub weighs : {r : Weighed} {w v : Weight} {next : ℕ} → r ≡ weighed.Good w 
 weighs {next = next} g q = g ∙ ap (λ x. weighed.Good x next) q
 
 module _ {script : List ℕ} {depth from at size wants : ℕ} (J : Judging script depth from at size wants) where
-  pub judge-fault : {e x : Error} {r : Weighed} → r ≡ weighed.Bad e → WeighedAs script at r → x ≡ weighedFault r → JudgedAs script depth from (Bad x)
+  pub judge-fault : {e x : Fault} {r : Weighed} → r ≡ weighed.Bad e → WeighedAs script at r → x ≡ weighedFault r → JudgedAs script depth from (Bad x)
   judge-fault {e} {x} g k q =
       let same : x ≡ e = q ∙ ap weighedFault g in
-      rw same (J .failing e (subst (WeighedAs script at) g k depth))
+      rw same (J .failing e (subst (WeighedAs script at) g k (from - 1) depth))
 
   pub element-inside : {c next : ℕ} {r : Weighed} → r ≡ weighed.Good (Element c) next → WeighedAs script at r → (c + 1 + at ≤ next) × (next ≤ length script)
   element-inside g k = let w = subst (WeighedAs script at) g k in (w .4, w .1 .inside)
@@ -180,32 +185,40 @@ module _ {script : List ℕ} {depth from at size wants : ℕ} (J : Judging scrip
       record {
         inside = l .inside;
         few = omega (arith, J .few, w .4);
-        failing = λ e f. J .failing e (faults-via script depth at (J .inside) l
-            (λ fuel i vs m h. element-leaf t (w .2) (group script fuel) i depth next vs m ∙ f .says fuel i _ _ h));
+        failing = λ e f. J .failing e (faults-via script (from - 1) depth at (J .inside) l
+            (λ fuel i vs m h. element-leaf t (w .2) (group script fuel) i (from - 1) depth (skip script at) next vs m ∙ f .says fuel i _ _ h));
         parsing = λ ns after p.
             let r = J .parsing (leaf t ns) after (token l (w .2) p) in
             (r .0, r .1, omega (arith, r .2), omega (arith, r .3, w .3));
       }
 
   module _ {next : ℕ} {r : Weighed} (g : r ≡ weighed.Good Open next) (k : WeighedAs script at r) where
+    brace : BraceToken script (skip script at) Token.openBrace next
+    brace = subst (WeighedAs script at) g k
+
     l : Lexes script (skip script at) Token.openBrace next
-    l = subst (WeighedAs script at) g k
+    l = brace .token
 
-    pub open-inside : next ≤ length script
-    open-inside = l .inside
+    -- The inner group's brace is the byte before its rest.
+    opens-at : next - 1 ≡ skip script at
+    opens-at = let e = brace .ends in omega arith
 
-    pub judge-deep : depth ≡ 0 → JudgedAs script depth from (Bad LimitCheck)
+    pub open-inside : (1 ≤ next) × (next ≤ length script)
+    open-inside = (let p = l .past in omega arith, l .inside)
+
+    pub judge-deep : depth ≡ 0 → JudgedAs script depth from (Bad OverLimit)
     unfolding element
-    judge-deep z =
-        J .failing LimitCheck (faults-via script depth at (J .inside) l (λ fuel i vs m h. rw z refl))
+    judge-deep z = J .failing OverLimit (faults-via script (from - 1) depth at (J .inside) l (λ fuel i vs m h. rw z refl))
 
     module _ (d : ℕ) (some : depth ≡ suc d) {inside : Judged} (I : JudgedAs script d next inside) where
-      pub judge-inner-fault : {e : Error} → inside ≡ Bad e → (x : Error) → x ≡ faultIn inside → JudgedAs script depth from (Bad x)
+      pub judge-inner-fault : {e : Fault} → inside ≡ Bad e → (x : Fault) → x ≡ faultIn inside → JudgedAs script depth from (Bad x)
       unfolding element _>>=_
       judge-inner-fault {e} u x q =
-          let f : Faults script d next e = subst (JudgedAs script d next) u I in
+          let r : Faults script (next - 1) d next e = subst (JudgedAs script d next) u I in
+          let f : Faults script (skip script at) d next e = subst (λ n. Faults script n d next e) opens-at r in
           let same : x ≡ e = q ∙ ap faultIn u in
-          rw same (J .failing e (faults-via script depth at (J .inside) l (λ fuel i vs m h. rw (some, f .says fuel (made m) [] (opened m) h) refl)))
+          rw same
+          (J .failing e (faults-via script (from - 1) depth at (J .inside) l (λ fuel i vs m h. rw (some, f .says fuel (made m) [] (opened m) h) refl)))
 
       pub inner-inside : {n more after : ℕ} → inside ≡ Good n more after → (at < after) × (next + n + more < after) × (after ≤ length script)
       inner-inside u =
@@ -221,9 +234,9 @@ module _ {script : List ℕ} {depth from at size wants : ℕ} (J : Judging scrip
           record {
             inside = w .5;
             few = omega (arith, J .few, w .4, l .past, far);
-            failing = λ e f. J .failing e (faults-via script depth at (J .inside) l
-                (λ fuel i vs m h. rw (some, group-parsed script (w .1) (l .inside) fuel (made m) [] (opened m) h)
-                (subst (λ k. Faults script k after e) some f .says fuel i _ _ (omega (arith, h, w .4)))));
+            failing = λ e f. J .failing e (faults-via script (from - 1) depth at (J .inside) l
+                (λ fuel i vs m h. rw (some, group-parsed script (w .1) (l .inside) fuel (made m) (skip script at) [] (opened m) h)
+                (subst (λ k. Faults script (from - 1) k after e) some f .says fuel i _ _ (omega (arith, h, w .4)))));
             parsing = λ ns last p.
                 let q = opens l (w .1) (subst (λ k. Parsed script k after ns last) some p) in
                 let r = J .parsing (inner ms ns) last (subst (λ k. Parsed script k at (inner ms ns) last) (sym some) q) in
@@ -236,3 +249,9 @@ module _ {script : List ℕ} {depth from at size wants : ℕ} (J : Judging scrip
       let l : Lexes script (skip script at) Token.closeBrace next = subst (WeighedAs script at) g k in
       let r = J .parsing end next (closes l) in
       (r .0, r .1, omega (arith, r .2), omega (arith, r .3), omega (arith, J .few, l .past, skip-le script at (J .inside) .0), l .inside)
+
+  -- The end is met, and this group's brace is the innermost that is open.
+  pub judge-end : {next : ℕ} {r : Weighed} → r ≡ weighed.Good End next → WeighedAs script at r → JudgedAs script depth from (Bad (BadBrace (from - 1)))
+  judge-end {next} g k =
+      let l : lex (skip script at) (drop (skip script at) script) ≡ lexeme Token.end 0 = subst (WeighedAs script at) g k in
+      J .failing (BadBrace (from - 1)) (faults-end script (from - 1) depth at (J .inside) l)

@@ -8,8 +8,8 @@ use Prim.Native.Nat.{ℕ, zero, suc, _+_, _-_, _≤_, _<_}
 use native.Mathlib.Omega.{arith}
 use lib.ListN.{length, set, length-append}
 use lib.Seq.{set-append-seam}
-use Rattle.semantics.specs.Tokens.{Token, lexeme}
-use Rattle.semantics.specs.Values.{Value, integer, name, string, array, Object, elements, cells, Result, _>>=_}
+use Rattle.semantics.specs.Tokens.{Lexing, Token, lexeme}
+use Rattle.semantics.specs.Values.{Value, integer, name, string, array, Object, elements, cells, _>>=_}
 use Rattle.semantics.specs.Machine.{Machine, Slot, withDictionary, withStore, make, made, change, intern, slotted}
 use Rattle.semantics.specs.Held.{sumOf}
 use Rattle.semantics.specs.Groups.{Taken, taken, skip, Reader, opened, closed, element, group}
@@ -138,27 +138,27 @@ values-inner ms ns m = ap (λ j. values j ns) (sym (nested-made ms m))
 module _ (script : List ℕ) where
   pub group-token : (o : ℕ) {next : ℕ} {t : Token}
       → Lexes script (skip script o) t next
-      → (fuel i depth : ℕ) (vs : List Value) (m : Machine)
-      → group script (suc fuel) i depth o vs m ≡ element (group script fuel) i depth next vs m t
+      → (fuel i brace depth : ℕ) (vs : List Value) (m : Machine)
+      → group script (suc fuel) i brace depth o vs m ≡ element (group script fuel) i brace depth (skip script o) next vs m t
   unfolding group _>>=_ lexeme
-  group-token o {next} {t} h fuel i depth vs m =
+  group-token o {next} {t} h fuel i brace depth vs m =
       let e : skip script o + (next - skip script o) ≡ next = omega (arith, h .past) in
-      rw (h .lexes) (ap (λ n. element (group script fuel) i depth n vs m t) e)
+      rw (h .lexes) (ap (λ n. element (group script fuel) i brace depth (skip script o) n vs m t) e)
 
 -- A token that is no brace adds its value, its names and its objects.
 pub element-leaf : (t : Token)
     → isLeaf t ≡ true
-    → (rest : Reader) (i depth after : ℕ) (vs : List Value) (m : Machine)
-    → element rest i depth after vs m t ≡ rest i depth after (leafValue (made m) t ∷ vs) (leafed t m)
+    → (rest : Reader) (i brace depth start after : ℕ) (vs : List Value) (m : Machine)
+    → element rest i brace depth start after vs m t ≡ rest i brace depth after (leafValue (made m) t ∷ vs) (leafed t m)
 unfolding element intern internAll make made withDictionary withStore
-element-leaf (Token.integer w) h rest i depth after vs m =
-    ap (λ s. rest i depth after (integer w ∷ vs) (withStore s m)) (sym (append-nil (m .store)))
-element-leaf (Token.string bs) h rest i depth after vs m = refl
-element-leaf (Token.name x n) h rest i depth after vs m =
-    ap (λ s. rest i depth after (name x n ∷ vs) (withDictionary (slotted n (m .dictionary)) (withStore s m))) (sym (append-nil (m .store)))
-element-leaf Token.openBrace h rest i depth after vs m = absurd (false≢true h)
-element-leaf Token.closeBrace h rest i depth after vs m = absurd (false≢true h)
-element-leaf Token.end h rest i depth after vs m = absurd (false≢true h)
+element-leaf (Token.integer w) h rest i brace depth start after vs m =
+    ap (λ s. rest i brace depth after (integer w ∷ vs) (withStore s m)) (sym (append-nil (m .store)))
+element-leaf (Token.string bs) h rest i brace depth start after vs m = refl
+element-leaf (Token.name x n) h rest i brace depth start after vs m =
+    ap (λ s. rest i brace depth after (name x n ∷ vs) (withDictionary (slotted n (m .dictionary)) (withStore s m))) (sym (append-nil (m .store)))
+element-leaf Token.openBrace h rest i brace depth start after vs m = absurd (false≢true h)
+element-leaf Token.closeBrace h rest i brace depth start after vs m = absurd (false≢true h)
+element-leaf Token.end h rest i brace depth start after vs m = absurd (false≢true h)
 
 -- A group takes at least a byte, within the script.
 pub parsed-inside : {script : List ℕ} {d o after : ℕ} {ns : Nodes} → Parsed script d o ns after → o ≤ length script → (o < after) × (after ≤ length script)
@@ -174,32 +174,32 @@ module _ (script : List ℕ) where
   pub group-parsed : {d o after : ℕ} {ns : Nodes}
       → Parsed script d o ns after
       → o ≤ length script
-      → (fuel i : ℕ) (vs : List Value) (m : Machine)
+      → (fuel i brace : ℕ) (vs : List Value) (m : Machine)
       → length script < o + fuel
-      → group script fuel i d o vs m ≡ taken (array true i) (filled i (reverse vs ++ values (made m) ns) (grown ns m)) after
+      → group script fuel i brace d o vs m ≡ taken (array true i) (filled i (reverse vs ++ values (made m) ns) (grown ns m)) after
   unfolding element closed filled values taken _>>=_
-  group-parsed {o = o} p le zero i vs m h = absurd (omega arith)
-  group-parsed (closes {d} {o} {next} l) le (suc fuel) i vs m h =
-      group-token script o l fuel i d vs m
+  group-parsed {o = o} p le zero i brace vs m h = absurd (omega arith)
+  group-parsed (closes {d} {o} {next} l) le (suc fuel) i brace vs m h =
+      group-token script o l fuel i brace d vs m
       ∙ ap (λ (n : Machine). taken (array true i) (change i (elements (reverse vs)) n) next) (sym (grown-end m))
       ∙ ap (λ (us : List Value). taken (array true i) (change i (elements us) (grown end m)) next) (sym (append-nil (reverse vs)))
-  group-parsed (token {d} {o} {next} {after} {t} {ns} l e p) le (suc fuel) i vs m h =
-      group-token script o l fuel i d vs m
-      ∙ element-leaf t e (group script fuel) i d next vs m
-      ∙ group-parsed p (l .inside) fuel i (leafValue (made m) t ∷ vs) (leafed t m) (omega (arith, l .past, skip-le script o le .0))
+  group-parsed (token {d} {o} {next} {after} {t} {ns} l e p) le (suc fuel) i brace vs m h =
+      group-token script o l fuel i brace d vs m
+      ∙ element-leaf t e (group script fuel) i brace d (skip script o) next vs m
+      ∙ group-parsed p (l .inside) fuel i brace (leafValue (made m) t ∷ vs) (leafed t m) (omega (arith, l .past, skip-le script o le .0))
       ∙ ap (λ (n : Machine). taken (array true i) (filled i (reverse (leafValue (made m) t ∷ vs) ++ values (made (leafed t m)) ns) n) after) (sym (grown-leaf t ns m))
       ∙ ap (λ (us : List Value). taken (array true i) (filled i us (grown (leaf t ns) m)) after)
       (ap (λ (us : List Value). us ++ values (made (leafed t m)) ns) (reverse-cons (leafValue (made m) t) vs)
       ∙ append-assoc (reverse vs) (leafValue (made m) t ∷ []) (values (made (leafed t m)) ns)
       ∙ ap (λ (us : List Value). reverse vs ++ (leafValue (made m) t ∷ us)) (sym (values-leaf t ns m)))
-  group-parsed (opens {d} {o} {next} {mid} {after} {ms} {ns} l p q) le (suc fuel) i vs m h =
+  group-parsed (opens {d} {o} {next} {mid} {after} {ms} {ns} l p q) le (suc fuel) i brace vs m h =
       let r = parsed-inside p (l .inside) in
       let far = skip-le script o le .0 in
       let x : Value = array true (made m) in
-      group-token script o l fuel i (suc d) vs m
-      ∙ ap (λ (r : Result Taken). r >>= λ t. group script fuel i (suc d) (t .after) (t .value ∷ vs) (t .machine))
-      (group-parsed p (l .inside) fuel (made m) [] (opened m) (omega (arith, l .past, far)))
-      ∙ group-parsed q (r .1) fuel i (x ∷ vs) (nested ms m) (omega (arith, l .past, far, r .0))
+      group-token script o l fuel i brace (suc d) vs m
+      ∙ ap (λ (r : Lexing Taken). r >>= λ t. group script fuel i brace (suc d) (t .after) (t .value ∷ vs) (t .machine))
+      (group-parsed p (l .inside) fuel (made m) (skip script o) [] (opened m) (omega (arith, l .past, far)))
+      ∙ group-parsed q (r .1) fuel i brace (x ∷ vs) (nested ms m) (omega (arith, l .past, far, r .0))
       ∙ ap (λ (n : Machine). taken (array true i) (filled i (reverse (x ∷ vs) ++ values (made (nested ms m)) ns) n) after) (sym (grown-inner ms ns m))
       ∙ ap (λ (us : List Value). taken (array true i) (filled i us (grown (inner ms ns) m)) after)
       (ap (λ (us : List Value). us ++ values (made (nested ms m)) ns) (reverse-cons x vs)

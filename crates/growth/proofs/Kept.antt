@@ -5,10 +5,11 @@ use mathlib.Core.Path.{_≡_, sym, subst}
 use mathlib.Core.List.{List, [], _∷_}
 use mathlib.Core.Option.{none}
 use Prim.Native.Nat.{ℕ, _≤_}
-use Rattle.semantics.specs.Values.{Result, ok, fault, _>>=_, Value, Object}
+use Rattle.semantics.specs.Values.{Attempt, ok, fault, _>>=_, Value, Object}
 use Rattle.semantics.specs.Machine.{Machine, Frame, Slot, withStack, withExec, withDictionary, withStore, write, halt, push, enter, pop1, pop2, pop3, pop4, object, make, made, change, intern}
 use Rattle.semantics.specs.ResultLaws.{Gives, gives, fails, gives-then, gives-any}
 use Rattle.semantics.specs.ListLaws.{All, cons, Maybe, nothing}
+use Rattle.semantics.specs.declared.Error.{Error}
 use Rattle.semantics.specs.declared.Error.the-variants.{StackUnderflow}
 use Rattle.growth.specs.Stores.{isString, reference, Alike, Names, NamesFrame, NamesSlot, NamesObject, Kinded}
 use Rattle.growth.proofs.Naming.{later-changed, names-later, kinded-stack, kinded-exec, kinded-dictionary, kinded-written, kinded-halted, kinded-made, kinded-changed, slotted-named}
@@ -34,18 +35,18 @@ pub record Fine (Known : Type 0) (base : ℕ) (P : Machine → Type 0) (m : Mach
 -- ---- results, lists
 
 -- Where what is there does not matter.
-pub gives-each : {A B : Type 0} {Q : B → Type 0} (r : Result A) {f : A → Result B} → ((a : A) → Gives Q (f a)) → Gives Q (r >>= f)
+pub gives-each : {E A B : Type 0} {Q : B → Type 0} (r : Attempt E A) {f : A → Attempt E B} → ((a : A) → Gives Q (f a)) → Gives Q (r >>= f)
 gives-each r q = gives-then (gives-any r) (λ a u. q a)
 
-pub gives-both : {A : Type 0} {P Q : A → Type 0} {r : Result A} → Gives P r → Gives Q r → Gives (λ a. P a × Q a) r
+pub gives-both : {E A : Type 0} {P Q : A → Type 0} {r : Attempt E A} → Gives P r → Gives Q r → Gives (λ a. P a × Q a) r
 gives-both (gives p) (gives q) = gives (p, q)
 gives-both fails fails = fails
 
-given-there : {A : Type 0} {P : A → Type 0} {a : A} → Gives P (ok a) → P a
+given-there : {E A : Type 0} {P : A → Type 0} {a : A} → Gives {E = E} P (ok a) → P a
 given-there (gives p) = p
 
 -- What is known of a result is known of what is there.
-pub known : {Known A : Type 0} {P : A → Type 0} (r : Result A) → (Known → Gives P r) → Gives (λ a. Known → P a) r
+pub known : {E Known A : Type 0} {P : A → Type 0} (r : Attempt E A) → (Known → Gives P r) → Gives (λ a. Known → P a) r
 known (ok a) f = gives (λ q. given-there (f q))
 known (fault e) f = fails
 
@@ -160,7 +161,7 @@ module _ {Known : Type 0} {base : ℕ} {P : Machine → Type 0} {m : Machine} (h
     where
       by : (s : List Value)
           → (Known → All (Names (m .store)) s)
-          → Gives (Popped1 Known base P) (elim s [ [] ↦ fault StackUnderflow | x ∷ s ↦ ok (x, withStack s m) ])
+          → Gives {E = Error} (Popped1 Known base P) (elim s [ [] ↦ fault StackUnderflow | x ∷ s ↦ ok (x, withStack s m) ])
       by [] f = fails
       by (x ∷ s) f = gives (λ q. all-head (f q), with-stack h (λ q. all-tail (f q)))
 
@@ -170,7 +171,7 @@ module _ {Known : Type 0} {base : ℕ} {P : Machine → Type 0} {m : Machine} (h
     where
       by : (s : List Value)
           → (Known → All (Names (m .store)) s)
-          → Gives (Popped2 Known base P) (elim s [
+          → Gives {E = Error} (Popped2 Known base P) (elim s [
             | [] ↦ fault StackUnderflow
             | y ∷ s ↦ elim s [ [] ↦ fault StackUnderflow | x ∷ r ↦ ok (x, y, withStack r m) ]
           ])
@@ -184,7 +185,7 @@ module _ {Known : Type 0} {base : ℕ} {P : Machine → Type 0} {m : Machine} (h
     where
       by : (s : List Value)
           → (Known → All (Names (m .store)) s)
-          → Gives (Popped3 Known base P) (elim s [
+          → Gives {E = Error} (Popped3 Known base P) (elim s [
             | [] ↦ fault StackUnderflow
             | z ∷ s ↦ elim s [
               | [] ↦ fault StackUnderflow
@@ -208,7 +209,7 @@ module _ {Known : Type 0} {base : ℕ} {P : Machine → Type 0} {m : Machine} (h
     where
       by : (s : List Value)
           → (Known → All (Names (m .store)) s)
-          → Gives (Popped4 Known base P) (elim s [
+          → Gives {E = Error} (Popped4 Known base P) (elim s [
             | [] ↦ fault StackUnderflow
             | z ∷ s ↦ elim s [
               | [] ↦ fault StackUnderflow

@@ -7,6 +7,7 @@ use Prim.Native.Nat.{ℕ}
 use lib.IntN.{ℤ}
 use lib.Dec.{leb→le}
 use Rattle.semantics.specs.Text.{same}
+use Rattle.semantics.specs.declared.Error.{Error}
 use Rattle.semantics.specs.Values.{Result, ok, Value, null, string, array, Object, elements}
 use Rattle.semantics.specs.Machine.{Machine, Frame, pending, withStack, withExec, halt, push, enter, object, make, made}
 use Rattle.semantics.specs.Printing.{stringval}
@@ -170,7 +171,7 @@ module _ (Known : Type 0) (base : ℕ) (P : Machine → Type 0) where
     where
       by : (l : List Frame)
           → (Known → All (NamesFrame (m .store)) l)
-          → Gives Fit (elim l [ [] ↦ ok (halt m) | f ∷ fs ↦ ok (withExec fs m) ])
+          → Gives {E = Error} Fit (elim l [ [] ↦ ok (halt m) | f ∷ fs ↦ ok (withExec fs m) ])
       by [] k = gives (halted h)
       by (f ∷ fs) k = gives (with-exec h (λ q. all-tail (k q)))
 
@@ -180,7 +181,7 @@ module _ (Known : Type 0) (base : ℕ) (P : Machine → Type 0) where
     where
       by : (l : List Frame)
           → (Known → All (NamesFrame (m .store)) l)
-          → Gives Fit (elim l [ [] ↦ ok (halt m) | f ∷ fs ↦ ok (withExec (f ∷ fs) m) ])
+          → Gives {E = Error} Fit (elim l [ [] ↦ ok (halt m) | f ∷ fs ↦ ok (withExec (f ∷ fs) m) ])
       by [] k = gives (halted h)
       by (f ∷ fs) k = gives (with-exec h k)
 

@@ -8,11 +8,11 @@ use Prim.Native.Nat.{ℕ, zero, suc, _≤_}
 use native.Mathlib.Omega.{arith}
 use Rattle.semantics.specs.Values.{Value, operator}
 use Rattle.semantics.specs.Operators.{Entry, table}
-use Rattle.semantics.specs.Steps.{Limits, State, Step, goes, fails, step, Run, stopped, outOfFuel, isFinished, finish, goOn, run, slot, predefined, initial}
+use Rattle.semantics.specs.Steps.{Limits, State, Step, goes, fails, misreads, step, Run, stopped, outOfFuel, isFinished, finish, goOn, run, slot, predefined, initial}
 use Rattle.semantics.specs.ResultLaws.{choose}
 use Rattle.semantics.specs.ListLaws.{All, nil, cons, _&_, nothing, just, all-append, all-map}
 use Rattle.growth.specs.Stores.{Names, NamesSlot, Remains, Kinded}
-use Rattle.growth.proofs.StepStore.{remains-itself, remains-then, step-store, step-kinded, step-store-failed}
+use Rattle.growth.proofs.StepStore.{remains-itself, remains-then, step-store, step-kinded, step-store-failed, step-store-misread}
 
 -- Two choices by one test.
 choose-both : {A : Type 0} (R : A → A → Type 0) (b : Bool) (x y x′ y′ : A)
@@ -37,6 +37,8 @@ module _ (l : Limits) (script : List ℕ) where
   unfolding goOn
   goOn-store σ k rest f (fails x c τ) e =
       subst (Remains (σ .machine)) (sym (step-store-failed l script σ τ x c e)) (remains-itself (σ .machine))
+  goOn-store σ k rest f (misreads x τ) e =
+      subst (Remains (σ .machine)) (sym (step-store-misread l script σ τ x e)) (remains-itself (σ .machine))
   goOn-store σ k rest f (goes τ) e =
       let now = step-store l script σ τ k e in
       choose (λ (r : Run). Remains (σ .machine) (r .final .machine)) (τ .machine .stopped) (record { ending = stopped; final = τ }) (rest τ)
@@ -66,6 +68,7 @@ module _ (l : Limits) (script : List ℕ) where
       → RunRemains (goOn rest s) (goOn rest′ s)
   unfolding goOn
   goOn-later σ k rest rest′ f (fails x c τ) e = remains-itself (τ .machine)
+  goOn-later σ k rest rest′ f (misreads x τ) e = remains-itself (τ .machine)
   goOn-later σ k rest rest′ f (goes τ) e =
       choose-both RunRemains (τ .machine .stopped) (record { ending = stopped; final = τ }) (rest τ) (record { ending = stopped; final = τ }) (rest′ τ)
       (remains-itself (τ .machine))

@@ -10,9 +10,10 @@ use lib.Seq.{getD-set-same, getD-set-other}
 use Rattle.semantics.specs.Values.{Object, elements}
 use Rattle.semantics.specs.Machine.{Machine, object, make, made, change, withStore, machinery}
 use Rattle.semantics.specs.ObjectOperators.{size}
-use Rattle.semantics.specs.Steps.{Limits, State, Step, goes, fails, step}
-use Rattle.semantics.specs.RunLaws.{Stepped, went, stuck, step-stepped}
+use Rattle.semantics.specs.Steps.{Limits, State, Step, goes, fails, misreads, step}
+use Rattle.semantics.specs.RunLaws.{Stepped, went, stuck, unread, step-stepped}
 use Rattle.semantics.specs.declared.Error.{Error}
+use Rattle.semantics.specs.declared.Fault.{Fault}
 use Rattle.growth.specs.Stores.{isString, Alike, Remains, Kinded}
 use Rattle.growth.proofs.Kept.{Kept, Fine}
 use Rattle.growth.proofs.StepsKeep.{step-keeps}
@@ -114,11 +115,17 @@ step-kinded l script σ τ k e = step-fine l script σ τ k e .kinded tt
 abbrev Unmoved : State → Step → Type 0
 Unmoved σ (goes τ) = Unit {0}
 Unmoved σ (fails e c τ) = τ .machine ≡ σ .machine
+Unmoved σ (misreads f τ) = τ .machine ≡ σ .machine
 
 unmoved : {σ : State} {s : Step} → Stepped σ s → Unmoved σ s
 unmoved (went h) = tt
 unmoved (stuck h k n) = h
+unmoved (unread h k n) = h
 
 -- A step that fails leaves the machine as it was.
 pub step-store-failed : (l : Limits) (script : List ℕ) (σ τ : State) (x : Error) (c : List ℕ) → step l script σ ≡ fails x c τ → τ .machine ≡ σ .machine
 step-store-failed l script σ τ x c e = subst (Unmoved σ) e (unmoved (step-stepped l script σ))
+
+-- So does one that cannot read its token.
+pub step-store-misread : (l : Limits) (script : List ℕ) (σ τ : State) (f : Fault) → step l script σ ≡ misreads f τ → τ .machine ≡ σ .machine
+step-store-misread l script σ τ f e = subst (Unmoved σ) e (unmoved (step-stepped l script σ))

@@ -8,10 +8,10 @@ use Prim.Native.Nat.{ℕ, zero, suc, _≤_}
 use lib.ListN.{length, getElem?}
 use Rattle.semantics.specs.Words.{signed, word}
 use Rattle.semantics.specs.Values.{Result, ok, Value, integer, boolean, null, mark, operator, name, string, array, Object, elements, text}
-use Rattle.semantics.specs.Tokens.{Token}
+use Rattle.semantics.specs.Tokens.{Lexing, Token}
 use Rattle.semantics.specs.Machine.{Machine, Frame, pending, running, looping, repeating, counting, withStack, withExec, withDictionary, withStore, push, enter, object, elementsOf, make, made, change, intern}
 use Rattle.semantics.specs.Groups.{Taken, taken, skip, Reader, opened, closed, element, group, tokenValue, takeToken}
-use Rattle.semantics.specs.Steps.{Limits, State, Move, commandOf, execute, isProcedure, treat, silent, beyond, following, resume, roomFor, Step, goes, ended, moved, tokenMove, offsetAfter, stepOn, step}
+use Rattle.semantics.specs.Steps.{Limits, State, Move, commandOf, execute, isProcedure, treat, silent, beyond, following, resume, roomFor, Step, goes, ended, moved, tokenMove, tokenStep, misreads, stepOn, step}
 use Rattle.semantics.specs.Steps as Steps
 use Rattle.semantics.specs.ResultLaws.{Gives, gives, fails, gives-then, choose}
 use Rattle.semantics.specs.ListLaws.{All, nil, cons, Maybe, just, gives-given, all-reverse, all-getElem?}
@@ -36,19 +36,19 @@ module _ (Known : Type 0) (base : ℕ) (P : Machine → Type 0) where
     later : Known → Later s (t .machine .store)
     named : Known → Names (t .machine .store) (t .value)
 
-  earlier : {s r : List Object} → (Known → Later s r) → {t : Result Taken} → Gives (FitTaken r) t → Gives (FitTaken s) t
+  earlier : {s r : List Object} → (Known → Later s r) → {t : Lexing Taken} → Gives (FitTaken r) t → Gives (FitTaken s) t
   earlier f (gives k) = gives (record { fine = k .fine; later = λ q. later-then (f q) (k .later q); named = k .named })
   earlier f fails = fails
 
   -- A group's object has been made in the step, and is an array.
   abbrev ReadsOn : Reader → Type 0
   ReadsOn rest =
-      (i depth offset : ℕ) (vs : List Value) (m : Machine)
+      (i brace depth offset : ℕ) (vs : List Value) (m : Machine)
       → base ≤ i
       → (Known → There (m .store) (i, false))
       → (Known → All (Names (m .store)) vs)
       → Fits m
-      → Gives (FitTaken (m .store)) (rest i depth offset vs m)
+      → Gives (FitTaken (m .store)) (rest i brace depth offset vs m)
 
   make-later : (o : Object) (m : Machine) → Later (m .store) (make o m .store)
   unfolding make withStore
@@ -82,58 +82,58 @@ module _ (Known : Type 0) (base : ℕ) (P : Machine → Type 0) where
 
   element-keeps : (rest : Reader)
       → ReadsOn rest
-      → (i depth after : ℕ) (vs : List Value) (m : Machine) (t : Token)
+      → (i brace depth start after : ℕ) (vs : List Value) (m : Machine) (t : Token)
       → base ≤ i
       → (Known → There (m .store) (i, false))
       → (Known → All (Names (m .store)) vs)
       → Fits m
-      → Gives (FitTaken (m .store)) (element rest i depth after vs m t)
+      → Gives (FitTaken (m .store)) (element rest i brace depth start after vs m t)
   unfolding element intern withDictionary
-  element-keeps rest f i depth after vs m (Token.integer w) b t a h = f i depth after _ m b t (λ q. cons (plain refl q) (a q)) h
-  element-keeps rest f i depth after vs m (Token.string bs) b t a h =
+  element-keeps rest f i brace depth start after vs m (Token.integer w) b t a h = f i brace depth after _ m b t (λ q. cons (plain refl q) (a q)) h
+  element-keeps rest f i brace depth start after vs m (Token.string bs) b t a h =
       earlier (λ q. make-later (text bs) m)
-      (f i depth after _ _ b (λ q. make-later (text bs) m .still _ (t q))
+      (f i brace depth after _ _ b (λ q. make-later (text bs) m .still _ (t q))
       (λ q. cons (new-string m bs) (all-weaker (names-later (make-later (text bs) m)) (a q)))
       (maked h (λ q. text-object)))
-  element-keeps rest f i depth after vs m (Token.name x n) b t a h =
-      f i depth after _ (intern n m) b t (λ q. cons (plain refl q) (a q)) (interned h n)
-  element-keeps rest f i zero after vs m Token.openBrace b t a h = fails
-  element-keeps rest f i (suc d) after vs m Token.openBrace b t a h =
-      gives-then (earlier (λ q. opened-later m) (f (made m) d after [] (opened m) (h .laws .since m (h .holds)) (λ q. opened-there m) (λ q. nil) (opened-fits h)))
+  element-keeps rest f i brace depth start after vs m (Token.name x n) b t a h =
+      f i brace depth after _ (intern n m) b t (λ q. cons (plain refl q) (a q)) (interned h n)
+  element-keeps rest f i brace zero start after vs m Token.openBrace b t a h = fails
+  element-keeps rest f i brace (suc d) start after vs m Token.openBrace b t a h =
+      gives-then (earlier (λ q. opened-later m) (f (made m) start d after [] (opened m) (h .laws .since m (h .holds)) (λ q. opened-there m) (λ q. nil) (opened-fits h)))
       (λ g k. earlier (k .later)
-      (f i (suc d) (g .after) _ _ b (λ q. k .later q .still _ (t q))
+      (f i brace (suc d) (g .after) _ _ b (λ q. k .later q .still _ (t q))
       (λ q. cons (k .named q) (all-weaker (names-later (k .later q)) (a q)))
       (k .fine)))
-  element-keeps rest f i depth after vs m Token.closeBrace b t a h = closed-keeps i after vs m b t a h
-  element-keeps rest f i depth after vs m Token.end b t a h = fails
+  element-keeps rest f i brace depth start after vs m Token.closeBrace b t a h = closed-keeps i after vs m b t a h
+  element-keeps rest f i brace depth start after vs m Token.end b t a h = fails
 
   group-keeps : (script : List ℕ) (fuel : ℕ) → ReadsOn (group script fuel)
   unfolding group
-  group-keeps script zero i depth offset vs m b t a h = fails
-  group-keeps script (suc fuel) i depth offset vs m b t a h =
-      gives-each _ (λ l. element-keeps (group script fuel) (group-keeps script fuel) i depth _ vs m (l .token) b t a h)
+  group-keeps script zero i brace depth offset vs m b t a h = fails
+  group-keeps script (suc fuel) i brace depth offset vs m b t a h =
+      gives-each _ (λ l. element-keeps (group script fuel) (group-keeps script fuel) i brace depth _ _ vs m (l .token) b t a h)
 
   abbrev FineTaken : Taken → Type 0
   FineTaken t = (Known → Names (t .machine .store) (t .value)) × Fits (t .machine)
 
-  group-taken : {s : List Object} {r : Result Taken} → Gives (FitTaken s) r → Gives FineTaken r
+  group-taken : {s : List Object} {r : Lexing Taken} → Gives (FitTaken s) r → Gives FineTaken r
   group-taken (gives k) = gives (k .named, k .fine)
   group-taken fails = fails
 
-  tokenValue-keeps : (script : List ℕ) (m : Machine) (after : ℕ) (t : Token) → Fits m → Gives FineTaken (tokenValue script m after t)
+  tokenValue-keeps : (script : List ℕ) (m : Machine) (start after : ℕ) (t : Token) → Fits m → Gives FineTaken (tokenValue script m start after t)
   unfolding tokenValue taken
-  tokenValue-keeps script m after (Token.integer w) h = gives (plain refl, h)
-  tokenValue-keeps script m after (Token.string bs) h = gives (λ q. new-string m bs, maked h (λ q. text-object))
-  tokenValue-keeps script m after (Token.name true n) h = gives (plain refl, h)
-  tokenValue-keeps script m after (Token.name false n) h = gives (plain refl, interned h n)
-  tokenValue-keeps script m after Token.openBrace h =
-      group-taken (group-keeps script (length script) (made m) 15 after [] (opened m) (h .laws .since m (h .holds)) (λ q. opened-there m) (λ q. nil) (opened-fits h))
-  tokenValue-keeps script m after Token.closeBrace h = fails
-  tokenValue-keeps script m after Token.end h = fails
+  tokenValue-keeps script m start after (Token.integer w) h = gives (plain refl, h)
+  tokenValue-keeps script m start after (Token.string bs) h = gives (λ q. new-string m bs, maked h (λ q. text-object))
+  tokenValue-keeps script m start after (Token.name true n) h = gives (plain refl, h)
+  tokenValue-keeps script m start after (Token.name false n) h = gives (plain refl, interned h n)
+  tokenValue-keeps script m start after Token.openBrace h =
+      group-taken (group-keeps script (length script) (made m) start 15 after [] (opened m) (h .laws .since m (h .holds)) (λ q. opened-there m) (λ q. nil) (opened-fits h))
+  tokenValue-keeps script m start after Token.closeBrace h = fails
+  tokenValue-keeps script m start after Token.end h = fails
 
   takeToken-keeps : (script : List ℕ) (start : ℕ) (m : Machine) → Fits m → Gives FineTaken (takeToken script start m)
   unfolding takeToken
-  takeToken-keeps script start m h = gives-each _ (λ l. tokenValue-keeps script m _ (l .token) h)
+  takeToken-keeps script start m h = gives-each _ (λ l. tokenValue-keeps script m _ _ (l .token) h)
 
   -- ---- moves
 
@@ -183,10 +183,9 @@ module _ (Known : Type 0) (base : ℕ) (P : Machine → Type 0) where
       (λ t. gives h)
       (λ t. gives (entered (entered (pushed h (plain refl)) (λ q. record { held = s q .held })) (λ q. record { held = s q .held })))
 
-  tokenMove-keeps : {r : Result Taken} → Gives FineTaken r → FitMove (tokenMove r)
-  unfolding tokenMove silent
-  tokenMove-keeps (gives {a = t} k) = treat-keeps (t .value) (t .machine) (k .0) (k .1)
-  tokenMove-keeps fails = fails
+  tokenMove-keeps : (t : Taken) → FineTaken t → FitMove (tokenMove t)
+  unfolding tokenMove
+  tokenMove-keeps t k = treat-keeps (t .value) (t .machine) (k .0) (k .1)
 
   -- ---- a step
 
@@ -198,6 +197,7 @@ module _ (Known : Type 0) (base : ℕ) (P : Machine → Type 0) where
   abbrev FitStep : Step → Type 0
   FitStep (goes τ) = Fits (τ .machine)
   FitStep (Steps.fails e c τ) = Unit {0}
+  FitStep (misreads f τ) = Unit {0}
 
   ended-keeps : (σ : State) (at next : ℕ) (c : List ℕ) {r : Result Machine} → Gives Fits r → FitStep (ended σ at next c r)
   unfolding ended
@@ -208,6 +208,11 @@ module _ (Known : Type 0) (base : ℕ) (P : Machine → Type 0) where
   unfolding moved
   moved-keeps l σ at next v k = ended-keeps σ at next (v .command) (gives-then k (λ m h. roomFor-keeps l (σ .machine) m h))
 
+  token-keeps : (l : Limits) (σ : State) (start : ℕ) {r : Lexing Taken} → Gives FineTaken r → FitStep (tokenStep l σ start r)
+  unfolding tokenStep
+  token-keeps l σ start (gives {a = t} k) = moved-keeps l σ start (t .after) (tokenMove t) (tokenMove-keeps t k)
+  token-keeps l σ start fails = tt
+
   stepOn-keeps : (l : Limits) (script : List ℕ) (σ : State) (fs : List Frame)
       → (Known → All (NamesFrame (σ .machine .store)) fs)
       → Fits (σ .machine)
@@ -217,9 +222,7 @@ module _ (Known : Type 0) (base : ℕ) (P : Machine → Type 0) where
       moved-keeps l σ (σ .at) (σ .next) (resume f (withExec fs (σ .machine)))
       (resume-keeps f _ (λ q. all-head (k q)) (with-exec h (λ q. all-tail (k q))))
   stepOn-keeps l script σ [] k h =
-      let start = skip script (σ .next) in
-      let t = takeToken script start (σ .machine) in
-      moved-keeps l σ start (offsetAfter start t) (tokenMove t) (tokenMove-keeps (takeToken-keeps script start (σ .machine) h))
+      token-keeps l σ (skip script (σ .next)) (takeToken-keeps script (skip script (σ .next)) (σ .machine) h)
 
   pub step-keeps : (l : Limits) (script : List ℕ) (σ τ : State) → step l script σ ≡ goes τ → Fine Known base P (σ .machine) → Fine Known base P (τ .machine)
   unfolding step

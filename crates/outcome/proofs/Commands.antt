@@ -1,10 +1,10 @@
--- How the run ended: the command by its number, its slot or its place in the script, the error's name, and the lines that they stand in.
+-- How the run ended: the command by its number, its slot or its place in the script, the name of an error or a fault, and the lines that they stand in.
 -- Assumes nothing.
 use mathlib.Core.Path.{_≡_, refl, sym, ap, _∙_, subst}
-use mathlib.Core.Bool.{true}
+use mathlib.Core.Bool.{true, false}
 use mathlib.Core.List.{List, [], _∷_, _++_, append-assoc}
 use mathlib.Core.Option.{some}
-use Prim.Native.Nat.{ℕ, _+_, _-_, _≤_, _<_}
+use Prim.Native.Nat.{ℕ, _+_, _-_, _*_, _≤_, _<_}
 use native.Mathlib.Omega.{arith}
 use lib.ListN.{length, getD, getElem?, set, take, drop, length-take}
 use Rattle.semantics.specs.Sizes.{operatorCount, nameMost}
@@ -13,10 +13,12 @@ use Rattle.semantics.specs.Values.{name}
 use Rattle.semantics.specs.Machine as Floo
 use Rattle.semantics.specs.Printing.{nameText, shown, echoedTo}
 use Rattle.semantics.specs.Steps as Steps
-use Rattle.semantics.specs.Outcome.{errorText, line, endingLines}
-use Rattle.semantics.specs.OutcomeLaws.{error-length}
+use Rattle.semantics.specs.Errors.{errorText, faultText, whereText}
+use Rattle.semantics.specs.Outcome.{line, endingLines, whereOf}
+use Rattle.semantics.specs.OutcomeLaws.{error-length, fault-length, ending-length}
 use Rattle.semantics.specs.ShortSteps.{nameText-length}
 use Rattle.semantics.specs.declared.Error.{Error}
+use Rattle.semantics.specs.declared.Fault.{Fault}
 use Rattle.semantics.specs.ListLaws.{an-element}
 use Rattle.store.specs.Rep.{titles, an-executable}
 use Rattle.text.specs.Writing.{Written}
@@ -29,14 +31,19 @@ use Rattle.ending.specs.Endings.{commandText, IsCommand, endingOf, IsEnding}
 use Rattle.ending.specs.declared.Command.{Command}
 use Rattle.ending.specs.declared.Command.the-variants.{Nothing, Operator, Name, Token}
 use Rattle.ending.specs.declared.Ending.{Ending}
-use Rattle.ending.specs.declared.Ending.the-variants.{Failed}
+use Rattle.ending.specs.declared.Ending.the-variants.{Finished, Stopped, OutOfFuel, Failed, Misread}
 use Rattle.machine.specs.Places.{keys}
 use Rattle.machine.specs.Rep.{Rep, IsIn}
 use Rattle.machine.specs.declared.Machine.{Machine}
-use Rattle.outcome.specs.Reports.{Known, EndingRoom, WritesEnding, FailureRoom, WritesFailure, CommandRoom, WritesCommand}
+use Rattle.outcome.specs.Reports.{Known, EndingRoom, WritesEnding, FailureRoom, WritesFailure, CommandRoom, WritesCommand, WritesWhere}
 use Rattle.outcome.proofs.Beginnings.{title-plain}
 
 -- ---- a name by its slot
+
+-- Without a slash it has a byte less.
+executable-text : (n : List ℕ) → length (nameText true n) ≤ 4 * length n
+unfolding nameText bytes
+executable-text n = omega (arith, nameText-length false n)
 
 pub title-there : (k : ℕ) → k < operatorCount → getElem? titles k ≡ some (getD titles k [])
 title-there k h = an-element titles k [] (omega (arith, h, titles-count))
@@ -49,9 +56,9 @@ module _ {m : Machine} {s e d c l : List ℕ} {μ : Floo.Machine} (R : Rep m s e
   abbrev pub executable-known : Shown.Known d c 6 k
   executable-known = record { small = m; stack = s; exec = e; log = l; machine = μ; rep = R; value = name true n; words = executable-words }
 
-  executable-length : length (echoedTo 0 μ (name true n)) ≤ 125
+  executable-length : length (echoedTo 0 μ (name true n)) ≤ 124
   unfolding echoedTo shown
-  executable-length = omega (arith, nameText-length true n, size-is R k n q)
+  executable-length = omega (arith, executable-text n, size-is R k n q)
 
 -- ---- the command
 
@@ -130,7 +137,7 @@ module _ {script d c : List ℕ} {command : Command} (start size : ℕ) (q : com
           arith,
           N .fits,
           token-inside .1,
-          nameText-length true (take (start + size - start) (drop start script)),
+          executable-text (take (start + size - start) (drop start script)),
           length-take (start + size - start) (drop start script),
         )
 
@@ -145,13 +152,13 @@ module _ {script d c : List ℕ} {command : Command} (start size : ℕ) (q : com
 command-length : {m : Machine} {s e d c l : List ℕ} {μ : Floo.Machine} (script : List ℕ) (command : Command)
     → Rep m s e d c l μ
     → IsCommand script (keys μ) command
-    → length (commandText script (keys μ) command) ≤ 125
+    → length (commandText script (keys μ) command) ≤ 124
 unfolding commandText
 command-length script Nothing R h = omega arith
 command-length {m} {s} {e} {l = l} {μ = μ} script (Operator k) R h = let S = operator-slot {script = script} {k = k} refl m s e l μ R h in omega (arith, ap length (S .same), executable-length R k (S .slot))
 command-length {m} {s} {e} {l = l} {μ = μ} script (Name k) R h = let S = name-slot {script = script} {k = k} refl m s e l μ R h in omega (arith, ap length (S .same), executable-length R k (S .slot))
 command-length script (Token start size) R h =
-    omega (arith, h .1, nameText-length true (take size (drop start script)), length-take size (drop start script))
+    omega (arith, h .1, executable-text (take size (drop start script)), length-take size (drop start script))
 
 -- ---- an error
 
@@ -187,7 +194,7 @@ module _ {script d c : List ℕ} {command : Command} {out : List ℕ} (N : Failu
       command-room = record { known = N .known; fits = omega (arith, N .fits, next-few, k₁, k₂, k₃) }
 
       module _ {o₄ : List ℕ} {after : ℕ} (text : WritesCommand script d c command next o₃ o₄ after) (k₄ : length o₄ ≡ length o₃) where
-        pub after-few : after + 1 ≤ 171
+        pub after-few : after + 1 ≤ 170
         after-few =
             let K = N .known in
             omega (
@@ -209,6 +216,29 @@ module _ {script d c : List ℕ} {command : Command} {out : List ℕ} (N : Failu
                   (last 10 low last-room (then low (then low (then low head name) key) (text .says m s e l μ R h)));
             }
 
+-- ---- a fault of a token
+
+bare-seam : (h a n k : List ℕ) → h ++ (a ++ n) ++ k ≡ h ++ a ++ (n ++ k)
+bare-seam h a n k = simp append-assoc
+
+misread-text : (f : Fault) → endingLines (Steps.misread f) ≡ bytes "ending=error\nerror=" ++ faultText f ++ bytes "\ncommand=\n"
+unfolding endingLines line bytes
+misread-text f = bare-seam (bytes "ending=error\nerror=") (faultText f) (bytes "\n") (bytes "command=\n")
+
+module _ {out : List ℕ} (fits : 39 ≤ length out)
+    {o₁ : List ℕ} {start : ℕ} (head : Written 0 (bytes "ending=error\nerror=") out o₁ start) (k₁ : length o₁ ≡ length out) where
+  pub fault-room : start + 10 ≤ length o₁
+  unfolding bytes
+  fault-room = omega (arith, fits, head .end, k₁)
+
+  module _ (f : Fault) {o₂ : List ℕ} {after : ℕ} (name : Written start (faultText f) o₁ o₂ after) (k₂ : length o₂ ≡ length o₁) where
+    pub end-room : after + length (bytes "\ncommand=\n") ≤ length o₂
+    unfolding bytes
+    end-room = omega (arith, fits, head .end, name .end, fault-length f, k₁, k₂)
+
+    pub misread-lines : {new : List ℕ} {r : ℕ} → Written after (bytes "\ncommand=\n") o₂ new r → Written 0 (endingLines (Steps.misread f)) out new r
+    misread-lines W = let low : 0 ≤ length out = omega arith in respelt (misread-text f) (then low (then low head name) W)
+
 -- ---- the ending
 
 pub failed-room : {script d c : List ℕ} {ending : Ending} {out : List ℕ} {error : Error} {command : Command}
@@ -228,6 +258,10 @@ module _ {script d c : List ℕ} {ending : Ending} {old new : List ℕ} {r : ℕ
   ending-written e W q =
       record { says = λ m s x l μ R h. respelt (ap (λ y. endingLines (endingOf script (keys μ) y)) q) (W (keys μ)) }
 
+  pub misread-written : {f : Fault} → ending ≡ Misread f → Written 0 (endingLines (Steps.misread f)) old new r → WritesEnding script d c ending old new r
+  unfolding endingOf
+  misread-written {f} q W = ending-written (Misread f) (λ names. W) q
+
   pub failed-written : {error : Error} {command : Command} → ending ≡ Failed error command → WritesFailure script d c error command old new r → WritesEnding script d c ending old new r
   unfolding endingOf
   failed-written q W =
@@ -235,3 +269,26 @@ module _ {script d c : List ℕ} {ending : Ending} {old new : List ℕ} {r : ℕ
         says = λ m s e l μ R h.
             respelt (ap (λ y. endingLines (endingOf script (keys μ) y)) q) (W .says m s e l μ R (subst (λ y. IsEnding script (keys μ) y) q h));
       }
+
+-- How the run ended and where its token is wrong have 170 bytes at most.
+pub ending-few : {m : Machine} {s e d c l : List ℕ} {μ : Floo.Machine} (script : List ℕ) (ending : Ending)
+    → Rep m s e d c l μ
+    → IsEnding script (keys μ) ending
+    → length (endingLines (endingOf script (keys μ) ending)) + length (whereOf (endingOf script (keys μ) ending)) ≤ 170
+unfolding endingOf
+ending-few script Finished R h = ending-length Steps.finished (omega arith)
+ending-few script Stopped R h = ending-length Steps.stopped (omega arith)
+ending-few script OutOfFuel R h = ending-length Steps.outOfFuel (omega arith)
+ending-few {μ = μ} script (Failed error command) R h = ending-length (Steps.failed error (commandText script (keys μ) command)) (command-length script command R h)
+ending-few script (Misread f) R h = ending-length (Steps.misread f) (omega arith)
+
+-- ---- where a token is wrong
+
+module _ {ending : Ending} {at r : ℕ} {old new : List ℕ} where
+  pub place-written : {f : Fault} → ending ≡ Misread f → Written at (line (bytes "where") (whereText f)) old new r → WritesWhere ending at old new r
+  unfolding whereOf endingOf
+  place-written q W = record { says = λ script names. respelt (ap (λ e. line (bytes "where") (whereOf (endingOf script names e))) q) W }
+
+  pub nowhere-written : ((script : List ℕ) (names : List (List ℕ)) → whereOf (endingOf script names ending) ≡ []) → Written at (bytes "where=\n") old new r → WritesWhere ending at old new r
+  unfolding line bytes
+  nowhere-written h W = record { says = λ script names. respelt (ap (line (bytes "where")) (h script names)) W }

@@ -1,4 +1,4 @@
--- The lines of the five numbers: a key, a number of 10 digits at most, and what the numbers are in every machine that the words stand for.
+-- The lines of numbers: a key, a number of 10 digits at most, and what the counts are in every machine that the words stand for.
 -- Assumes nothing.
 use mathlib.Core.Path.{_≡_, ap, _∙_}
 use mathlib.Core.List.{List, []}
@@ -40,13 +40,13 @@ module _ {at next : ℕ} {key out mid : List ℕ} (n : ℕ) (room : at + length 
     unfolding line bytes
     number-line = let low : at ≤ length out = omega (arith, room) in last 10 low feed-room (then low (last 61 low sign-room K) D)
 
--- ---- the five numbers
+-- ---- the counts
 
 -- The cells that are not free are those that are held.
 pub held-room : {m : Machine} {s e d c l : List ℕ} {μ : Floo.Machine} → Rep m s e d c l μ → freeCells m c + heldCells μ ≡ cells c
 held-room {μ = μ} R = let H = R .stored in lists-room μ (H .full) (H .none-dead) (H .none-out) (H .objects) (rooted μ)
 
-module _ {m : Machine} {at : ℕ} {c : List ℕ} {next : ℕ} {out : List ℕ} (N : CountsRoom m at c next out) where
+module _ {m : Machine} {c : List ℕ} {next : ℕ} {out : List ℕ} (N : CountsRoom m c next out) where
   pub count-somewhere : (s : List ℕ) × Somewhere m s c
   count-somewhere = (N .stack, (N .exec, N .dict, N .log, N .machine, N .rep))
 
@@ -68,40 +68,35 @@ pub after-line : {at r : ℕ} {out mid : List ℕ} (key : List ℕ) (n left : �
     → r + left ≤ length mid
 after-line key n left h W same = omega (arith, h, W .end, same, count-length key n)
 
--- After each of the first four lines there is room for the others.
-module _ {m : Machine} {at : ℕ} {c : List ℕ} {next : ℕ} {out : List ℕ} (N : CountsRoom m at c next out)
-    {o₁ : List ℕ} {r₁ : ℕ} (at-line : Written next (line (bytes "at") (decimal at)) out o₁ r₁) (k₁ : length o₁ ≡ length out) where
-  pub after-at : r₁ + 65 ≤ length o₁
+-- After each of the first three lines there is room for the others.
+module _ {m : Machine} {c : List ℕ} {next : ℕ} {out : List ℕ} (N : CountsRoom m c next out)
+    (steps : ℕ) {o₁ : List ℕ} {r₁ : ℕ} (steps-line : Written next (line (bytes "steps") (decimal steps)) out o₁ r₁) (k₁ : length o₁ ≡ length out) where
+  pub after-steps : r₁ + 48 ≤ length o₁
   unfolding bytes
-  after-at = after-line (bytes "at") at 65 (N .fits) at-line k₁
+  after-steps = after-line (bytes "steps") steps 48 (N .fits) steps-line k₁
 
-  module _ (steps : ℕ) {o₂ : List ℕ} {r₂ : ℕ} (steps-line : Written r₁ (line (bytes "steps") (decimal steps)) o₁ o₂ r₂) (k₂ : length o₂ ≡ length o₁) where
-    pub after-steps : r₂ + 48 ≤ length o₂
+  module _ {o₂ : List ℕ} {r₂ : ℕ} (depth-line : Written r₁ (line (bytes "depth") (decimal (m .depth))) o₁ o₂ r₂) (k₂ : length o₂ ≡ length o₁) where
+    pub after-depth : r₂ + 31 ≤ length o₂
     unfolding bytes
-    after-steps = after-line (bytes "steps") steps 48 after-at steps-line k₂
+    after-depth = after-line (bytes "depth") (m .depth) 31 after-steps depth-line k₂
 
-    module _ {o₃ : List ℕ} {r₃ : ℕ} (depth-line : Written r₂ (line (bytes "depth") (decimal (m .depth))) o₂ o₃ r₃) (k₃ : length o₃ ≡ length o₂) where
-      pub after-depth : r₃ + 31 ≤ length o₃
+    module _ (held : ℕ) {o₃ : List ℕ} {r₃ : ℕ} (held-line : Written r₂ (line (bytes "held") (decimal held)) o₂ o₃ r₃) (k₃ : length o₃ ≡ length o₂) where
+      pub after-held : r₃ + 15 ≤ length o₃
       unfolding bytes
-      after-depth = after-line (bytes "depth") (m .depth) 31 after-steps depth-line k₃
+      after-held = after-line (bytes "held") held 15 after-depth held-line k₃
 
-      module _ (held : ℕ) {o₄ : List ℕ} {r₄ : ℕ} (held-line : Written r₃ (line (bytes "held") (decimal held)) o₃ o₄ r₄) (k₄ : length o₄ ≡ length o₃) where
-        pub after-held : r₄ + 15 ≤ length o₄
-        unfolding bytes
-        after-held = after-line (bytes "held") held 15 after-depth held-line k₄
-
-        pub counts-written : (free : ℕ) → free ≡ freeCells m c → held ≡ cells c - free → {new : List ℕ} {r : ℕ}
-            → Written r₄ (line (bytes "log") (decimal (m .written))) o₄ new r
-            → WritesCounts m at steps c next out new r
-        unfolding countLines
-        counts-written free f h log-line =
-            record {
-              says = λ s e d l μ R.
-                  let low : next ≤ length out = omega (arith, N .fits) in
-                  let is-held : heldCells μ ≡ held = omega (arith, f, h, held-room R) in
-                  respelt
-                  (ap (λ n. countLines at steps n (heldCells μ) (length (μ .log))) (stack-depth R)
-                  ∙ ap (λ n. countLines at steps (m .depth) n (length (μ .log))) is-held
-                  ∙ ap (λ n. countLines at steps (m .depth) held n) (logged-length R))
-                  (then low (then low (then low (then low at-line steps-line) depth-line) held-line) log-line);
-            }
+      pub counts-written : (free : ℕ) → free ≡ freeCells m c → held ≡ cells c - free → {new : List ℕ} {r : ℕ}
+          → Written r₃ (line (bytes "log") (decimal (m .written))) o₃ new r
+          → WritesCounts m steps c next out new r
+      unfolding countLines
+      counts-written free f h log-line =
+          record {
+            says = λ s e d l μ R.
+                let low : next ≤ length out = omega (arith, N .fits) in
+                let is-held : heldCells μ ≡ held = omega (arith, f, h, held-room R) in
+                respelt
+                (ap (λ n. countLines steps n (heldCells μ) (length (μ .log))) (stack-depth R)
+                ∙ ap (λ n. countLines steps (m .depth) n (length (μ .log))) is-held
+                ∙ ap (λ n. countLines steps (m .depth) held n) (logged-length R))
+                (then low (then low (then low steps-line depth-line) held-line) log-line);
+          }

@@ -20,7 +20,7 @@ use Rattle.ending.specs.Endings.{commandText, IsCommand, endingOf, IsEnding}
 use Rattle.ending.specs.declared.Command.{Command}
 use Rattle.ending.specs.declared.Command.the-variants.{Nothing, Operator, Name, Token}
 use Rattle.ending.specs.declared.Ending.{Ending}
-use Rattle.ending.specs.declared.Ending.the-variants.{Finished, Stopped, OutOfFuel, Failed}
+use Rattle.ending.specs.declared.Ending.the-variants.{Finished, Stopped, OutOfFuel, Failed, Misread}
 use Rattle.machine.specs.Places.{keys, texts}
 use Rattle.machine.specs.Rep.{Rep, IsIn, Items, bottom, item}
 use Rattle.machine.specs.declared.Machine.{Machine}
@@ -71,6 +71,7 @@ module _ {m : Machine} {s e d c l : List ℕ} {μ : Floo.Machine} (R : Rep m s e
     plain-ending Stopped h = tt
     plain-ending OutOfFuel h = tt
     plain-ending (Failed error command) h = command-ascii command h
+    plain-ending (Misread f) h = tt
 
     pub readable : (ending : Ending) (next at steps : ℕ)
         → IsEnding script (keys μ) ending

@@ -14,7 +14,7 @@ use Rattle.semantics.specs.Machine.{object, bytesOf}
 use Rattle.semantics.specs.Printing.{item}
 use Rattle.semantics.specs.Held.{heldCells}
 use Rattle.semantics.specs.Steps as Steps
-use Rattle.semantics.specs.Outcome.{line, endingLines, items, outcome}
+use Rattle.semantics.specs.Outcome.{line, endingLines, whereOf, items, outcome}
 use Rattle.semantics.specs.declared.Error.{Error}
 use Rattle.text.specs.Writing.{Written}
 use Rattle.ending.specs.Endings.{commandText, IsCommand, endingOf, IsEnding}
@@ -60,7 +60,7 @@ pub record Known (P : Floo.Machine → Type 0) (d c : List ℕ) : Type 0 where
 
 pub record EndingRoom (script d c : List ℕ) (ending : Ending) (out : List ℕ) : Type 0 where
   pub known : Known (λ μ. IsEnding script (keys μ) ending) d c
-  pub fits : 171 ≤ length out
+  pub fits : 170 ≤ length out
 
 pub record WritesEnding (script d c : List ℕ) (ending : Ending) (old new : List ℕ) (r : ℕ) : Type 0 where
   pub says : (m : Machine) (s e l : List ℕ) (μ : Floo.Machine)
@@ -70,7 +70,7 @@ pub record WritesEnding (script d c : List ℕ) (ending : Ending) (old new : Lis
 
 pub record FailureRoom (script d c : List ℕ) (command : Command) (out : List ℕ) : Type 0 where
   pub known : Known (λ μ. IsCommand script (keys μ) command) d c
-  pub fits : 171 ≤ length out
+  pub fits : 170 ≤ length out
 
 pub record WritesFailure (script d c : List ℕ) (error : Error) (command : Command) (old new : List ℕ) (r : ℕ) : Type 0 where
   pub says : (m : Machine) (s e l : List ℕ) (μ : Floo.Machine)
@@ -80,7 +80,7 @@ pub record WritesFailure (script d c : List ℕ) (error : Error) (command : Comm
 
 pub record CommandRoom (script d c : List ℕ) (command : Command) (at : ℕ) (out : List ℕ) : Type 0 where
   pub known : Known (λ μ. IsCommand script (keys μ) command) d c
-  pub fits : at + 125 ≤ length out
+  pub fits : at + 124 ≤ length out
 
 pub record WritesCommand (script d c : List ℕ) (command : Command) (at : ℕ) (old new : List ℕ) (r : ℕ) : Type 0 where
   pub says : (m : Machine) (s e l : List ℕ) (μ : Floo.Machine)
@@ -90,19 +90,21 @@ pub record WritesCommand (script d c : List ℕ) (command : Command) (at : ℕ) 
 
 -- ---- the numbers
 
--- The lines of the five numbers.
-unfoldable pub countLines : ℕ → ℕ → ℕ → ℕ → ℕ → List ℕ
-countLines at steps depth held log =
-    line (bytes "at") (decimal at)
-    ++ line (bytes "steps") (decimal steps)
+-- The line of the first byte that could not be accepted.
+pub record WritesWhere (ending : Ending) (at : ℕ) (old new : List ℕ) (r : ℕ) : Type 0 where
+  pub says : (script : List ℕ) (names : List (List ℕ)) → Written at (line (bytes "where") (whereOf (endingOf script names ending))) old new r
+
+-- The lines of the four counts.
+unfoldable pub countLines : ℕ → ℕ → ℕ → ℕ → List ℕ
+countLines steps depth held log =
+    line (bytes "steps") (decimal steps)
     ++ line (bytes "depth") (decimal depth)
     ++ line (bytes "held") (decimal held)
     ++ line (bytes "log") (decimal log)
 
-pub record CountsRoom (m : Machine) (at : ℕ) (c : List ℕ) (next : ℕ) (out : List ℕ) : Type 0 where
-  pub offset : at ≤ scriptMost
+pub record CountsRoom (m : Machine) (c : List ℕ) (next : ℕ) (out : List ℕ) : Type 0 where
   pub log-few : m .written ≤ logMost
-  pub fits : next + 79 ≤ length out
+  pub fits : next + 65 ≤ length out
   pub stack : List ℕ
   pub exec : List ℕ
   pub dict : List ℕ
@@ -110,10 +112,10 @@ pub record CountsRoom (m : Machine) (at : ℕ) (c : List ℕ) (next : ℕ) (out 
   pub machine : Floo.Machine
   pub rep : Rep m stack exec dict c log machine
 
-pub record WritesCounts (m : Machine) (at steps : ℕ) (c : List ℕ) (next : ℕ) (old new : List ℕ) (r : ℕ) : Type 0 where
+pub record WritesCounts (m : Machine) (steps : ℕ) (c : List ℕ) (next : ℕ) (old new : List ℕ) (r : ℕ) : Type 0 where
   pub says : (s e d l : List ℕ) (μ : Floo.Machine)
       → Rep m s e d c l μ
-      → Written next (countLines at steps (length (μ .stack)) (heldCells μ) (length (μ .log))) old new r
+      → Written next (countLines steps (length (μ .stack)) (heldCells μ) (length (μ .log))) old new r
 
 -- ---- the items
 

@@ -1,14 +1,16 @@
-// The outcome's text (01, Outcome), written from the machine's words: how the run ended, five numbers, and the stack's items, the bottom first. What is
-// written are the definition's bytes, in every machine that the words stand for.
+// The outcome's text (01, Outcome; 02, W4), written from the machine's words: how the run ended, the offsets of its last token and of a fault in it, four counts, and
+// the stack's items, the bottom first. What is written are the definition's bytes, in every machine that the words stand for.
 ghost use Prim.Native.Nat.{_+_, _*_, _≤_, _<_};
 ghost use lib.ListN.{length};
 ghost use Rattle.semantics.specs.Sizes.{itemRoom};
-ghost use Rattle.semantics.specs.Text.{decimal};
-ghost use Rattle.semantics.specs.Outcome.{errorText, line};
+ghost use Rattle.semantics.specs.Text.{bytes, decimal};
+ghost use Rattle.semantics.specs.Errors.{errorText, faultText, whereText};
+ghost use Rattle.semantics.specs.Steps.{misread};
+ghost use Rattle.semantics.specs.Outcome.{line, endingLines};
 ghost use Rattle.text.specs.Writing.{Written};
 ghost use Rattle.elements.specs.Elements.{HasString, SomewhereThat};
 ghost use Rattle.outcome.specs.Reports.{Ready, WritesOutcome, EndingRoom, WritesEnding, FailureRoom, WritesFailure, CommandRoom, WritesCommand};
-ghost use Rattle.outcome.specs.Reports.{CountsRoom, WritesCounts, ItemsRoom, WritesItems, ItemRoom, WritesItem, WritesValue, WritesSizes, kindText};
+ghost use Rattle.outcome.specs.Reports.{WritesWhere, CountsRoom, WritesCounts, ItemsRoom, WritesItems, ItemRoom, WritesItem, WritesValue, WritesSizes, kindText};
 use ending::Command;
 use ending::Ending;
 use machine::ITEM_PAYLOAD;
@@ -23,6 +25,7 @@ use machine::TAG_OPERATOR;
 use machine::TAG_PROCEDURE;
 use machine::TAG_STRING;
 use semantics::Error;
+use semantics::Fault;
 use semantics::STACK_WIDTH;
 
 // The outcome at the front of `out`.
@@ -42,7 +45,9 @@ pub fn write(
     ensures { λ r. ⌜ WritesOutcome (now (script .entry)) m ending at steps (now (stack .entry)) (now (dict .entry)) (now (cells .entry)) (now (out .entry)) (now (out .exit)) r ⌝ }
 {
     let head = write_ending(ending, script, dict, cells, out);
-    let next = write_counts(m, at, steps, cells, out, head);
+    let token = write_number(out, head, b"at", at as u32);
+    let place = write_where(out, token, ending);
+    let next = write_counts(m, steps, cells, out, place);
     write_items(m, stack, dict, cells, out, next)
 }
 
@@ -51,13 +56,13 @@ pub fn write(
 fn write_ending(ending: Ending, script: &[u8], dict: &[u32], cells: &[u32], out: &mut [u8]) -> usize
     requires { ⌜ EndingRoom (now script) (now dict) (now cells) ending (now out) ⌝ }
     ensures { λ r. ⌜ WritesEnding (now (script .entry)) (now (dict .entry)) (now (cells .entry)) ending (now (out .entry)) (now (out .exit)) r ⌝ }
-    ensures { λ r. ⌜ r ≤ 171 ⌝ }
 {
     match ending {
         Ending::Finished => text::copy(out, 0, b"ending=finished\nerror=none\ncommand=\n"),
         Ending::Stopped => text::copy(out, 0, b"ending=stopped\nerror=none\ncommand=\n"),
         Ending::OutOfFuel => text::copy(out, 0, b"ending=fuel\nerror=none\ncommand=\n"),
         Ending::Failed(error, command) => write_failure(error, command, script, dict, cells, out),
+        Ending::Misread(fault) => write_misread(fault, out),
     }
 }
 
@@ -71,7 +76,6 @@ fn write_failure(
 ) -> usize
     requires { ⌜ FailureRoom (now script) (now dict) (now cells) command (now out) ⌝ }
     ensures { λ r. ⌜ WritesFailure (now (script .entry)) (now (dict .entry)) (now (cells .entry)) error command (now (out .entry)) (now (out .exit)) r ⌝ }
-    ensures { λ r. ⌜ r ≤ 171 ⌝ }
 {
     let start = text::copy(out, 0, b"ending=error\nerror=");
     let middle = write_error(out, start, error);
@@ -81,13 +85,37 @@ fn write_failure(
     after + 1
 }
 
+// A fault of a token has no command.
+fn write_misread(fault: Fault, out: &mut [u8]) -> usize
+    requires { ⌜ 39 ≤ length (now out) ⌝ }
+    ensures { λ r. ⌜ Written 0 (endingLines (misread fault)) (now (out .entry)) (now (out .exit)) r ⌝ }
+{
+    let start = text::copy(out, 0, b"ending=error\nerror=");
+    let after = write_fault(out, start, fault);
+    text::copy(out, after, b"\ncommand=\n")
+}
+
+// The paper's name of a fault.
+fn write_fault(out: &mut [u8], at: usize, fault: Fault) -> usize
+    requires { ⌜ at + 10 ≤ length (now out) ⌝ }
+    ensures { λ r. ⌜ Written at (faultText fault) (now (out .entry)) (now (out .exit)) r ⌝ }
+{
+    match fault {
+        Fault::BadNumber(_) => text::copy(out, at, b"badnumber"),
+        Fault::BadEscape(_) => text::copy(out, at, b"badescape"),
+        Fault::OpenString(_) => text::copy(out, at, b"openstring"),
+        Fault::BadBrace(_) => text::copy(out, at, b"badbrace"),
+        Fault::BadByte(_) => text::copy(out, at, b"badbyte"),
+        Fault::OverLimit => text::copy(out, at, b"limitcheck"),
+    }
+}
+
 // The paper's name of an error.
 fn write_error(out: &mut [u8], at: usize, error: Error) -> usize
     requires { ⌜ at + 17 ≤ length (now out) ⌝ }
     ensures { λ r. ⌜ Written at (errorText error) (now (out .entry)) (now (out .exit)) r ⌝ }
 {
     match error {
-        Error::SyntaxError => text::copy(out, at, b"syntaxerror"),
         Error::LimitCheck => text::copy(out, at, b"limitcheck"),
         Error::Undefined => text::copy(out, at, b"undefined"),
         Error::StackUnderflow => text::copy(out, at, b"stackunderflow"),
@@ -129,21 +157,38 @@ fn write_command(
 
 // ---- the numbers
 
+// The line of the first byte that could not be accepted, if a token had one.
+fn write_where(out: &mut [u8], at: usize, ending: Ending) -> usize
+    requires { ⌜ at + 17 ≤ length (now out) ⌝ }
+    ensures { λ r. ⌜ WritesWhere ending at (now (out .entry)) (now (out .exit)) r ⌝ }
+{
+    match ending {
+        Ending::Misread(fault) => write_place(out, at, fault),
+        _ => text::copy(out, at, b"where=\n"),
+    }
+}
+
+fn write_place(out: &mut [u8], at: usize, fault: Fault) -> usize
+    requires { ⌜ at + 17 ≤ length (now out) ⌝ }
+    ensures { λ r. ⌜ Written at (line (bytes "where") (whereText fault)) (now (out .entry)) (now (out .exit)) r ⌝ }
+{
+    match fault {
+        Fault::BadNumber(place) => write_number(out, at, b"where", place),
+        Fault::BadEscape(place) => write_number(out, at, b"where", place),
+        Fault::OpenString(place) => write_number(out, at, b"where", place),
+        Fault::BadBrace(place) => write_number(out, at, b"where", place),
+        Fault::BadByte(place) => write_number(out, at, b"where", place),
+        Fault::OverLimit => text::copy(out, at, b"where=\n"),
+    }
+}
+
 // What is held are the cells that are not free.
-fn write_counts(
-    m: Machine,
-    at: usize,
-    steps: u32,
-    cells: &[u32],
-    out: &mut [u8],
-    next: usize,
-) -> usize
-    requires { ⌜ CountsRoom m at (now cells) next (now out) ⌝ }
-    ensures { λ r. ⌜ WritesCounts m at steps (now (cells .entry)) next (now (out .entry)) (now (out .exit)) r ⌝ }
+fn write_counts(m: Machine, steps: u32, cells: &[u32], out: &mut [u8], next: usize) -> usize
+    requires { ⌜ CountsRoom m (now cells) next (now out) ⌝ }
+    ensures { λ r. ⌜ WritesCounts m steps (now (cells .entry)) next (now (out .entry)) (now (out .exit)) r ⌝ }
 {
     let held = (cells.len() / 4) as u32 - elements::free_cells(m, cells);
-    let a = write_number(out, next, b"at", at as u32);
-    let b = write_number(out, a, b"steps", steps);
+    let b = write_number(out, next, b"steps", steps);
     let c = write_number(out, b, b"depth", m.depth as u32);
     let d = write_number(out, c, b"held", held);
     write_number(out, d, b"log", m.written as u32)

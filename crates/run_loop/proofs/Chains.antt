@@ -10,13 +10,14 @@ use lib.Seq.{take-suc}
 use Rattle.semantics.specs.Machine as Floo
 use Rattle.semantics.specs.Steps as steps
 use Rattle.semantics.specs.Steps.{Limits, step}
+use Rattle.machine.specs.Rep.{Rep}
 use Rattle.exactness.specs.Traces.{leaves, trace, last, Along, nil, cons}
 use Rattle.exactness.proofs.Lists.{along-snoc, last-snoc}
 use Rattle.exactness.proofs.Tracing.{trace-first, trace-next, trace-take, trace-spent}
 use Rattle.step.specs.Stepping.{stateOf, SteppedAs}
 use Rattle.step.specs.declared.State.{State}
 use Rattle.step.specs.declared.Stepped.{Stepped}
-use Rattle.step.specs.declared.Stepped.the-variants.{Goes, Fails}
+use Rattle.step.specs.declared.Stepped.the-variants.{Goes, Fails, Misreads}
 use Rattle.run_loop.specs.History.{Moment, moment, limitsOf, leftBy, Leads, Chain, start, then, Exactly}
 use Rattle.run_loop.proofs.Running.{exactly}
 
@@ -29,6 +30,17 @@ same-state {x} {σ} E =
     ∙ ap (λ n. record { machine = σ .machine; next = σ .next; at = n; steps = x .state .steps }) (E .at)
     ∙ ap (λ n. record { machine = σ .machine; next = σ .next; at = σ .at; steps = n }) (E .steps)
 
+-- A step that ends the run.
+unmoved-exact : (script : List ℕ) (x : Moment) {y : Moment} (μ : Floo.Machine) (τ : State) {r : steps.Step}
+    → step (limitsOf x) script (stateOf (x .state) μ) ≡ r
+    → Rep (τ .machine) (y .stack) (y .exec) (y .dict) (y .cells) (y .log) μ
+    → leaves r ≡ stateOf τ μ
+    → τ ≡ y .state
+    → Exactly y (leaves (step (limitsOf x) script (stateOf (x .state) μ)))
+unmoved-exact script x {y} μ τ is R to q =
+    subst (λ s. Exactly y (leaves s)) (sym is)
+    (subst (Exactly y) (sym to) (subst (λ ρ. Exactly (moment ρ (y .stack) (y .exec) (y .dict) (y .cells) (y .log)) (stateOf τ μ)) q (exactly R)))
+
 answered : (script : List ℕ) (x : Moment) {y : Moment} (μ : Floo.Machine) (answer : Stepped)
     → SteppedAs script (x .state) (x .stack) (y .stack) (x .exec) (y .exec) (x .dict) (y .dict) (x .cells) (y .cells) (x .log) (y .log) μ answer
     → leftBy answer ≡ y .state
@@ -36,9 +48,8 @@ answered : (script : List ℕ) (x : Moment) {y : Moment} (μ : Floo.Machine) (an
 answered script x {y} μ (Goes τ) A q =
     subst (λ s. Exactly y (leaves s)) (sym (A .1))
     (subst (λ ρ. Exactly (moment ρ (y .stack) (y .exec) (y .dict) (y .cells) (y .log)) (stateOf τ (A .0))) q (exactly (A .2)))
-answered script x {y} μ (Fails τ e command) A q =
-    subst (λ s. Exactly y (leaves s)) (sym (A .0))
-    (subst (λ ρ. Exactly (moment ρ (y .stack) (y .exec) (y .dict) (y .cells) (y .log)) (stateOf τ μ)) q (exactly (A .1)))
+answered script x {y} μ (Fails τ e command) A q = unmoved-exact script x μ τ (A .0) (A .1) refl q
+answered script x {y} μ (Misreads τ command f) A q = unmoved-exact script x μ τ (A .0) (A .1) refl q
 
 -- A moment that an exact one leads to is exact for what the definition's step leaves.
 pub led : {script : List ℕ} {x y : Moment} {σ : steps.State} → Leads script x y → Exactly x σ → Exactly y (leaves (step (limitsOf x) script σ))

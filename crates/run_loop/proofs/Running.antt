@@ -13,8 +13,9 @@ use Rattle.semantics.specs.Steps.{run, finish, isFinished}
 use Rattle.semantics.specs.RunLaws as laws
 use Rattle.semantics.specs.RunLaws.{step-stepped, went}
 use Rattle.semantics.specs.declared.Error.{Error}
+use Rattle.semantics.specs.declared.Fault.{Fault}
 use Rattle.heap.specs.Shape.{cells}
-use Rattle.ending.specs.Endings.{endingOf, commandText}
+use Rattle.ending.specs.Endings.{endingOf, IsEnding}
 use Rattle.ending.specs.declared.Command.{Command}
 use Rattle.ending.specs.declared.Ending.{Ending}
 use Rattle.ending.specs.declared.Ending.the-variants as ending
@@ -25,13 +26,13 @@ use Rattle.machine.proofs.Rooms.{frames-length, logged-length}
 use Rattle.exactness.specs.Traces.{Along, nil, cons}
 use Rattle.exactness.proofs.Showing.{shows}
 use Rattle.exactness.proofs.Lists.{along-snoc}
-use Rattle.exactness.proofs.Reaching.{Reached, reached-start, reached-goes, over-finished, over-spent, over-fails, over-stops}
+use Rattle.exactness.proofs.Reaching.{Reached, reached-start, reached-goes, over-finished, over-spent, over-fails, over-misreads, over-stops, Over}
 use Rattle.growth.proofs.Logs.{rest-on}
 use Rattle.growth.proofs.StepGrowth.{step-log-length}
 use Rattle.step.specs.Stepping.{stateOf, SteppedAs, LogLeft, Steps, Ready, Finished}
 use Rattle.step.specs.declared.State.{State}
 use Rattle.step.specs.declared.Stepped.{Stepped}
-use Rattle.step.specs.declared.Stepped.the-variants.{Goes, Fails}
+use Rattle.step.specs.declared.Stepped.the-variants.{Goes, Fails, Misreads}
 use Rattle.run_loop.specs.History.{Moment, moment, limitsOf, leftBy, Leads, Chain, start, then, Exactly, Begun, EndsFrom, Ends}
 
 -- ---- one moment
@@ -270,38 +271,47 @@ module _ {script : List ℕ} {fuel : ℕ} {st₀ : State} {s₀ e₀ d₀ c₀ l
           rest = goes-rest;
         }
 
-      module _ {x : Error} {command : Command} {τ : State} (g : answer ≡ Fails τ x command) where
-        fails-as : SteppedAs script st s s′ e e′ d d′ c c′ l l′ (G .machine) (Fails τ x command)
-        fails-as = subst (SteppedAs script st s s′ e e′ d d′ c c′ l l′ (G .machine)) g (W .steps .steps (G .machine) (G .rep))
-
-        fails-is : steps.step (lent s₀ e₀ d₀ c₀ l₀) script (stateOf st (G .machine)) ≡ steps.fails x (commandText script (keys (G .machine)) command) (stateOf τ (G .machine))
-        fails-is = ap (λ n. steps.step n script (stateOf st (G .machine))) (sym limits-same) ∙ fails-as .0
-
-        -- The log is as it was.
-        fails-rest : drop (τ .machine .written) l′ ≡ drop (τ .machine .written) l₀
-        fails-rest =
-            let same : τ .machine .written ≡ st .machine .written = sym (logged-length (fails-as .1)) ∙ logged-length (G .rep) in
-            subst (λ n. drop n l′ ≡ drop n l₀) (sym same) (ap (drop (st .machine .written)) (subst (LogLeft l l′) g (W .steps .left)) ∙ G .rest)
-
-        from-failed : EndsFrom script fuel st₀ μ₀ s₀ s′ e₀ e′ d₀ d′ c₀ c′ l₀ l′ τ (ending.Failed x command)
-        unfolding endingOf
-        from-failed =
-            let O = over-fails again more fails-is in
+      -- A step that ends the run leaves the machine as it was.
+      module _ {τ : State} (left-is : leftBy answer ≡ τ) (rep : Rep (τ .machine) s′ e′ d′ c′ l′ (G .machine)) (log-is : l′ ≡ l) (low : τ .at ≤ length script)
+          {x : Ending} (named : IsEnding script (keys (G .machine)) x)
+          (O : Over (lent s₀ e₀ d₀ c₀ l₀) script fuel (stateOf st₀ μ₀) ((G .before ++ (stateOf st (G .machine) ∷ [])) ++ (stateOf τ (G .machine) ∷ []))
+          (record { ending = endingOf script (keys (G .machine)) x; final = stateOf τ (G .machine) })) where
+        from-ended : EndsFrom script fuel st₀ μ₀ s₀ s′ e₀ e′ d₀ d′ c₀ c′ l₀ l′ τ x
+        from-ended =
+            let same : τ .machine .written ≡ st .machine .written = sym (logged-length rep) ∙ logged-length (G .rep) in
             record {
               machine = G .machine;
-              rep = fails-as .1;
-              named = fails-as .2;
+              rep = rep;
+              named = named;
               runs = O .runs;
-              within = fails-as .3;
+              within = low;
               last = τ;
               same = (refl, refl);
               history = record {
                 moments = G .moments ++ (moment τ s′ e′ d′ c′ l′ ∷ []);
-                chain = then (G .chain) (record { answer = answer; steps = W .steps; left = ap leftBy g; room = went-room W });
-                exact = subst (Along Exactly (G .moments ++ (moment τ s′ e′ d′ c′ l′ ∷ []))) (sym (O .states)) (along-snoc (G .exact) (exactly (fails-as .1)));
+                chain = then (G .chain) (record { answer = answer; steps = W .steps; left = left-is; room = went-room W });
+                exact = subst (Along Exactly (G .moments ++ (moment τ s′ e′ d′ c′ l′ ∷ []))) (sym (O .states)) (along-snoc (G .exact) (exactly rep));
               };
-              rest = fails-rest;
+              rest = subst (λ n. drop n l′ ≡ drop n l₀) (sym same) (ap (drop (st .machine .written)) log-is ∙ G .rest);
             }
+
+      stepped-as : {a : Stepped} → answer ≡ a → SteppedAs script st s s′ e e′ d d′ c c′ l l′ (G .machine) a
+      stepped-as g = subst (SteppedAs script st s s′ e e′ d d′ c c′ l l′ (G .machine)) g (W .steps .steps (G .machine) (G .rep))
+
+      from-failed : {x : Error} {command : Command} {τ : State} → answer ≡ Fails τ x command
+          → EndsFrom script fuel st₀ μ₀ s₀ s′ e₀ e′ d₀ d′ c₀ c′ l₀ l′ τ (ending.Failed x command)
+      unfolding endingOf
+      from-failed g =
+          let A = stepped-as g in
+          let is = ap (λ n. steps.step n script (stateOf st (G .machine))) (sym limits-same) ∙ A .0 in
+          from-ended (ap leftBy g) (A .1) (subst (LogLeft l l′) g (W .steps .left)) (A .3) (A .2) (over-fails again more is)
+
+      from-misread : {f : Fault} {command : Command} {τ : State} → answer ≡ Misreads τ command f → EndsFrom script fuel st₀ μ₀ s₀ s′ e₀ e′ d₀ d′ c₀ c′ l₀ l′ τ (ending.Misread f)
+      unfolding endingOf
+      from-misread g =
+          let A = stepped-as g in
+          let is = ap (λ n. steps.step n script (stateOf st (G .machine))) (sym limits-same) ∙ A .0 in
+          from-ended (ap leftBy g) (A .1) (subst (LogLeft l l′) g (W .steps .left)) (A .2) tt (over-misreads again more is)
 
   -- ---- from each
 
@@ -350,6 +360,9 @@ module _ {script : List ℕ} {fuel : ℕ} {st₀ : State} {s₀ e₀ d₀ c₀ l
             from = λ μ M. from-on (R .from μ M) F t some W g runs;
           }))
 
-    module _ {x : Error} {command : Command} {τ : State} (g : answer ≡ Fails τ x command) where
-      pub end-failed : Ends script fuel st₀ s₀ s′ e₀ e′ d₀ d′ c₀ c′ l₀ l′ τ (ending.Failed x command)
-      end-failed = record { ends = λ μ M. from-failed (R .from μ M) F t some W g }
+    pub end-failed : {x : Error} {command : Command} {τ : State} → answer ≡ Fails τ x command
+        → Ends script fuel st₀ s₀ s′ e₀ e′ d₀ d′ c₀ c′ l₀ l′ τ (ending.Failed x command)
+    end-failed g = record { ends = λ μ M. from-failed (R .from μ M) F t some W g }
+
+    pub end-misread : {f : Fault} {command : Command} {τ : State} → answer ≡ Misreads τ command f → Ends script fuel st₀ s₀ s′ e₀ e′ d₀ d′ c₀ c′ l₀ l′ τ (ending.Misread f)
+    end-misread g = record { ends = λ μ M. from-misread (R .from μ M) F t some W g }

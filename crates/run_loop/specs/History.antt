@@ -19,7 +19,7 @@ use Rattle.exactness.specs.Traces.{trace, Along}
 use Rattle.step.specs.Stepping.{stateOf, Steps}
 use Rattle.step.specs.declared.State.{State}
 use Rattle.step.specs.declared.Stepped.{Stepped}
-use Rattle.step.specs.declared.Stepped.the-variants.{Goes, Fails}
+use Rattle.step.specs.declared.Stepped.the-variants.{Goes, Fails, Misreads}
 
 -- ---- moments
 
@@ -42,6 +42,7 @@ limitsOf x = lent (x .stack) (x .exec) (x .dict) (x .cells) (x .log)
 abbrev pub leftBy : Stepped → State
 leftBy (Goes τ) = τ
 leftBy (Fails τ e command) = τ
+leftBy (Misreads τ command f) = τ
 
 -- A step of the runner leads from x to y, with the room that is lent.
 pub record Leads (script : List ℕ) (x y : Moment) : Type 0 where

@@ -64,6 +64,12 @@ pub fn advance(
                     ending: Ending::Failed(e, command),
                 };
             }
+            Stepped::Misreads(next, _, f) => {
+                return Ended {
+                    state: next,
+                    ending: Ending::Misread(f),
+                };
+            }
         }
     }
 }

@@ -14,12 +14,15 @@ use Rattle.semantics.specs.Values.{Value, integer, boolean, null, mark, 
 use Rattle.semantics.specs.Machine.{Machine, object, elementsOf, bytesOf}
 use Rattle.semantics.specs.Printing.{truth, escaped, nameByte, nameText, item}
 use Rattle.semantics.specs.Held.{heldCells}
-use Rattle.semantics.specs.Steps.{Ending, finished, stopped, outOfFuel, failed, Run}
-use Rattle.semantics.specs.Outcome.{errorText, line, endingLines, items, outcome}
+use Rattle.semantics.specs.Steps.{Ending, finished, stopped, outOfFuel, failed, misread, Run}
+use Rattle.semantics.specs.Errors.{errorText, faultText, whereText}
+use Rattle.semantics.specs.Outcome.{line, endingLines, whereOf, items, outcome}
 use Rattle.semantics.specs.ResultLaws.{choose, choose-cond}
 use Rattle.semantics.specs.ListLaws.{All, nil, cons, every, both, all-append, all-reverse}
 use Rattle.semantics.specs.declared.Error.{Error}
-use Rattle.semantics.specs.declared.Error.the-variants.{SyntaxError, LimitCheck, Undefined, StackUnderflow, TypeCheck, RangeCheck, UndefinedResult, UnmatchedMark, ExecStackOverflow, StackOverflow, VmError, IoError}
+use Rattle.semantics.specs.declared.Fault.{Fault}
+use Rattle.semantics.specs.declared.Fault.the-variants.{BadNumber, BadEscape, OpenString, BadBrace, BadByte, OverLimit}
+use Rattle.semantics.specs.declared.Error.the-variants.{LimitCheck, Undefined, StackUnderflow, TypeCheck, RangeCheck, UndefinedResult, UnmatchedMark, ExecStackOverflow, StackOverflow, VmError, IoError}
 
 abbrev pub Ascii : List ℕ → Type 0
 Ascii t = All (λ b. b < 128) t
@@ -119,7 +122,6 @@ items-ascii m (cons {a = v} p ps) = all-append (line-ascii (words-ascii (bytes "
 
 error-ascii : (e : Error) → Ascii (errorText e)
 unfolding errorText bytes
-error-ascii SyntaxError = words-ascii _ tt
 error-ascii LimitCheck = words-ascii _ tt
 error-ascii Undefined = words-ascii _ tt
 error-ascii StackUnderflow = words-ascii _ tt
@@ -132,12 +134,39 @@ error-ascii StackOverflow = words-ascii _ tt
 error-ascii VmError = words-ascii _ tt
 error-ascii IoError = words-ascii _ tt
 
+fault-ascii : (f : Fault) → Ascii (faultText f)
+unfolding faultText bytes
+fault-ascii (BadNumber at) = words-ascii _ tt
+fault-ascii (BadEscape at) = words-ascii _ tt
+fault-ascii (OpenString at) = words-ascii _ tt
+fault-ascii (BadBrace at) = words-ascii _ tt
+fault-ascii (BadByte at) = words-ascii _ tt
+fault-ascii OverLimit = words-ascii _ tt
+
+where-ascii : (f : Fault) → Ascii (whereText f)
+unfolding whereText
+where-ascii (BadNumber at) = decimal-ascii at
+where-ascii (BadEscape at) = decimal-ascii at
+where-ascii (OpenString at) = decimal-ascii at
+where-ascii (BadBrace at) = decimal-ascii at
+where-ascii (BadByte at) = decimal-ascii at
+where-ascii OverLimit = nil
+
+place-ascii : (e : Ending) → Ascii (whereOf e)
+unfolding whereOf
+place-ascii finished = nil
+place-ascii stopped = nil
+place-ascii outOfFuel = nil
+place-ascii (failed e c) = nil
+place-ascii (misread f) = where-ascii f
+
 -- The command of an error is ASCII.
 abbrev pub PlainEnding : Ending → Type 0
 PlainEnding finished = Unit {0}
 PlainEnding stopped = Unit {0}
 PlainEnding outOfFuel = Unit {0}
 PlainEnding (failed e c) = Ascii c
+PlainEnding (misread f) = Unit {0}
 
 ending-ascii : (e : Ending) → PlainEnding e → Ascii (endingLines e)
 unfolding endingLines bytes
@@ -147,6 +176,9 @@ ending-ascii outOfFuel h = words-ascii _ tt
 ending-ascii (failed e c) h =
     all-append (all-append (words-ascii (bytes "ending=error\n") tt) (line-ascii (words-ascii (bytes "error") tt) (error-ascii e)))
     (line-ascii (words-ascii (bytes "command") tt) h)
+ending-ascii (misread f) h =
+    all-append (all-append (words-ascii (bytes "ending=error\n") tt) (line-ascii (words-ascii (bytes "error") tt) (fault-ascii f)))
+    (words-ascii (bytes "command=\n") tt)
 
 number-line : (k : List ℕ) → T (every (λ b. ltb b 128) k) → (n : ℕ) → Ascii (line k (decimal n))
 number-line k h n = line-ascii (words-ascii k h) (decimal-ascii n)
@@ -159,7 +191,8 @@ outcome-ascii r e h =
     let σ = r .final in
     let m = σ .machine in
     let at = all-append (ending-ascii (r .ending) e) (number-line (bytes "at") tt (σ .at)) in
-    let steps = all-append at (number-line (bytes "steps") tt (σ .steps)) in
+    let place = all-append at (line-ascii (words-ascii (bytes "where") tt) (place-ascii (r .ending))) in
+    let steps = all-append place (number-line (bytes "steps") tt (σ .steps)) in
     let depth = all-append steps (number-line (bytes "depth") tt (length (m .stack))) in
     let held = all-append depth (number-line (bytes "held") tt (heldCells m)) in
     let log = all-append held (number-line (bytes "log") tt (length (m .log))) in

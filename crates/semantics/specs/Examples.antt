@@ -1,4 +1,5 @@
--- The starred cases of 01's "Checked by hand" and its worked example, computed by the definition; and setup and token reading at some edges.
+-- The starred cases of 01's "Checked by hand" and its worked example, computed by the definition; setup and token reading at some edges; and what is wrong with
+-- tokens, and where (02, W4).
 -- Assumes nothing.
 use mathlib.Core.Path.{_≡_, refl}
 use mathlib.Core.List.{List, [], _∷_, _++_, map, reverse}
@@ -17,7 +18,8 @@ use Rattle.semantics.specs.Groups.{grouping}
 use Rattle.semantics.specs.Steps.{Run, run, initial, stepping}
 use Rattle.semantics.specs.Outcome.{outcomes}
 use Rattle.semantics.specs.Setup.{Lent, limits, refusal, printed, refused, faulty, read, reading, settings}
-use Rattle.semantics.specs.declared.Error.the-variants.{SyntaxError}
+use Rattle.semantics.specs.Errors.{errors}
+use Rattle.semantics.specs.declared.Fault.the-variants.{BadNumber, BadEscape, OpenString, BadByte, OverLimit}
 use Rattle.semantics.specs.declared.Kind.the-variants.{String as StringKind, LiteralName, End}
 
 -- What the program lends, with so many cells and dictionary words.
@@ -55,16 +57,21 @@ cases =
     ∷ (left "1 31 bitshift" gives "integer:-2147483648")
     ∷ (left "0 1 2 3 4 4 2 roll" gives "integer:0 integer:3 integer:4 integer:1 integer:2")
     ∷ (left "0 1 2 3 4 4 -1 roll" gives "integer:0 integer:2 integer:3 integer:4 integer:1")
-    ∷ (whole 4096 1000 "#FLOO\n3 frob" gives "ending=error\nerror=undefined\ncommand=frob\nat=8\nsteps=2\ndepth=1\nheld=0\nlog=0\nitem=integer:3\n")
-    ∷ (whole 4096 0 "#FLOO" gives "ending=finished\nerror=none\ncommand=\nat=5\nsteps=0\ndepth=0\nheld=0\nlog=0\n")
-    ∷ (whole 4 1000 "#FLOO\n[1 2 3] pop [4 5 6]" gives "ending=finished\nerror=none\ncommand=\nat=25\nsteps=16\ndepth=1\nheld=4\nlog=0\nitem=array:3\n")
-    ∷ (whole 4 1000 "#FLOO\n[1 2 3] [4]" gives "ending=error\nerror=VMerror\ncommand=]\nat=16\nsteps=12\ndepth=3\nheld=4\nlog=0\nitem=array:3\nitem=mark\nitem=integer:4\n")
-    ∷ (whole 4096 1000 "#FLOO\n/a 1 array def a 0 a put /a 0 def" gives "ending=finished\nerror=none\ncommand=\nat=39\nsteps=17\ndepth=0\nheld=2\nlog=0\n")
-    ∷ (whole 4096 1000000 "#FLOO\n5 /two 2 def two add echo 7\n" gives "7\nending=finished\nerror=none\ncommand=\nat=34\nsteps=12\ndepth=1\nheld=0\nlog=2\nitem=integer:7\n")
-    ∷ (whole 4096 1000 "#FLOO\n2147483646 1 2147483647 { pop } for" gives "ending=finished\nerror=none\ncommand=\nat=41\nsteps=17\ndepth=0\nheld=0\nlog=0\n")
+    ∷ (whole 4096 1000 "#FLOO\n3 frob" gives "ending=error\nerror=undefined\ncommand=frob\nat=8\nwhere=\nsteps=2\ndepth=1\nheld=0\nlog=0\nitem=integer:3\n")
+    ∷ (whole 4096 0 "#FLOO" gives "ending=finished\nerror=none\ncommand=\nat=5\nwhere=\nsteps=0\ndepth=0\nheld=0\nlog=0\n")
+    ∷ (whole 4 1000 "#FLOO\n[1 2 3] pop [4 5 6]" gives "ending=finished\nerror=none\ncommand=\nat=25\nwhere=\nsteps=16\ndepth=1\nheld=4\nlog=0\nitem=array:3\n")
+    ∷ (whole 4 1000 "#FLOO\n[1 2 3] [4]" gives "ending=error\nerror=VMerror\ncommand=]\nat=16\nwhere=\nsteps=12\ndepth=3\nheld=4\nlog=0\nitem=array:3\nitem=mark\nitem=integer:4\n")
+    ∷ (whole 4096 1000 "#FLOO\n/a 1 array def a 0 a put /a 0 def" gives "ending=finished\nerror=none\ncommand=\nat=39\nwhere=\nsteps=17\ndepth=0\nheld=2\nlog=0\n")
+    ∷ (whole 4096 1000000 "#FLOO\n5 /two 2 def two add echo 7\n" gives "7\nending=finished\nerror=none\ncommand=\nat=34\nwhere=\nsteps=12\ndepth=1\nheld=0\nlog=2\nitem=integer:7\n")
+    ∷ (whole 4096 1000 "#FLOO\n2147483646 1 2147483647 { pop } for" gives "ending=finished\nerror=none\ncommand=\nat=41\nwhere=\nsteps=17\ndepth=0\nheld=0\nlog=0\n")
     ∷ (left "-2147483647 -1 -2147483648 { } for" gives "integer:-2147483647 integer:-2147483648")
     ∷ (left "0 2147483647 2147483647 { } for" gives "integer:0 integer:2147483647")
     ∷ (left "-2147483648 2147483647 2147483647 { } for" gives "integer:-2147483648 integer:-1 integer:2147483646")
+    ∷ (whole 4096 1000 "#FLOO\n5a" gives "ending=error\nerror=badnumber\ncommand=\nat=6\nwhere=7\nsteps=1\ndepth=0\nheld=0\nlog=0\n")
+    ∷ (whole 4096 1000 "#FLOO\n{ a { b \"c\\q\" } }" gives "ending=error\nerror=badescape\ncommand=\nat=6\nwhere=17\nsteps=1\ndepth=0\nheld=0\nlog=0\n")
+    ∷ (whole 4096 1000 "#FLOO\n{ 1 { 2 } { 3 \"x\"" gives "ending=error\nerror=badbrace\ncommand=\nat=6\nwhere=16\nsteps=1\ndepth=0\nheld=0\nlog=0\n")
+    ∷ (whole 4096 1000 "#FLOO\n1 } 2" gives "ending=error\nerror=badbrace\ncommand=\nat=8\nwhere=8\nsteps=2\ndepth=1\nheld=0\nlog=0\nitem=integer:1\n")
+    ∷ (whole 4096 1000 "#FLOO\n99999999999" gives "ending=error\nerror=limitcheck\ncommand=\nat=6\nwhere=\nsteps=1\ndepth=0\nheld=0\nlog=0\n")
     ∷ []
 
 -- Each case's text is what is expected of it.
@@ -73,8 +80,8 @@ Hold [] = Unit {0}
 Hold (c ∷ cs) = (c .computed ≡ c .expected) × Hold cs
 
 checked : Hold cases
-unfolding textual words values tokens machinery printing operators holding grouping stepping outcomes settings lent _gives_ whole itemsOf left cases
-checked = (refl, (refl, (refl, (refl, (refl, (refl, (refl, (refl, (refl, (refl, (refl, (refl, (refl, (refl, (refl, (refl, (refl, (refl, tt))))))))))))))))))
+unfolding textual words values errors tokens machinery printing operators holding grouping stepping outcomes settings lent _gives_ whole itemsOf left cases
+checked = (refl, (refl, (refl, (refl, (refl, (refl, (refl, (refl, (refl, (refl, (refl, (refl, (refl, (refl, (refl, (refl, (refl, (refl, (refl, (refl, (refl, (refl, (refl, tt)))))))))))))))))))))))
 
 -- ---- setup and the token reading
 
@@ -91,7 +98,39 @@ refusals = (refl, refl, refl, refl, refl, refl)
 readings : (reading (bytes "#FLOO\n\"a\\nb\" /xy #") 0 ≡ read StringKind 12 7 4)
     × (reading (bytes "#FLOO\n\"a\\nb\" /xy #") 12 ≡ read LiteralName 16 14 2)
     × (reading (bytes "#FLOO\n\"a\\nb\" /xy #") 16 ≡ read End 18 18 0)
-    × (reading (bytes "#FLOO\n\"a\\nb\" /xy #") 11 ≡ faulty SyntaxError)
+    × (reading (bytes "#FLOO\n\"a\\nb\" /xy #") 11 ≡ faulty (OpenString 11))
     × (reading (bytes "#FLOO\n\"a\\nb\" /xy #") 19 ≡ refused 10)
 unfolding textual words values tokens grouping settings
 readings = (refl, refl, refl, refl, refl)
+
+-- The byte after the digits, or after a token that stops too early.
+numerals : (reading (bytes "5a") 0 ≡ faulty (BadNumber 1))
+    × (reading (bytes " -0x10") 0 ≡ faulty (BadNumber 3))
+    × (reading (bytes "00x1") 0 ≡ faulty (BadNumber 2))
+    × (reading (bytes "0x1g") 0 ≡ faulty (BadNumber 3))
+    × (reading (bytes "0x ") 0 ≡ faulty (BadNumber 2))
+    × (reading (bytes "0x") 0 ≡ faulty (BadNumber 2))
+    × (reading (bytes "99999999999a") 0 ≡ faulty (BadNumber 11))
+    × (reading (bytes "99999999999") 0 ≡ faulty OverLimit)
+unfolding textual words values tokens grouping settings
+numerals = (refl, refl, refl, refl, refl, refl, refl, refl)
+
+slashes : (reading (bytes "/") 0 ≡ faulty (BadByte 1))
+    × (reading (bytes "// x") 0 ≡ faulty (BadByte 1))
+    × (reading (bytes "/5") 0 ≡ faulty (BadByte 1))
+    × (reading (bytes "/-5") 0 ≡ faulty (BadByte 2))
+unfolding textual words values tokens grouping settings
+slashes = (refl, refl, refl, refl)
+
+-- What cuts a string short, and what no escape goes on with.
+escapes : (reading (bytes "\"a\\q") 0 ≡ faulty (BadEscape 3))
+    × (reading (bytes "\"\\400\"") 0 ≡ faulty (BadEscape 2))
+    × (reading (bytes "\"\\4") 0 ≡ faulty (BadEscape 2))
+    × (reading (bytes "\"\\38\"") 0 ≡ faulty (BadEscape 3))
+    × (reading (bytes "\"\\01\"") 0 ≡ faulty (BadEscape 4))
+    × (reading (bytes " \"\\3\n\"") 0 ≡ faulty (OpenString 1))
+    × (reading (bytes " \"\\37") 0 ≡ faulty (OpenString 1))
+    × (reading (bytes " \"\\") 0 ≡ faulty (OpenString 1))
+    × (reading (bytes " \"a\nb\"") 0 ≡ faulty (OpenString 1))
+unfolding textual words values tokens grouping settings
+escapes = (refl, refl, refl, refl, refl, refl, refl, refl, refl)

@@ -4,10 +4,10 @@ use mathlib.Core.Bool.{true, false}
 use mathlib.Core.List.{List, [], _∷_, reverse}
 use Prim.Native.Nat.{ℕ, zero, suc, _+_}
 use lib.ListN.{length, drop}
-use Rattle.semantics.specs.Tokens.{Token, lex, blanks}
-use Rattle.semantics.specs.Values.{Result, ok, fault, _>>=_, Value, integer, name, string, array, elements, text}
+use Rattle.semantics.specs.Tokens.{Lexing, Token, lex, blanks}
+use Rattle.semantics.specs.Values.{ok, fault, _>>=_, Value, integer, name, string, array, elements, text}
 use Rattle.semantics.specs.Machine.{Machine, make, made, change, intern}
-use Rattle.semantics.specs.declared.Error.the-variants.{SyntaxError, LimitCheck}
+use Rattle.semantics.specs.declared.Fault.the-variants.{BadBrace, OverLimit}
 
 -- A value read from the script, the machine with the objects and names that it needs, and the offset after it.
 pub record Taken : Type 0 where
@@ -15,17 +15,17 @@ pub record Taken : Type 0 where
   pub machine : Machine
   pub after : ℕ
 
-unfoldable pub taken : Value → Machine → ℕ → Result Taken
+unfoldable pub taken : Value → Machine → ℕ → Lexing Taken
 taken v m n = ok (record { value = v; machine = m; after = n })
 
 -- The offset of the first byte from `offset` on that is neither space nor comment, or the script's length.
 unfoldable pub skip : List ℕ → ℕ → ℕ
 skip script offset = offset + blanks (drop offset script)
 
--- What reads on in a brace group: given the group's object, how many groups may still be opened inside, the offset, the elements read so
--- far, the last first, and the machine.
+-- What reads on in a brace group: given the group's object, the offset of its opening brace, how many groups may still be opened inside, the
+-- offset, the elements read so far, the last first, and the machine.
 abbrev pub Reader : Type 0
-Reader = ℕ → ℕ → ℕ → List Value → Machine → Result Taken
+Reader = ℕ → ℕ → ℕ → ℕ → List Value → Machine → Lexing Taken
 
 -- A group's object is made at its opening brace, so that objects are numbered in the order of their first bytes; its strings and inner groups are made once,
 -- with it (R36).
@@ -33,45 +33,45 @@ unfoldable pub opened : Machine → Machine
 opened m = make (elements []) m
 
 -- It has its elements at the closing brace.
-unfoldable pub closed : ℕ → List Value → Machine → ℕ → Result Taken
+unfoldable pub closed : ℕ → List Value → Machine → ℕ → Lexing Taken
 closed i vs m after = taken (array true i) (change i (elements (reverse vs)) m) after
 
--- A token of a brace group, which ends at `after`: one element more, an inner group and what follows it, or the group's end. Every name takes a slot (R34) and
--- none is executed (R35); the first fault from the left wins (R31).
-unfoldable pub element : Reader → ℕ → ℕ → ℕ → List Value → Machine → Token → Result Taken
-element rest i depth after vs m (Token.integer w) = rest i depth after (integer w ∷ vs) m
-element rest i depth after vs m (Token.string bs) = rest i depth after (string (made m) ∷ vs) (make (text bs) m)
-element rest i depth after vs m (Token.name x n) = rest i depth after (name x n ∷ vs) (intern n m)
-element rest i zero after vs m Token.openBrace = fault LimitCheck
-element rest i (suc d) after vs m Token.openBrace = do
-  t ← rest (made m) d after [] (opened m)
-  rest i (suc d) (t .after) (t .value ∷ vs) (t .machine)
-element rest i depth after vs m Token.closeBrace = closed i vs m after
-element rest i depth after vs m Token.end = fault SyntaxError
+-- A token of a brace group, from `start` to `after`: one element more, an inner group and what follows it, or the group's end. Every name takes a slot (R34)
+-- and none is executed (R35); the first fault from the left wins (R31). An unclosed brace is the innermost one that is open (02, W4).
+unfoldable pub element : Reader → ℕ → ℕ → ℕ → ℕ → ℕ → List Value → Machine → Token → Lexing Taken
+element rest i brace depth start after vs m (Token.integer w) = rest i brace depth after (integer w ∷ vs) m
+element rest i brace depth start after vs m (Token.string bs) = rest i brace depth after (string (made m) ∷ vs) (make (text bs) m)
+element rest i brace depth start after vs m (Token.name x n) = rest i brace depth after (name x n ∷ vs) (intern n m)
+element rest i brace zero start after vs m Token.openBrace = fault OverLimit
+element rest i brace (suc d) start after vs m Token.openBrace = do
+  t ← rest (made m) start d after [] (opened m)
+  rest i brace (suc d) (t .after) (t .value ∷ vs) (t .machine)
+element rest i brace depth start after vs m Token.closeBrace = closed i vs m after
+element rest i brace depth start after vs m Token.end = fault (BadBrace brace)
 
 -- The rest of a brace group. `fuel` bounds the tokens read; `GroupLaws` proves that it is never spent.
 unfoldable pub group : List ℕ → ℕ → Reader
-group script zero i depth offset vs m = fault SyntaxError
-group script (suc fuel) i depth offset vs m = do
+group script zero i brace depth offset vs m = fault (BadBrace brace)
+group script (suc fuel) i brace depth offset vs m = do
   let start = skip script offset
-  l ← lex (drop start script)
-  element (group script fuel) i depth (start + l .size) vs m (l .token)
+  l ← lex start (drop start script)
+  element (group script fuel) i brace depth start (start + l .size) vs m (l .token)
 
--- A token of the script outside braces, which ends at `after`. Braces nest at most 16 deep (R31). The clause of the end is never met: a run is finished there.
-unfoldable pub tokenValue : List ℕ → Machine → ℕ → Token → Result Taken
-tokenValue script m after (Token.integer w) = taken (integer w) m after
-tokenValue script m after (Token.string bs) = taken (string (made m)) (make (text bs) m) after
-tokenValue script m after (Token.name true n) = taken (name true n) m after
-tokenValue script m after (Token.name false n) = taken (name false n) (intern n m) after
-tokenValue script m after Token.openBrace = group script (length script) (made m) 15 after [] (opened m)
-tokenValue script m after Token.closeBrace = fault SyntaxError
-tokenValue script m after Token.end = fault SyntaxError
+-- A token of the script outside braces, from `start` to `after`. Braces nest at most 16 deep (R31). The clause of the end is never met: a run is finished there.
+unfoldable pub tokenValue : List ℕ → Machine → ℕ → ℕ → Token → Lexing Taken
+tokenValue script m start after (Token.integer w) = taken (integer w) m after
+tokenValue script m start after (Token.string bs) = taken (string (made m)) (make (text bs) m) after
+tokenValue script m start after (Token.name true n) = taken (name true n) m after
+tokenValue script m start after (Token.name false n) = taken (name false n) (intern n m) after
+tokenValue script m start after Token.openBrace = group script (length script) (made m) start 15 after [] (opened m)
+tokenValue script m start after Token.closeBrace = fault (BadBrace start)
+tokenValue script m start after Token.end = fault (BadBrace start)
 
 -- The value of the token at `start`, which is neither space nor comment.
-unfoldable pub takeToken : List ℕ → ℕ → Machine → Result Taken
+unfoldable pub takeToken : List ℕ → ℕ → Machine → Lexing Taken
 takeToken script start m = do
-  l ← lex (drop start script)
-  tokenValue script m (start + l .size) (l .token)
+  l ← lex start (drop start script)
+  tokenValue script m start (start + l .size) (l .token)
 
 -- Opens every definition of this file.
 unfoldable pub grouping : Unit {0}

@@ -1,9 +1,10 @@
--- The definition of Floo 0.5. "01" is the scope paper, "000" the language's document; R1 to R100 are the readings of docs/DECISIONS.md.
+-- The definition of Floo 0.5. "01" is the scope paper, "02" the change requests, "000" the language's document; R1 to R100 are the readings of docs/DECISIONS.md.
 -- The definition, to be read in this order.
 pub mod Sizes
 pub mod Text
 pub mod Words
 pub mod Values
+pub mod Errors
 pub mod Tokens
 pub mod Machine
 pub mod Printing
@@ -34,3 +35,4 @@ pub mod OutcomeLaws
 pub mod AsciiLaws
 pub mod NameLaws
 pub mod HeldLaws
+pub mod WhereLaws

@@ -7,25 +7,9 @@ use Rattle.semantics.specs.Text.{bytes, decimal}
 use Rattle.semantics.specs.Values.{Value}
 use Rattle.semantics.specs.Machine.{Machine}
 use Rattle.semantics.specs.Printing.{item}
+use Rattle.semantics.specs.Errors.{errorText, faultText, whereText}
 use Rattle.semantics.specs.Held.{heldCells}
-use Rattle.semantics.specs.Steps.{Ending, finished, stopped, outOfFuel, failed, Run}
-use Rattle.semantics.specs.declared.Error.{Error}
-use Rattle.semantics.specs.declared.Error.the-variants.{SyntaxError, LimitCheck, Undefined, StackUnderflow, TypeCheck, RangeCheck, UndefinedResult, UnmatchedMark, ExecStackOverflow, StackOverflow, VmError, IoError}
-
--- The paper's name of each error.
-unfoldable pub errorText : Error → List ℕ
-errorText SyntaxError = bytes "syntaxerror"
-errorText LimitCheck = bytes "limitcheck"
-errorText Undefined = bytes "undefined"
-errorText StackUnderflow = bytes "stackunderflow"
-errorText TypeCheck = bytes "typecheck"
-errorText RangeCheck = bytes "rangecheck"
-errorText UndefinedResult = bytes "undefinedresult"
-errorText UnmatchedMark = bytes "unmatchedmark"
-errorText ExecStackOverflow = bytes "execstackoverflow"
-errorText StackOverflow = bytes "stackoverflow"
-errorText VmError = bytes "VMerror"
-errorText IoError = bytes "ioerror"
+use Rattle.semantics.specs.Steps.{Ending, finished, stopped, outOfFuel, failed, misread, Run}
 
 unfoldable pub line : List ℕ → List ℕ → List ℕ
 line key value = key ++ bytes "=" ++ value ++ bytes "\n"
@@ -36,6 +20,15 @@ endingLines finished = bytes "ending=finished\nerror=none\ncommand=\n"
 endingLines stopped = bytes "ending=stopped\nerror=none\ncommand=\n"
 endingLines outOfFuel = bytes "ending=fuel\nerror=none\ncommand=\n"
 endingLines (failed e c) = bytes "ending=error\n" ++ line (bytes "error") (errorText e) ++ line (bytes "command") c
+endingLines (misread f) = bytes "ending=error\n" ++ line (bytes "error") (faultText f) ++ bytes "command=\n"
+
+-- Where a token is wrong (02, W4).
+unfoldable pub whereOf : Ending → List ℕ
+whereOf finished = []
+whereOf stopped = []
+whereOf outOfFuel = []
+whereOf (failed e c) = []
+whereOf (misread f) = whereText f
 
 unfoldable pub items : Machine → List Value → List ℕ
 items m [] = []
@@ -48,6 +41,7 @@ outcome r =
     let m = σ .machine in
     endingLines (r .ending)
     ++ line (bytes "at") (decimal (σ .at))
+    ++ line (bytes "where") (whereOf (r .ending))
     ++ line (bytes "steps") (decimal (σ .steps))
     ++ line (bytes "depth") (decimal (length (m .stack)))
     ++ line (bytes "held") (decimal (heldCells m))
@@ -56,5 +50,5 @@ outcome r =
 
 -- Opens every definition of this file.
 unfoldable pub outcomes : Unit {0}
-unfolding errorText line endingLines items outcome
+unfolding line endingLines whereOf items outcome
 outcomes = tt

@@ -1,4 +1,4 @@
--- The outcome of a run is never longer than 256 + 136 × stack slots bytes (01, Setup 9; R12): its head has at most 249, and an item at most 136.
+-- The outcome of a run is never longer than 256 + 136 × stack slots bytes (01, Setup 9; R12): its head has at most 256, and an item at most 136.
 -- Assumes nothing.
 use mathlib.Core.Bool.{Bool, true, false}
 use mathlib.Core.List.{List}
@@ -13,14 +13,17 @@ use Rattle.semantics.specs.Values.{Value, integer, boolean, null, mark, 
 use Rattle.semantics.specs.Machine.{Machine, object, elementsOf, bytesOf}
 use Rattle.semantics.specs.Printing.{truth, item}
 use Rattle.semantics.specs.Held.{heldCells}
-use Rattle.semantics.specs.Steps.{Limits, Ending, finished, stopped, outOfFuel, failed, Run, run, initial}
-use Rattle.semantics.specs.Outcome.{errorText, line, endingLines, items, outcome}
+use Rattle.semantics.specs.Steps.{Limits, Ending, finished, stopped, outOfFuel, failed, misread, Run, run, initial}
+use Rattle.semantics.specs.Errors.{errorText, faultText, whereText}
+use Rattle.semantics.specs.Outcome.{line, endingLines, whereOf, items, outcome}
 use Rattle.semantics.specs.TextLaws.{decimal-length}
 use Rattle.semantics.specs.ListLaws.{All, nil, cons, all-reverse}
 use Rattle.semantics.specs.ShortLaws.{Short}
 use Rattle.semantics.specs.ShortSteps.{nameText-length, commandIn, SoundRun, run-sound, initial-sound}
 use Rattle.semantics.specs.declared.Error.{Error}
-use Rattle.semantics.specs.declared.Error.the-variants.{SyntaxError, LimitCheck, Undefined, StackUnderflow, TypeCheck, RangeCheck, UndefinedResult, UnmatchedMark, ExecStackOverflow, StackOverflow, VmError, IoError}
+use Rattle.semantics.specs.declared.Fault.{Fault}
+use Rattle.semantics.specs.declared.Fault.the-variants.{BadNumber, BadEscape, OpenString, BadBrace, BadByte, OverLimit}
+use Rattle.semantics.specs.declared.Error.the-variants.{LimitCheck, Undefined, StackUnderflow, TypeCheck, RangeCheck, UndefinedResult, UnmatchedMark, ExecStackOverflow, StackOverflow, VmError, IoError}
 
 pub decimalZ-length : (z : ℤ) → length (decimalZ z) ≤ 11
 unfolding decimalZ
@@ -58,7 +61,6 @@ items-length m (cons {a = v} {l = vs} p ps) =
 
 pub error-length : (e : Error) → length (errorText e) ≤ 17
 unfolding errorText bytes
-error-length SyntaxError = omega arith
 error-length LimitCheck = omega arith
 error-length Undefined = omega arith
 error-length StackUnderflow = omega arith
@@ -71,13 +73,33 @@ error-length StackOverflow = omega arith
 error-length VmError = omega arith
 error-length IoError = omega arith
 
-ending-length : (e : Ending) → length (endingLines e) ≤ 46 + length (commandIn e)
-unfolding endingLines bytes
-ending-length finished = omega arith
-ending-length stopped = omega arith
-ending-length outOfFuel = omega arith
-ending-length (failed e c) =
+pub fault-length : (f : Fault) → length (faultText f) ≤ 10
+unfolding faultText bytes
+fault-length (BadNumber at) = omega arith
+fault-length (BadEscape at) = omega arith
+fault-length (OpenString at) = omega arith
+fault-length (BadBrace at) = omega arith
+fault-length (BadByte at) = omega arith
+fault-length OverLimit = omega arith
+
+where-length : (f : Fault) → length (whereText f) ≤ 10
+unfolding whereText
+where-length (BadNumber at) = decimal-length at
+where-length (BadEscape at) = decimal-length at
+where-length (OpenString at) = decimal-length at
+where-length (BadBrace at) = decimal-length at
+where-length (BadByte at) = decimal-length at
+where-length OverLimit = omega arith
+
+-- How the run ended, and where its token is wrong: a token fault has no command.
+pub ending-length : (e : Ending) → length (commandIn e) ≤ 124 → length (endingLines e) + length (whereOf e) ≤ 170
+unfolding endingLines whereOf bytes
+ending-length finished h = omega arith
+ending-length stopped h = omega arith
+ending-length outOfFuel h = omega arith
+ending-length (failed e c) h =
     simp length-append (omega (arith, line-length (bytes "error") (errorText e), line-length (bytes "command") c, error-length e))
+ending-length (misread f) h = simp length-append (omega (arith, line-length (bytes "error") (faultText f), fault-length f, where-length f))
 
 outcome-length : (l : Limits) (r : Run) → SoundRun l r → length (outcome r) ≤ headRoom + itemRoom * l .stackSlots
 unfolding outcome bytes
@@ -87,10 +109,10 @@ outcome-length l r h =
     simp (outcome, length-append)
     (omega (
       arith,
-      ending-length (r .ending),
-      h .command,
+      ending-length (r .ending) (h .command),
       line-length (bytes "at") (decimal (σ .at)),
       decimal-length (σ .at),
+      line-length (bytes "where") (whereOf (r .ending)),
       line-length (bytes "steps") (decimal (σ .steps)),
       decimal-length (σ .steps),
       line-length (bytes "depth") (decimal (length (m .stack))),

@@ -3,8 +3,7 @@
 use mathlib.Core.Path.{_≡_, refl}
 use mathlib.Core.Bool.{Bool, true, false, not, cond}
 use lib.Dec.{T}
-use Rattle.semantics.specs.Values.{Result, ok, fault, _>>=_, check}
-use Rattle.semantics.specs.declared.Error.{Error}
+use Rattle.semantics.specs.Values.{Attempt, ok, fault, _>>=_, check}
 
 -- What holds of both choices, each where its test holds, holds of the choice.
 pub choose : {A : Type 0} (P : A → Type 0) (b : Bool) (x y : A) → (T b → P x) → (T (not b) → P y) → P (elim b [ true ↦ x | false ↦ y ])
@@ -15,12 +14,16 @@ pub choose-cond : {A : Type 0} (P : A → Type 0) (b : Bool) (x y : A) → (T b 
 choose-cond P true x y f g = f tt
 choose-cond P false x y f g = g tt
 
--- What is there has the property. An error has every property.
-pub data Gives {A : Type 0} (P : A → Type 0) : Result A → Type 0 where
-  gives : {a : A} → P a → Gives P (ok a)
-  fails : {e : Error} → Gives P (fault e)
+-- What is there is one thing.
+pub ok-injective : {E A : Type 0} {a b : A} → _≡_ {A = Attempt E A} (ok a) (ok b) → a ≡ b
+ok-injective e = cc
 
-pub gives-then : {A B : Type 0} {P : A → Type 0} {Q : B → Type 0} {r : Result A} {f : A → Result B}
+-- What is there has the property. What is wrong has every property.
+pub data Gives {E A : Type 0} (P : A → Type 0) : Attempt E A → Type 0 where
+  gives : {a : A} → P a → Gives P (ok a)
+  fails : {e : E} → Gives P (fault e)
+
+pub gives-then : {E A B : Type 0} {P : A → Type 0} {Q : B → Type 0} {r : Attempt E A} {f : A → Attempt E B}
     → Gives P r
     → ((a : A) → P a → Gives Q (f a))
     → Gives Q (r >>= f)
@@ -28,21 +31,21 @@ unfolding _>>=_
 gives-then (gives {a = a} p) q = q a p
 gives-then fails q = fails
 
-pub gives-weaker : {A : Type 0} {P Q : A → Type 0} {r : Result A} → Gives P r → ((a : A) → P a → Q a) → Gives Q r
+pub gives-weaker : {E A : Type 0} {P Q : A → Type 0} {r : Attempt E A} → Gives P r → ((a : A) → P a → Q a) → Gives Q r
 gives-weaker (gives {a = a} p) f = gives (f a p)
 gives-weaker fails f = fails
 
-pub gives-any : {A : Type 0} (r : Result A) → Gives (λ a. Unit {0}) r
+pub gives-any : {E A : Type 0} (r : Attempt E A) → Gives (λ a. Unit {0}) r
 gives-any (ok a) = gives tt
 gives-any (fault e) = fails
 
-pub gives-check : (b : Bool) (e : Error) → Gives (λ u. T b) (check b e)
+pub gives-check : {E : Type 0} (b : Bool) (e : E) → Gives (λ u. T b) (check b e)
 unfolding check
 gives-check true e = gives tt
 gives-check false e = fails
 
 -- Two continuations that agree on what is there come to the same.
-pub then-same : {A B : Type 0} {P : A → Type 0} {r : Result A} {f g : A → Result B}
+pub then-same : {E A B : Type 0} {P : A → Type 0} {r : Attempt E A} {f g : A → Attempt E B}
     → Gives P r
     → ((a : A) → P a → f a ≡ g a)
     → (r >>= f) ≡ (r >>= g)

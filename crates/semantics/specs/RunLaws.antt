@@ -6,9 +6,12 @@ use Prim.Native.Nat.{ℕ, zero, suc, _+_, _≤_}
 use native.Mathlib.Omega.{arith}
 use Rattle.semantics.specs.Values.{Result, ok, fault}
 use Rattle.semantics.specs.Machine.{Machine, Frame}
-use Rattle.semantics.specs.Steps.{Limits, State, Step, goes, fails, ended, moved, stepOn, step, Run, stopped, outOfFuel, isFinished, finish, goOn, run}
+use Rattle.semantics.specs.Tokens.{Lexing}
+use Rattle.semantics.specs.Groups.{Taken, skip, takeToken}
+use Rattle.semantics.specs.Steps.{Limits, State, Step, goes, fails, misreads, unmoved, ended, moved, tokenStep, stepOn, step, Run, stopped, outOfFuel, isFinished, finish, goOn, run}
 use Rattle.semantics.specs.ResultLaws.{choose}
 use Rattle.semantics.specs.declared.Error.{Error}
+use Rattle.semantics.specs.declared.Fault.{Fault}
 
 -- What a step does to the count of steps, and what a failing one leaves.
 pub data Stepped (σ : State) : Step → Type 0 where
@@ -18,16 +21,26 @@ pub data Stepped (σ : State) : Step → Type 0 where
       → τ .next ≡ σ .next
       → τ .steps ≡ suc (σ .steps)
       → Stepped σ (fails e c τ)
+  unread : {f : Fault} {τ : State}
+      → τ .machine ≡ σ .machine
+      → τ .next ≡ σ .next
+      → τ .steps ≡ suc (σ .steps)
+      → Stepped σ (misreads f τ)
 
 ended-stepped : (σ : State) (at next : ℕ) (command : List ℕ) (r : Result Machine) → Stepped σ (ended σ at next command r)
-unfolding ended
+unfolding ended unmoved
 ended-stepped σ at next command (ok m) = went refl
 ended-stepped σ at next command (fault e) = stuck refl refl refl
+
+token-stepped : (l : Limits) (σ : State) (start : ℕ) (t : Lexing Taken) → Stepped σ (tokenStep l σ start t)
+unfolding tokenStep moved unmoved
+token-stepped l σ start (fault f) = unread refl refl refl
+token-stepped l σ start (ok t) = ended-stepped σ _ _ _ _
 
 stepOn-stepped : (l : Limits) (script : List ℕ) (σ : State) (fs : List Frame) → Stepped σ (stepOn l script σ fs)
 unfolding stepOn moved
 stepOn-stepped l script σ (f ∷ fs) = ended-stepped σ _ _ _ _
-stepOn-stepped l script σ [] = ended-stepped σ _ _ _ _
+stepOn-stepped l script σ [] = token-stepped l σ (skip script (σ .next)) (takeToken script (skip script (σ .next)) (σ .machine))
 
 pub step-stepped : (l : Limits) (script : List ℕ) (σ : State) → Stepped σ (step l script σ)
 unfolding step
@@ -44,6 +57,7 @@ goOn-steps rest fuel σ f (went {τ = τ} h) =
     (λ t. omega arith)
     (λ t. omega (arith, f τ))
 goOn-steps rest fuel σ f (stuck h k n) = omega arith
+goOn-steps rest fuel σ f (unread h k n) = omega arith
 
 pub run-steps : (l : Limits) (script : List ℕ) (fuel : ℕ) (σ : State) → run l script fuel σ .final .steps ≤ σ .steps + fuel
 unfolding run finish

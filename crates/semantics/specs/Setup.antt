@@ -12,7 +12,7 @@ use Rattle.semantics.specs.Tokens.{Token, Lexeme, lex, within}
 use Rattle.semantics.specs.Groups.{skip}
 use Rattle.semantics.specs.Steps.{Limits, run, initial}
 use Rattle.semantics.specs.Outcome.{line, outcome}
-use Rattle.semantics.specs.declared.Error.{Error}
+use Rattle.semantics.specs.declared.Fault.{Fault}
 use Rattle.semantics.specs.declared.Kind.{Kind}
 use Rattle.semantics.specs.declared.Kind.the-variants.{Integer, String, LiteralName, ExecutableName, OpenBrace, CloseBrace, End}
 
@@ -85,7 +85,7 @@ kindText End = bytes "end"
 
 pub data Reading : Type 0 where
   refused : ℕ → Reading
-  faulty : Error → Reading
+  faulty : Fault → Reading
   read : Kind → ℕ → ℕ → ℕ → Reading  -- the kind, the offset after it, and where its own bytes begin and how many they are
 
 -- A string's own bytes are without quotes, a literal name's without its slash; a brace's and a bracket's are itself (R15, R16).
@@ -111,7 +111,7 @@ reading script offset =
         | true ↦ refused 10
         | false ↦
             let start = skip script offset in
-            elim (lex (drop start script)) [ fault e ↦ faulty e | ok l ↦ readingOf start l ]
+            elim (lex start (drop start script)) [ fault f ↦ faulty f | ok l ↦ readingOf start l ]
       ]
     ]
 

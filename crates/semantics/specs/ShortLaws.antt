@@ -6,6 +6,7 @@ use Prim.Native.Nat.{ℕ, _≤_}
 use lib.ListN.{length}
 use lib.Dec.{leb, leb→le, T}
 use Rattle.semantics.specs.Sizes.{nameMost}
+use Rattle.semantics.specs.declared.Error.{Error}
 use Rattle.semantics.specs.Text.{same}
 use Rattle.semantics.specs.Values.{ok, fault, Value, integer, boolean, null, mark, operator, name, string, array, Object, elements, text}
 use Rattle.semantics.specs.Machine.{Machine, Frame, pending, running, looping, repeating, counting, Slot, withStack, withExec, withDictionary, withStore, write, halt, push, enter, pop1, pop2, pop3, pop4, object, elementsOf, make, change, lookup, assign, slotted, intern}
@@ -157,7 +158,7 @@ module _ {m : Machine} (h : Tame m) where
   unfolding pop1
   popped1 = by (h .stack)
     where
-      by : {s : List Value} → All Short s → Gives Popped1 (elim s [ [] ↦ fault StackUnderflow | x ∷ s ↦ ok (x, withStack s m) ])
+      by : {s : List Value} → All Short s → Gives {E = Error} Popped1 (elim s [ [] ↦ fault StackUnderflow | x ∷ s ↦ ok (x, withStack s m) ])
       by nil = fails
       by (cons p ps) = gives (p, with-stack h ps)
 
@@ -167,7 +168,7 @@ module _ {m : Machine} (h : Tame m) where
     where
       by : {s : List Value}
           → All Short s
-          → Gives Popped2 (elim s [
+          → Gives {E = Error} Popped2 (elim s [
             | [] ↦ fault StackUnderflow
             | y ∷ s ↦ elim s [ [] ↦ fault StackUnderflow | x ∷ r ↦ ok (x, y, withStack r m) ]
           ])
@@ -181,7 +182,7 @@ module _ {m : Machine} (h : Tame m) where
     where
       by : {s : List Value}
           → All Short s
-          → Gives Popped3 (elim s [
+          → Gives {E = Error} Popped3 (elim s [
             | [] ↦ fault StackUnderflow
             | z ∷ s ↦ elim s [
               | [] ↦ fault StackUnderflow
@@ -199,7 +200,7 @@ module _ {m : Machine} (h : Tame m) where
     where
       by : {s : List Value}
           → All Short s
-          → Gives Popped4 (elim s [
+          → Gives {E = Error} Popped4 (elim s [
             | [] ↦ fault StackUnderflow
             | z ∷ s ↦ elim s [
               | [] ↦ fault StackUnderflow

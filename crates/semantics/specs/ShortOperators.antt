@@ -8,6 +8,7 @@ use lib.IntN.{ℤ}
 use lib.ListN.{length}
 use lib.Dec.{leb→le}
 use Rattle.semantics.specs.Sizes.{nameMost}
+use Rattle.semantics.specs.declared.Error.{Error}
 use Rattle.semantics.specs.Text.{same}
 use Rattle.semantics.specs.Values.{Result, ok, Value, integer, boolean, null, mark, operator, name, string, array, Object, elements, text}
 use Rattle.semantics.specs.Machine.{Machine, Frame, pending, running, looping, repeating, counting, withExec, halt, enter, object, elementsOf}
@@ -216,7 +217,7 @@ exit-keeps : Keeps exit
 unfolding exit
 exit-keeps m h = by (fromLoop-short (h .exec))
   where
-    by : {l : List Frame} → All ShortFrame l → Gives Tame (elim l [ [] ↦ ok (halt m) | f ∷ fs ↦ ok (withExec fs m) ])
+    by : {l : List Frame} → All ShortFrame l → Gives {E = Error} Tame (elim l [ [] ↦ ok (halt m) | f ∷ fs ↦ ok (withExec fs m) ])
     by nil = gives (halted h)
     by (cons p ps) = gives (with-exec h ps)
 
@@ -224,7 +225,7 @@ continue-keeps : Keeps continue
 unfolding continue
 continue-keeps m h = by (fromLoop-short (h .exec))
   where
-    by : {l : List Frame} → All ShortFrame l → Gives Tame (elim l [ [] ↦ ok (halt m) | f ∷ fs ↦ ok (withExec (f ∷ fs) m) ])
+    by : {l : List Frame} → All ShortFrame l → Gives {E = Error} Tame (elim l [ [] ↦ ok (halt m) | f ∷ fs ↦ ok (withExec (f ∷ fs) m) ])
     by nil = gives (halted h)
     by (cons p ps) = gives (with-exec h (cons p ps))
 

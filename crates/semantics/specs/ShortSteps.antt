@@ -11,13 +11,13 @@ use Rattle.semantics.specs.Sizes.{nameMost}
 use Rattle.semantics.specs.Text.{bytes, octal}
 use Rattle.semantics.specs.Words.{signed, word}
 use Rattle.semantics.specs.Values.{Result, ok, fault, _>>=_, Value, integer, boolean, null, mark, operator, name, string, array}
-use Rattle.semantics.specs.Tokens.{within, Class, nameByte, bracket, openBrace, closeBrace, quote, slash, other, classOf, run, startsNumber, number, Token, Lexeme, lexeme, nameOf, runToken, slashToken, lexAs, lex}
+use Rattle.semantics.specs.Tokens.{Lexing, within, Class, nameByte, bracket, openBrace, closeBrace, quote, slash, other, classOf, run, startsNumber, number, Token, Lexeme, lexeme, nameOf, runToken, signs, slashToken, lexAs, lex}
 use Rattle.semantics.specs.Machine.{Machine, Frame, pending, running, looping, repeating, counting, push, enter, made}
 use Rattle.semantics.specs.Printing as Printing
 use Rattle.semantics.specs.Printing.{escaped, nameText}
 use Rattle.semantics.specs.Operators.{Entry, _is_, table}
 use Rattle.semantics.specs.Groups.{Taken, taken, Reader, opened, closed, element, group, tokenValue, takeToken}
-use Rattle.semantics.specs.Steps.{Limits, State, Move, commandOf, execute, isProcedure, treat, silent, beyond, following, resume, roomFor, Step, goes, fails, ended, moved, tokenMove, stepOn, step, Ending, finished, stopped, outOfFuel, failed, Run, isFinished, finish, goOn, slot, predefined, initial}
+use Rattle.semantics.specs.Steps.{Limits, State, Move, commandOf, execute, isProcedure, treat, silent, beyond, following, resume, roomFor, Step, goes, fails, misreads, unmoved, ended, moved, tokenMove, tokenStep, stepOn, step, Ending, finished, stopped, outOfFuel, failed, misread, Run, isFinished, finish, goOn, slot, predefined, initial}
 use Rattle.semantics.specs.Steps as Steps
 use Rattle.semantics.specs.ResultLaws.{Gives, gives, gives-then, gives-any, gives-check, choose, choose-cond}
 use Rattle.semantics.specs.ResultLaws as ResultLaws
@@ -25,7 +25,8 @@ use Rattle.semantics.specs.ListLaws.{All, nil, cons, _&_, all-every, May
 use Rattle.semantics.specs.ShortLaws.{Short, ShortFrame, ShortSlot, Tame, plain, array-short, text-short, with-exec, pushed, entered, maked, changed, object-short, lookup-short, interned}
 use Rattle.semantics.specs.ShortOperators.{perform-keeps}
 use Rattle.semantics.specs.declared.Error.{Error}
-use Rattle.semantics.specs.declared.Error.the-variants.{SyntaxError}
+use Rattle.semantics.specs.declared.Fault.{Fault}
+use Rattle.semantics.specs.declared.Fault.the-variants.{BadByte}
 
 -- ---- tokens
 
@@ -48,35 +49,35 @@ nameOf-short : (x : Bool) (n : List ℕ) → Gives ShortToken (nameOf x n)
 unfolding nameOf
 nameOf-short x n = gives-then (gives-check _ _) (λ u t. gives (record { brief = leb→le (length n) nameMost t }))
 
-runToken-short : (n : List ℕ) → Gives ShortToken (runToken n)
+runToken-short : (at : ℕ) (n : List ℕ) → Gives ShortToken (runToken at n)
 unfolding runToken
-runToken-short n =
-    choose (Gives ShortToken) (startsNumber n) (number n >>= λ w. ok (Token.integer w)) (nameOf true n)
+runToken-short at n =
+    choose (Gives ShortToken) (startsNumber n) (number at n >>= λ w. ok (Token.integer w)) (nameOf true n)
     (λ t. gives-then (gives-any _) (λ w u. gives (unnamed tt)))
     (λ t. nameOf-short true n)
 
-slashToken-short : (n : List ℕ) → Gives ShortToken (slashToken n)
+slashToken-short : (at : ℕ) (n : List ℕ) → Gives ShortToken (slashToken at n)
 unfolding slashToken
-slashToken-short n =
-    choose (Gives ShortToken) (eqb (length n) 0 || startsNumber n) (fault SyntaxError) (nameOf false n) (λ t. ResultLaws.fails) (λ t. nameOf-short false n)
+slashToken-short at n =
+    choose (Gives ShortToken) (eqb (length n) 0 || startsNumber n) (fault (BadByte (at + signs n))) (nameOf false n) (λ t. ResultLaws.fails) (λ t. nameOf-short false n)
 
 abbrev ShortLexeme : Lexeme → Type 0
 ShortLexeme l = ShortToken (l .token)
 
-lexAs-short : (k : Class) (b : ℕ) (s : List ℕ) → Gives ShortLexeme (lexAs k b s)
+lexAs-short : (k : Class) (at b : ℕ) (s : List ℕ) → Gives ShortLexeme (lexAs k at b s)
 unfolding lexAs lexeme
-lexAs-short nameByte b s = gives-then (runToken-short _) (λ t h. gives h)
-lexAs-short bracket b s = gives (unnamed tt)
-lexAs-short openBrace b s = gives (unnamed tt)
-lexAs-short closeBrace b s = gives (unnamed tt)
-lexAs-short quote b s = gives-then (gives-any _) (λ q u. gives (unnamed tt))
-lexAs-short slash b s = gives-then (slashToken-short _) (λ t h. gives h)
-lexAs-short other b s = ResultLaws.fails
+lexAs-short nameByte at b s = gives-then (runToken-short at _) (λ t h. gives h)
+lexAs-short bracket at b s = gives (unnamed tt)
+lexAs-short openBrace at b s = gives (unnamed tt)
+lexAs-short closeBrace at b s = gives (unnamed tt)
+lexAs-short quote at b s = gives-then (gives-any _) (λ q u. gives (unnamed tt))
+lexAs-short slash at b s = gives-then (slashToken-short (suc at) _) (λ t h. gives h)
+lexAs-short other at b s = ResultLaws.fails
 
-lex-short : (s : List ℕ) → Gives ShortLexeme (lex s)
+lex-short : (at : ℕ) (s : List ℕ) → Gives ShortLexeme (lex at s)
 unfolding lex lexeme
-lex-short [] = gives (unnamed tt)
-lex-short (b ∷ s) = lexAs-short (classOf b) b s
+lex-short at [] = gives (unnamed tt)
+lex-short at (b ∷ s) = lexAs-short (classOf b) at b s
 
 -- ---- values read from the script
 
@@ -84,47 +85,47 @@ abbrev Good : Taken → Type 0
 Good t = Short (t .value) × Tame (t .machine)
 
 abbrev KeepsShort : Reader → Type 0
-KeepsShort rest = (i depth offset : ℕ) (vs : List Value) (m : Machine) → All Short vs → Tame m → Gives Good (rest i depth offset vs m)
+KeepsShort rest = (i brace depth offset : ℕ) (vs : List Value) (m : Machine) → All Short vs → Tame m → Gives Good (rest i brace depth offset vs m)
 
 named : {x y : Bool} {n : List ℕ} → ShortToken (Token.name x n) → Short (name y n)
 named h = record { brief = h .brief }
 
 element-short : (rest : Reader)
     → KeepsShort rest
-    → (i depth after : ℕ) (vs : List Value) (m : Machine) (t : Token)
+    → (i brace depth start after : ℕ) (vs : List Value) (m : Machine) (t : Token)
     → All Short vs
     → Tame m
     → ShortToken t
-    → Gives Good (element rest i depth after vs m t)
+    → Gives Good (element rest i brace depth start after vs m t)
 unfolding element opened closed taken
-element-short rest f i depth after vs m (Token.integer w) a h k = f i depth after _ m (plain tt & a) h
-element-short rest f i depth after vs m (Token.string bs) a h k = f i depth after _ _ (plain tt & a) (maked h text-short)
-element-short rest f i depth after vs m (Token.name x n) a h k = f i depth after _ _ (named k & a) (interned h n)
-element-short rest f i zero after vs m Token.openBrace a h k = ResultLaws.fails
-element-short rest f i (suc d) after vs m Token.openBrace a h k =
-    gives-then (f (made m) d after [] (opened m) nil (maked h (array-short nil))) (λ t g. f i (suc d) (t .after) _ _ (g .0 & a) (g .1))
-element-short rest f i depth after vs m Token.closeBrace a h k = gives (plain tt, changed h i (array-short (all-reverse a)))
-element-short rest f i depth after vs m Token.end a h k = ResultLaws.fails
+element-short rest f i brace depth start after vs m (Token.integer w) a h k = f i brace depth after _ m (plain tt & a) h
+element-short rest f i brace depth start after vs m (Token.string bs) a h k = f i brace depth after _ _ (plain tt & a) (maked h text-short)
+element-short rest f i brace depth start after vs m (Token.name x n) a h k = f i brace depth after _ _ (named k & a) (interned h n)
+element-short rest f i brace zero start after vs m Token.openBrace a h k = ResultLaws.fails
+element-short rest f i brace (suc d) start after vs m Token.openBrace a h k =
+    gives-then (f (made m) start d after [] (opened m) nil (maked h (array-short nil))) (λ t g. f i brace (suc d) (t .after) _ _ (g .0 & a) (g .1))
+element-short rest f i brace depth start after vs m Token.closeBrace a h k = gives (plain tt, changed h i (array-short (all-reverse a)))
+element-short rest f i brace depth start after vs m Token.end a h k = ResultLaws.fails
 
 group-short : (script : List ℕ) (fuel : ℕ) → KeepsShort (group script fuel)
 unfolding group
-group-short script zero i depth offset vs m a h = ResultLaws.fails
-group-short script (suc fuel) i depth offset vs m a h =
-    gives-then (lex-short _) (λ l k. element-short (group script fuel) (group-short script fuel) i depth _ vs m (l .token) a h k)
+group-short script zero i brace depth offset vs m a h = ResultLaws.fails
+group-short script (suc fuel) i brace depth offset vs m a h =
+    gives-then (lex-short _ _) (λ l k. element-short (group script fuel) (group-short script fuel) i brace depth _ _ vs m (l .token) a h k)
 
-tokenValue-short : (script : List ℕ) (m : Machine) (after : ℕ) (t : Token) → Tame m → ShortToken t → Gives Good (tokenValue script m after t)
+tokenValue-short : (script : List ℕ) (m : Machine) (start after : ℕ) (t : Token) → Tame m → ShortToken t → Gives Good (tokenValue script m start after t)
 unfolding tokenValue opened taken
-tokenValue-short script m after (Token.integer w) h k = gives (plain tt, h)
-tokenValue-short script m after (Token.string bs) h k = gives (plain tt, maked h text-short)
-tokenValue-short script m after (Token.name true n) h k = gives (named k, h)
-tokenValue-short script m after (Token.name false n) h k = gives (named k, interned h n)
-tokenValue-short script m after Token.openBrace h k = group-short script (length script) (made m) 15 after [] (opened m) nil (maked h (array-short nil))
-tokenValue-short script m after Token.closeBrace h k = ResultLaws.fails
-tokenValue-short script m after Token.end h k = ResultLaws.fails
+tokenValue-short script m start after (Token.integer w) h k = gives (plain tt, h)
+tokenValue-short script m start after (Token.string bs) h k = gives (plain tt, maked h text-short)
+tokenValue-short script m start after (Token.name true n) h k = gives (named k, h)
+tokenValue-short script m start after (Token.name false n) h k = gives (named k, interned h n)
+tokenValue-short script m start after Token.openBrace h k = group-short script (length script) (made m) start 15 after [] (opened m) nil (maked h (array-short nil))
+tokenValue-short script m start after Token.closeBrace h k = ResultLaws.fails
+tokenValue-short script m start after Token.end h k = ResultLaws.fails
 
 takeToken-short : (script : List ℕ) (start : ℕ) (m : Machine) → Tame m → Gives Good (takeToken script start m)
 unfolding takeToken
-takeToken-short script start m h = gives-then (lex-short _) (λ l k. tokenValue-short script m _ (l .token) h k)
+takeToken-short script start m h = gives-then (lex-short _ _) (λ l k. tokenValue-short script m _ _ (l .token) h k)
 
 -- ---- texts of names
 
@@ -205,10 +206,9 @@ resume-short (counting n i f b) m s h =
     (λ t. silent-short (gives h))
     (λ t. silent-short (gives (entered (entered (pushed h (plain tt)) (record { held = s .held })) (record { held = s .held }))))
 
-tokenMove-short : {r : Result Taken} → Gives Good r → ShortMove (tokenMove r)
+tokenMove-short : (t : Taken) → Good t → ShortMove (tokenMove t)
 unfolding tokenMove
-tokenMove-short (gives {a = t} g) = record { command = command-length (t .value) (g .0); result = treat-short (t .value) (t .machine) (g .0) (g .1) }
-tokenMove-short ResultLaws.fails = silent-short ResultLaws.fails
+tokenMove-short t g = record { command = command-length (t .value) (g .0); result = treat-short (t .value) (t .machine) (g .0) (g .1) }
 
 -- ---- steps and runs
 
@@ -229,13 +229,14 @@ roomFor-sound l before after h =
 data SoundStep (l : Limits) : Step → Type 0 where
   went : {τ : State} → Sound l (τ .machine) → SoundStep l (goes τ)
   stuck : {e : Error} {c : List ℕ} {τ : State} → length c ≤ 124 → Sound l (τ .machine) → SoundStep l (fails e c τ)
+  unread : {f : Fault} {τ : State} → Sound l (τ .machine) → SoundStep l (misreads f τ)
 
 ended-sound : (l : Limits) (σ : State) (at next : ℕ) (c : List ℕ) {r : Result Machine}
     → Sound l (σ .machine)
     → length c ≤ 124
     → Gives (Sound l) r
     → SoundStep l (ended σ at next c r)
-unfolding ended
+unfolding ended unmoved
 ended-sound l σ at next c h k (gives g) = went g
 ended-sound l σ at next c h k ResultLaws.fails = stuck k h
 
@@ -243,10 +244,15 @@ moved-sound : (l : Limits) (σ : State) (at next : ℕ) {v : Move} → Sound l (
 unfolding moved
 moved-sound l σ at next h k = ended-sound l σ at next _ h (k .command) (gives-then (k .result) (λ m t. roomFor-sound l (σ .machine) m t))
 
+token-sound : (l : Limits) (σ : State) (start : ℕ) {r : Lexing Taken} → Sound l (σ .machine) → Gives Good r → SoundStep l (tokenStep l σ start r)
+unfolding tokenStep unmoved
+token-sound l σ start h (gives {a = t} g) = moved-sound l σ _ _ h (tokenMove-short t g)
+token-sound l σ start h ResultLaws.fails = unread h
+
 stepOn-sound : (l : Limits) (script : List ℕ) (σ : State) {fs : List Frame} → All ShortFrame fs → Sound l (σ .machine) → SoundStep l (stepOn l script σ fs)
 unfolding stepOn
 stepOn-sound l script σ (cons {a = f} p ps) h = moved-sound l σ _ _ h (resume-short f _ p (with-exec (h .tame) ps))
-stepOn-sound l script σ nil h = moved-sound l σ _ _ h (tokenMove-short (takeToken-short script _ (σ .machine) (h .tame)))
+stepOn-sound l script σ nil h = token-sound l σ _ h (takeToken-short script _ (σ .machine) (h .tame))
 
 -- The command of an ending.
 abbrev pub commandIn : Ending → List ℕ
@@ -254,6 +260,7 @@ commandIn finished = []
 commandIn stopped = []
 commandIn outOfFuel = []
 commandIn (failed e c) = c
+commandIn (misread f) = []
 
 pub record SoundRun (l : Limits) (r : Run) : Type 0 where
   pub command : length (commandIn (r .ending)) ≤ 124
@@ -275,6 +282,7 @@ unfolding goOn
 goOn-sound l rest f (went {τ = τ} h) =
     choose (SoundRun l) (τ .machine .stopped) (record { ending = stopped; final = τ }) (rest τ) (λ t. quiet-run tt h) (λ t. f τ h)
 goOn-sound l rest f (stuck k h) = record { command = k; final = h }
+goOn-sound l rest f (unread h) = quiet-run tt h
 
 pub run-sound : (l : Limits) (script : List ℕ) (fuel : ℕ) (σ : State) → Sound l (σ .machine) → SoundRun l (Steps.run l script fuel σ)
 unfolding Steps.run step

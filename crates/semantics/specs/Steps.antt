@@ -15,8 +15,10 @@ use Rattle.semantics.specs.Machine.{Machine, Frame, pending, running, lo
 use Rattle.semantics.specs.Printing.{nameText}
 use Rattle.semantics.specs.Operators.{perform, table, Entry}
 use Rattle.semantics.specs.Held.{heldCells, sumOf}
+use Rattle.semantics.specs.Tokens.{Lexing}
 use Rattle.semantics.specs.Groups.{Taken, skip, takeToken}
 use Rattle.semantics.specs.declared.Error.{Error}
+use Rattle.semantics.specs.declared.Fault.{Fault}
 use Rattle.semantics.specs.declared.Error.the-variants.{LimitCheck, Undefined, ExecStackOverflow, StackOverflow, VmError, IoError}
 
 -- What is lent, in slots, cells and bytes.
@@ -141,33 +143,33 @@ roomFor l before after = do
 pub data Step : Type 0 where
   goes : State → Step
   fails : Error → List ℕ → State → Step  -- the error, the command, and the state that is left
+  misreads : Fault → State → Step  -- what is wrong with the token, and the state that is left
 
--- The step's end: the state after it, or the state before it with the step counted and `at` set.
+-- What a step that ends the run leaves: the state before it with the step counted and `at` set (R47), for a brace group to its opening brace (R32).
+unfoldable pub unmoved : State → ℕ → State
+unmoved σ at = record { machine = σ .machine; next = σ .next; at = at; steps = suc (σ .steps) }
+
 unfoldable pub ended : State → ℕ → ℕ → List ℕ → Result Machine → Step
 ended σ at next command (ok m) = goes (record { machine = m; next = next; at = at; steps = suc (σ .steps) })
-ended σ at next command (fault e) =
-    fails e command (record { machine = σ .machine; next = σ .next; at = at; steps = suc (σ .steps) })
+ended σ at next command (fault e) = fails e command (unmoved σ at)
 
 unfoldable pub moved : Limits → State → ℕ → ℕ → Move → Step
 moved l σ at next v = ended σ at next (v .command) (v .result >>= roomFor l (σ .machine))
 
--- What taking a token comes to.
-unfoldable pub tokenMove : Result Taken → Move
-tokenMove (fault e) = silent (fault e)
-tokenMove (ok t) = record { command = commandOf (t .value); result = treat (t .value) (t .machine) }
+-- What a token that is taken comes to.
+unfoldable pub tokenMove : Taken → Move
+tokenMove t = record { command = commandOf (t .value); result = treat (t .value) (t .machine) }
 
--- A failing step leaves the bytes that are left as they were; `at` moves (R47), to a brace group's opening brace (R32).
-unfoldable pub offsetAfter : ℕ → Result Taken → ℕ
-offsetAfter start (fault e) = start
-offsetAfter start (ok t) = t .after
+unfoldable pub tokenStep : Limits → State → ℕ → Lexing Taken → Step
+tokenStep l σ start (fault f) = misreads f (unmoved σ start)
+tokenStep l σ start (ok t) = moved l σ start (t .after) (tokenMove t)
 
 -- One step acts once on the top of the execution stack. With an empty one the next script token is taken.
 unfoldable pub stepOn : Limits → List ℕ → State → List Frame → Step
 stepOn l script σ (f ∷ fs) = moved l σ (σ .at) (σ .next) (resume f (withExec fs (σ .machine)))
 stepOn l script σ [] =
     let start = skip script (σ .next) in
-    let t = takeToken script start (σ .machine) in
-    moved l σ start (offsetAfter start t) (tokenMove t)
+    tokenStep l σ start (takeToken script start (σ .machine))
 
 unfoldable pub step : Limits → List ℕ → State → Step
 step l script σ = stepOn l script σ (σ .machine .exec)
@@ -177,6 +179,7 @@ step l script σ = stepOn l script σ (σ .machine .exec)
 pub data Ending : Type 0 where
   finished stopped outOfFuel : Ending
   failed : Error → List ℕ → Ending  -- the error and the command
+  misread : Fault → Ending  -- what is wrong with a token
 
 pub record Run : Type 0 where
   pub ending : Ending
@@ -196,6 +199,7 @@ finish script σ = record { ending = finished; final = record { machine = σ .ma
 -- The run from a step on, given its rest.
 unfoldable pub goOn : (State → Run) → Step → Run
 goOn rest (fails e c τ) = record { ending = failed e c; final = τ }
+goOn rest (misreads f τ) = record { ending = misread f; final = τ }
 goOn rest (goes τ) = elim (τ .machine .stopped) [ true ↦ record { ending = stopped; final = τ } | false ↦ rest τ ]
 
 -- Whether the run is finished is asked before fuel is looked at. Each step costs 1 fuel.
@@ -236,5 +240,5 @@ lending n contents m =
 
 -- Opens every definition of this file.
 unfoldable pub stepping : Unit {0}
-unfolding commandOf execute isProcedure treat silent beyond following resume newCells cellsFor roomFor ended moved tokenMove offsetAfter stepOn step isEmpty isFinished finish goOn run slot predefined initial lending
+unfolding commandOf execute isProcedure treat silent beyond following resume newCells cellsFor roomFor unmoved ended moved tokenMove tokenStep stepOn step isEmpty isFinished finish goOn run slot predefined initial lending
 stepping = tt

@@ -3,15 +3,15 @@
 use mathlib.Core.Path.{_≡_, refl}
 use mathlib.Core.Bool.{Bool, true, false, _||_, cond}
 use mathlib.Core.List.{List, [], _∷_}
-use Prim.Native.Nat.{ℕ, suc, _≤_}
+use Prim.Native.Nat.{ℕ, suc, _+_, _≤_}
 use native.Mathlib.Omega.{arith}
 use lib.ListN.{length, take, drop, length-drop}
 use lib.Seq.{length-take-le}
 use lib.Dec.{T, eqb}
-use Rattle.semantics.specs.Values.{Result, ok, fault, _>>=_}
-use Rattle.semantics.specs.Tokens.{isNameByte, Class, nameByte, bracket, openBrace, closeBrace, quote, slash, other, classOf, isBlank, commentAfter, blanksIn, blanks, run, startsNumber, number, Met, nothing, Act, byte, go, close, bad, act, Quoted, quotedOn, quoted, Token, Lexeme, lexeme, nameOf, runToken, slashToken, lexAs, lex}
+use Rattle.semantics.specs.Values.{ok, fault, _>>=_}
+use Rattle.semantics.specs.Tokens.{Lexing, isNameByte, Class, nameByte, bracket, openBrace, closeBrace, quote, slash, other, classOf, isBlank, commentAfter, blanksIn, blanks, run, startsNumber, number, Met, nothing, Act, byte, go, close, cut, bad, act, Quoted, quotedOn, quoted, Token, Lexeme, lexeme, nameOf, runToken, signs, slashToken, lexAs, lex}
 use Rattle.semantics.specs.Groups.{skip}
-use Rattle.semantics.specs.declared.Error.the-variants.{SyntaxError}
+use Rattle.semantics.specs.declared.Fault.the-variants.{BadByte}
 use Rattle.semantics.specs.ResultLaws.{choose, Gives, gives, fails, gives-then, gives-any}
 
 -- ---- space, comment and runs of name bytes
@@ -33,7 +33,7 @@ unfolding run
 run-le [] = omega arith
 run-le (b ∷ s) = choose (λ n. n ≤ suc (length s)) (isNameByte b) (suc (run s)) 0 (λ t. omega (arith, run-le s)) (λ t. omega arith)
 
-run-length : (s : List ℕ) → length (take (run s) s) ≤ length s
+pub run-length : (s : List ℕ) → length (take (run s) s) ≤ length s
 run-length s = omega (arith, length-take-le (run s) s (run-le s), run-le s)
 
 -- ---- sizes
@@ -48,20 +48,22 @@ one-more h = (omega arith, omega arith)
 one-byte : (n : ℕ) → Within (suc n) 1
 one-byte n = (omega arith, omega arith)
 
-quotedOn-size : (rest : Met → Result Quoted) (n : ℕ)
+quotedOn-size : (start at : ℕ) (rest : Met → Lexing Quoted) (n : ℕ)
     → ((next : Met) → Gives (λ (q : Quoted). Within n (q .taken)) (rest next))
     → (a : Act)
-    → Gives (λ (q : Quoted). Within (suc n) (q .taken)) (quotedOn rest a)
+    → Gives (λ (q : Quoted). Within (suc n) (q .taken)) (quotedOn start at rest a)
 unfolding quotedOn
-quotedOn-size rest n f (byte c) = gives-then (f nothing) (λ q h. gives (one-more h))
-quotedOn-size rest n f (go next) = gives-then (f next) (λ q h. gives (one-more h))
-quotedOn-size rest n f close = gives (one-byte n)
-quotedOn-size rest n f bad = fails
+quotedOn-size start at rest n f (byte c) = gives-then (f nothing) (λ q h. gives (one-more h))
+quotedOn-size start at rest n f (go next) = gives-then (f next) (λ q h. gives (one-more h))
+quotedOn-size start at rest n f close = gives (one-byte n)
+quotedOn-size start at rest n f cut = fails
+quotedOn-size start at rest n f bad = fails
 
-quoted-size : (met : Met) (s : List ℕ) → Gives (λ (q : Quoted). Within (length s) (q .taken)) (quoted met s)
+quoted-size : (start at : ℕ) (met : Met) (s : List ℕ) → Gives (λ (q : Quoted). Within (length s) (q .taken)) (quoted start at met s)
 unfolding quoted
-quoted-size met [] = fails
-quoted-size met (b ∷ s) = quotedOn-size (λ next. quoted next s) (length s) (λ next. quoted-size next s) (act met b)
+quoted-size start at met [] = fails
+quoted-size start at met (b ∷ s) =
+    quotedOn-size start at (λ next. quoted start (suc at) next s) (length s) (λ next. quoted-size start (suc at) next s) (act met b)
 
 -- What a token takes of n bytes.
 abbrev pub Fits : ℕ → Token → ℕ → Type 0
@@ -97,17 +99,17 @@ class-name b = by (isNameByte b) (eqb b 91 || eqb b 93) (eqb b 123) (eqb b 125) 
     by false false false false false true h = h
     by false false false false false false h = h
 
-run-token : (bs : List ℕ) (n size : ℕ) → Within n size → Gives (λ t. Fits n t size) (runToken bs)
+run-token : (at : ℕ) (bs : List ℕ) (n size : ℕ) → Within n size → Gives (λ t. Fits n t size) (runToken at bs)
 unfolding runToken nameOf
-run-token bs n size h =
-    choose (Gives (λ t. Fits n t size)) (startsNumber bs) (number bs >>= λ w. ok (Token.integer w)) (nameOf true bs)
+run-token at bs n size h =
+    choose (Gives (λ t. Fits n t size)) (startsNumber bs) (number at bs >>= λ w. ok (Token.integer w)) (nameOf true bs)
     (λ t. gives-then (gives-any _) (λ w u. gives h))
     (λ t. gives-then (gives-any _) (λ v u. gives h))
 
-slash-token : (bs : List ℕ) (n size : ℕ) → Within n size → Gives (λ t. Fits n t size) (slashToken bs)
+slash-token : (at : ℕ) (bs : List ℕ) (n size : ℕ) → Within n size → Gives (λ t. Fits n t size) (slashToken at bs)
 unfolding slashToken nameOf
-slash-token bs n size h =
-    choose (Gives (λ t. Fits n t size)) (eqb (length bs) 0 || startsNumber bs) (fault SyntaxError) (nameOf false bs)
+slash-token at bs n size h =
+    choose (Gives (λ t. Fits n t size)) (eqb (length bs) 0 || startsNumber bs) (fault (BadByte (at + signs bs))) (nameOf false bs)
     (λ t. fails)
     (λ t. gives-then (gives-any _) (λ v u. gives h))
 
@@ -119,21 +121,21 @@ run-first b s h = by (isNameByte b) h
     by true u = omega arith
     by false u = absurd u
 
-lexAs-fits : (k : Class) (b : ℕ) (s : List ℕ)
+lexAs-fits : (k : Class) (at b : ℕ) (s : List ℕ)
     → (T (isName k) → T (isNameByte b))
-    → Gives (λ l. Fits (suc (length s)) (l .token) (l .size)) (lexAs k b s)
+    → Gives (λ l. Fits (suc (length s)) (l .token) (l .size)) (lexAs k at b s)
 unfolding lexAs lexeme
-lexAs-fits nameByte b s h =
-    gives-then (run-token (take (run (b ∷ s)) (b ∷ s)) _ _ (run-first b s (h tt), run-length (b ∷ s))) (λ t f. gives f)
-lexAs-fits bracket b s h = gives (one-byte (length s))
-lexAs-fits openBrace b s h = gives (one-byte (length s))
-lexAs-fits closeBrace b s h = gives (one-byte (length s))
-lexAs-fits quote b s h = gives-then (quoted-size nothing s) (λ q f. gives (one-more f))
-lexAs-fits slash b s h =
-    gives-then (slash-token (take (run s) s) _ _ (omega arith, omega (arith, run-length s))) (λ t f. gives f)
-lexAs-fits other b s h = fails
+lexAs-fits nameByte at b s h =
+    gives-then (run-token at (take (run (b ∷ s)) (b ∷ s)) _ _ (run-first b s (h tt), run-length (b ∷ s))) (λ t f. gives f)
+lexAs-fits bracket at b s h = gives (one-byte (length s))
+lexAs-fits openBrace at b s h = gives (one-byte (length s))
+lexAs-fits closeBrace at b s h = gives (one-byte (length s))
+lexAs-fits quote at b s h = gives-then (quoted-size at (suc at) nothing s) (λ q f. gives (one-more f))
+lexAs-fits slash at b s h =
+    gives-then (slash-token (suc at) (take (run s) s) _ _ (omega arith, omega (arith, run-length s))) (λ t f. gives f)
+lexAs-fits other at b s h = fails
 
-pub lex-fits : (s : List ℕ) → Gives (λ (l : Lexeme). Fits (length s) (l .token) (l .size)) (lex s)
+pub lex-fits : (at : ℕ) (s : List ℕ) → Gives (λ (l : Lexeme). Fits (length s) (l .token) (l .size)) (lex at s)
 unfolding lex lexeme
-lex-fits [] = gives refl
-lex-fits (b ∷ s) = lexAs-fits (classOf b) b s (class-name b)
+lex-fits at [] = gives refl
+lex-fits at (b ∷ s) = lexAs-fits (classOf b) at b s (class-name b)

@@ -1,4 +1,5 @@
--- Tokens (01, Tokens). `lex` reads the bytes that are left of a script, after the space and comment that `blanks` counts.
+-- Tokens (01, Tokens; 02, W4). `lex` reads the bytes that are left of a script, after the space and comment that `blanks` counts. `at` is always
+-- the offset in the script of the first byte that is left: a fault names the first byte that could not be accepted, limits aside.
 -- Assumes nothing.
 use mathlib.Core.Bool.{Bool, true, false, not, _&&_, _||_, cond}
 use mathlib.Core.List.{List, [], _∷_}
@@ -8,8 +9,13 @@ use lib.ListN.{length, take, drop}
 use lib.Dec.{leb, ltb, eqb}
 use Rattle.semantics.specs.Sizes.{nameMost}
 use Rattle.semantics.specs.Words.{word}
-use Rattle.semantics.specs.Values.{Result, ok, fault, _>>=_, check}
-use Rattle.semantics.specs.declared.Error.the-variants.{SyntaxError, LimitCheck}
+use Rattle.semantics.specs.Values.{Attempt, ok, fault, _>>=_, check}
+use Rattle.semantics.specs.declared.Fault.{Fault}
+use Rattle.semantics.specs.declared.Fault.the-variants.{BadNumber, BadEscape, OpenString, BadByte, OverLimit}
+
+-- What is read, or what is wrong with the token.
+abbrev pub Lexing : Type 0 → Type 0
+Lexing A = Attempt Fault A
 
 -- ---- bytes
 
@@ -75,15 +81,15 @@ run (b ∷ s) = elim (isNameByte b) [ true ↦ suc (run s) | false ↦ 0 ]
 unfoldable pub digit : ℕ → ℕ
 digit b = cond (isDigit b) (b - 48) (cond (within 97 102 b) (b - 87) (cond (within 65 70 b) (b - 55) 16))
 
-unfoldable pub digitsFrom : ℕ → ℕ → List ℕ → Result ℕ
-digitsFrom base n [] = ok n
-digitsFrom base n (b ∷ s) =
-    elim (ltb (digit b) base) [ true ↦ digitsFrom base (n * base + digit b) s | false ↦ fault SyntaxError ]
+unfoldable pub digitsFrom : ℕ → ℕ → ℕ → List ℕ → Lexing ℕ
+digitsFrom base at n [] = ok n
+digitsFrom base at n (b ∷ s) =
+    elim (ltb (digit b) base) [ true ↦ digitsFrom base (suc at) (n * base + digit b) s | false ↦ fault (BadNumber at) ]
 
 -- The number that one or more digits write; a run that begins as a number must be one (R19). Leading zeros do not count (R22).
-unfoldable pub digits : ℕ → List ℕ → Result ℕ
-digits base [] = fault SyntaxError
-digits base (b ∷ s) = digitsFrom base 0 (b ∷ s)
+unfoldable pub digits : ℕ → ℕ → List ℕ → Lexing ℕ
+digits base at [] = fault (BadNumber at)
+digits base at (b ∷ s) = digitsFrom base at 0 (b ∷ s)
 
 -- A digit, or - and a digit; `-`, `-x` and `+5` are names (R21).
 unfoldable pub startsNumber : List ℕ → Bool
@@ -92,9 +98,9 @@ startsNumber (b ∷ []) = isDigit b
 startsNumber (b ∷ c ∷ s) = isDigit b || (eqb b 45 && isDigit c)
 
 -- n where it is at most the limit, else limitcheck: form is judged before size (R22).
-unfoldable pub upTo : ℕ → ℕ → Result ℕ
+unfoldable pub upTo : ℕ → ℕ → Lexing ℕ
 upTo limit n = do
-  _ ← check (leb n limit) LimitCheck
+  _ ← check (leb n limit) OverLimit
   ok n
 
 -- -12, 0xC, 12; 0X1F is none of them (R20)
@@ -107,12 +113,12 @@ formOf (b ∷ []) = plain
 formOf (b ∷ c ∷ s) = cond (eqb b 45) negative (cond (eqb b 48 && eqb c 120) hexadecimal plain)
 
 -- The 32 bits of a run of name bytes that starts as a number does.
-unfoldable pub number : List ℕ → Result ℕ
-number s =
+unfoldable pub number : ℕ → List ℕ → Lexing ℕ
+number at s =
     elim (formOf s) [
-      | negative ↦ digits 10 (drop 1 s) >>= λ n. upTo (2 ^ 31) n >>= λ m. ok (word (negℤ (pos m)))
-      | hexadecimal ↦ digits 16 (drop 2 s) >>= upTo (2 ^ 32 - 1)
-      | plain ↦ digits 10 s >>= upTo (2 ^ 31 - 1)
+      | negative ↦ digits 10 (at + 1) (drop 1 s) >>= λ n. upTo (2 ^ 31) n >>= λ m. ok (word (negℤ (pos m)))
+      | hexadecimal ↦ digits 16 (at + 2) (drop 2 s) >>= upTo (2 ^ 32 - 1)
+      | plain ↦ digits 10 at s >>= upTo (2 ^ 31 - 1)
     ]
 
 -- ---- strings
@@ -127,47 +133,51 @@ pub data Met : Type 0 where
 pub data Act : Type 0 where
   byte : ℕ → Act  -- this is the string's next byte
   go : Met → Act
-  close bad : Act
+  close : Act
+  cut : Act  -- a line break ends the string too early
+  bad : Act  -- no escape goes on so
 
--- Outside an escape: a quote closes, a line break is bad, and each byte but the backslash stands for itself, byte 0 too (R28).
+-- Outside an escape: a quote closes, a line break cuts, and each byte but the backslash stands for itself, byte 0 too (R28).
 unfoldable pub plainAct : ℕ → Act
-plainAct b = cond (eqb b 34) close (cond (eqb b 92) (go backslash) (cond (isBreak b) bad (byte b)))
+plainAct b = cond (eqb b 34) close (cond (eqb b 92) (go backslash) (cond (isBreak b) cut (byte b)))
 
--- After an octal digit: exactly three, at most 377 (R26).
+-- After an octal digit that is not the first: exactly three (R26).
 unfoldable pub octalAct : ℕ → ℕ → Act
-octalAct zero v = cond (ltb v 256) (byte v) bad
+octalAct zero v = byte v
 octalAct (suc k) v = go (octal (suc k) v)
 
--- \n, \", \NNN, and backslash with a line break, which vanishes; CR LF is one break (R27). \\ is no escape (R25).
+-- \n, \", \NNN, at most 377, and backslash with a line break, which vanishes; CR LF is one break (R27). \\ is no escape (R25). In the middle of \NNN a
+-- line break cuts the string (W4.4).
 unfoldable pub act : Met → ℕ → Act
 act nothing b = plainAct b
 act backslash b =
     cond (eqb b 110) (byte 10)
     (cond (eqb b 34) (byte 34)
     (cond (eqb b 13) (go return)
-    (cond (eqb b 10) (go nothing) (cond (isOctal b) (go (octal 2 (b - 48))) bad))))
+    (cond (eqb b 10) (go nothing) (cond (within 48 51 b) (go (octal 2 (b - 48))) bad))))
 act return b = cond (eqb b 10) (go nothing) (plainAct b)
-act (octal k v) b = cond (isOctal b) (octalAct (k - 1) (v * 8 + (b - 48))) bad
+act (octal k v) b = cond (isOctal b) (octalAct (k - 1) (v * 8 + (b - 48))) (cond (isBreak b) cut bad)
 
 -- A string's bytes, and how many bytes of the script it takes with its closing quote.
 pub record Quoted : Type 0 where
   pub contents : List ℕ
   pub taken : ℕ
 
--- The string from an act on, given its reading after what was met.
-unfoldable pub quotedOn : (Met → Result Quoted) → Act → Result Quoted
-quotedOn rest (byte c) = do
+-- The string from an act on, given its reading after what was met. Its opening quote is at `start`, the byte that acts at `at`.
+unfoldable pub quotedOn : ℕ → ℕ → (Met → Lexing Quoted) → Act → Lexing Quoted
+quotedOn start at rest (byte c) = do
   q ← rest nothing
   ok (record { contents = c ∷ q .contents; taken = suc (q .taken) })
-quotedOn rest (go met) = do
+quotedOn start at rest (go met) = do
   q ← rest met
   ok (record { contents = q .contents; taken = suc (q .taken) })
-quotedOn rest close = ok (record { contents = []; taken = 1 })
-quotedOn rest bad = fault SyntaxError
+quotedOn start at rest close = ok (record { contents = []; taken = 1 })
+quotedOn start at rest cut = fault (OpenString start)
+quotedOn start at rest bad = fault (BadEscape at)
 
-unfoldable pub quoted : Met → List ℕ → Result Quoted
-quoted met [] = fault SyntaxError
-quoted met (b ∷ s) = quotedOn (λ next. quoted next s) (act met b)
+unfoldable pub quoted : ℕ → ℕ → Met → List ℕ → Lexing Quoted
+quoted start at met [] = fault (OpenString start)
+quoted start at met (b ∷ s) = quotedOn start at (λ next. quoted start (suc at) next s) (act met b)
 
 -- ---- tokens
 
@@ -182,55 +192,60 @@ pub record Lexeme : Type 0 where
   pub token : Token
   pub size : ℕ
 
-unfoldable pub lexeme : Token → ℕ → Result Lexeme
+unfoldable pub lexeme : Token → ℕ → Lexing Lexeme
 lexeme t n = ok (record { token = t; size = n })
 
 -- Names have at most 31 bytes, without the slash, else limitcheck (R24).
-unfoldable pub nameOf : Bool → List ℕ → Result Token
+unfoldable pub nameOf : Bool → List ℕ → Lexing Token
 nameOf executable n = do
-  _ ← check (leb (length n) nameMost) LimitCheck
+  _ ← check (leb (length n) nameMost) OverLimit
   ok (name executable n)
 
 -- A run of name bytes: a number, which must be a whole one, or an executable name.
-unfoldable pub runToken : List ℕ → Result Token
-runToken n =
+unfoldable pub runToken : ℕ → List ℕ → Lexing Token
+runToken at n =
     elim (startsNumber n) [
-      | true ↦ number n >>= λ w. ok (integer w)
+      | true ↦ number at n >>= λ w. ok (integer w)
       | false ↦ nameOf true n
     ]
 
+-- The byte that begins a number for certain: a digit, or the digit after a minus sign.
+unfoldable pub signs : List ℕ → ℕ
+signs [] = 0
+signs (b ∷ s) = cond (isDigit b) 0 1
+
 -- What follows a slash: a name byte, and not a number's beginning, judged before the length (R23).
-unfoldable pub slashToken : List ℕ → Result Token
-slashToken n =
+unfoldable pub slashToken : ℕ → List ℕ → Lexing Token
+slashToken at n =
     elim (eqb (length n) 0 || startsNumber n) [
-      | true ↦ fault SyntaxError
+      | true ↦ fault (BadByte (at + signs n))
       | false ↦ nameOf false n
     ]
 
 -- The token that begins with the byte b of a class, s being the bytes after it.
-unfoldable pub lexAs : Class → ℕ → List ℕ → Result Lexeme
-lexAs nameByte b s = do
+unfoldable pub lexAs : Class → ℕ → ℕ → List ℕ → Lexing Lexeme
+lexAs nameByte at b s = do
   let n = take (run (b ∷ s)) (b ∷ s)
-  t ← runToken n
+  t ← runToken at n
   lexeme t (length n)
-lexAs bracket b s = lexeme (name true (b ∷ [])) 1
-lexAs openBrace b s = lexeme openBrace 1
-lexAs closeBrace b s = lexeme closeBrace 1
-lexAs quote b s = do
-  q ← quoted nothing s
+lexAs bracket at b s = lexeme (name true (b ∷ [])) 1
+lexAs openBrace at b s = lexeme openBrace 1
+lexAs closeBrace at b s = lexeme closeBrace 1
+lexAs quote at b s = do
+  q ← quoted at (suc at) nothing s
   lexeme (string (q .contents)) (suc (q .taken))
-lexAs slash b s = do
+lexAs slash at b s = do
   let n = take (run s) s
-  t ← slashToken n
+  t ← slashToken (suc at) n
   lexeme t (suc (length n))
-lexAs other b s = fault SyntaxError
+lexAs other at b s = fault (BadByte at)
 
 -- The token that begins at the first byte, which is neither space nor comment.
-unfoldable pub lex : List ℕ → Result Lexeme
-lex [] = lexeme end 0
-lex (b ∷ s) = lexAs (classOf b) b s
+unfoldable pub lex : ℕ → List ℕ → Lexing Lexeme
+lex at [] = lexeme end 0
+lex at (b ∷ s) = lexAs (classOf b) at b s
 
 -- Opens every definition of this file.
 unfoldable pub tokens : Unit {0}
-unfolding classOf isBlank commentAfter blanksIn blanks run digit digitsFrom digits startsNumber upTo formOf number plainAct octalAct act quotedOn quoted lexeme nameOf runToken slashToken lexAs lex
+unfolding classOf isBlank commentAfter blanksIn blanks run digit digitsFrom digits startsNumber upTo formOf number plainAct octalAct act quotedOn quoted lexeme nameOf runToken signs slashToken lexAs lex
 tokens = tt

@@ -42,9 +42,8 @@ pub const HEAD_ROOM: usize = 256;
 
 pub const ITEM_ROOM: usize = 136;
 
-// The errors of a step. `errorText` of specs/Outcome gives each its name in the paper.
+// The errors of a step whose token, if it takes one, could be read. `errorText` of specs/Errors gives each its name in the paper.
 pub enum Error {
-    SyntaxError,
     LimitCheck,
     Undefined,
     StackUnderflow,
@@ -56,6 +55,17 @@ pub enum Error {
     StackOverflow,
     VmError,
     IoError,
+}
+
+// What is wrong with a token, with the offset of the first byte that could not be accepted. A limit that is passed has no such byte.
+// `faultText` of specs/Errors gives each its name in the paper.
+pub enum Fault {
+    BadNumber(u32),
+    BadEscape(u32),
+    OpenString(u32),
+    BadBrace(u32),
+    BadByte(u32),
+    OverLimit,
 }
 
 // The kinds of tokens. `kindText` of specs/Setup gives each its words in the paper.

@@ -24,7 +24,7 @@ use Rattle.commands.specs.Commands.{Commands}
 use Rattle.step.specs.Stepping.{stateOf, LogLeft, Steps, StepsToken, endedBy}
 use Rattle.step.specs.declared.State.{State}
 use Rattle.step.specs.declared.Stepped.{Stepped}
-use Rattle.step.specs.declared.Stepped.the-variants.{Goes, Fails}
+use Rattle.step.specs.declared.Stepped.the-variants.{Goes, Fails, Misreads}
 use Rattle.step.proofs.Moving.{ends-step, frame-step}
 
 -- ---- a token
@@ -32,6 +32,7 @@ use Rattle.step.proofs.Moving.{ends-step, frame-step}
 same-left : (l : List ℕ) (r : Stepped) → LogLeft l l r
 same-left l (Goes τ) = refl
 same-left l (Fails τ x command) = refl
+same-left l (Misreads τ command f) = refl
 
 -- Taking a token leaves the log.
 pub token-steps : {script : List ℕ} {σ : State} {s s′ e e′ d d′ c c′ : List ℕ} (l : List ℕ) (r : Stepped)

@@ -7,14 +7,15 @@ use native.Mathlib.Omega.{arith}
 use native.Mathlib.Numerals.{add-one}
 use lib.ListN.{length, getD, drop}
 use Rattle.semantics.specs.Values.{null, Result, ok, fault, _>>=_}
-use Rattle.semantics.specs.Tokens.{Token, lex, lexeme}
+use Rattle.semantics.specs.Tokens.{Lexing, Token, Lexeme, lex, lexeme}
 use Rattle.semantics.specs.Machine as Floo
 use Rattle.semantics.specs.Machine.{Frame, pending, withExec}
-use Rattle.semantics.specs.Groups.{Taken, skip, tokenValue, takeToken}
+use Rattle.semantics.specs.Groups.{skip, tokenValue, takeToken}
 use Rattle.semantics.specs.Steps as steps
-use Rattle.semantics.specs.Steps.{Limits, Move, roomFor, ended, moved, silent, stepOn, tokenMove, offsetAfter, resume}
+use Rattle.semantics.specs.Steps.{Limits, Move, roomFor, unmoved, ended, moved, tokenStep, stepOn, resume}
 use Rattle.semantics.specs.declared.Error.{Error}
-use Rattle.semantics.specs.declared.Error.the-variants.{SyntaxError}
+use Rattle.semantics.specs.declared.Fault.{Fault}
+use Rattle.semantics.specs.declared.Fault.the-variants.{BadBrace}
 use Rattle.ending.specs.Endings.{commandText, IsCommand}
 use Rattle.ending.specs.declared.Command.{Command}
 use Rattle.machine.specs.Places.{keys}
@@ -41,10 +42,15 @@ module _ (σ : steps.State) (at next : ℕ) (command : List ℕ) where
   pub ended-fault : {r : Result Floo.Machine} {x : Error}
       → r ≡ fault x
       → ended σ at next command r ≡ steps.fails x command (record { machine = σ .machine; next = σ .next; at = at; steps = σ .steps + 1 })
-  unfolding ended
+  unfolding ended unmoved
   ended-fault {x = x} q =
       ap (ended σ at next command) q
       ∙ ap (λ n. steps.fails x command (record { machine = σ .machine; next = σ .next; at = at; steps = n })) (sym (add-one (σ .steps)))
+
+-- What is left of a token that could not be read.
+pub unmoved-is : (σ : steps.State) (at : ℕ) → unmoved σ at ≡ record { machine = σ .machine; next = σ .next; at = at; steps = σ .steps + 1 }
+unfolding unmoved
+unmoved-is σ at = ap (λ n. record { machine = σ .machine; next = σ .next; at = at; steps = n }) (sym (add-one (σ .steps)))
 
 -- What was done answers as a move and its test of room do, and where it failed the words stand for what they stood for.
 pub record Ends (script : List ℕ) (σ : State) (s s′ e e′ d d′ c c′ l l′ : List ℕ) (μ : Floo.Machine) (at next : ℕ) (command : Command) (did : Did) : Type 0 where
@@ -83,37 +89,35 @@ module _ (limits : Limits) (script : List ℕ) (σ : steps.State) (empty : σ .m
   abbrev start : ℕ
   start = skip script (σ .next)
 
-  taking-step : steps.step limits script σ
-      ≡ moved limits σ start (offsetAfter start (takeToken script start (σ .machine))) (tokenMove (takeToken script start (σ .machine)))
+  taking-step : steps.step limits script σ ≡ tokenStep limits σ start (takeToken script start (σ .machine))
   unfolding steps.step stepOn
   taking-step = ap (stepOn limits script σ) empty
+
+  -- What the reading of the token comes to, the step comes to.
+  read-step : {r : Lexing Lexeme} → lex start (drop start script) ≡ r
+      → steps.step limits script σ ≡ tokenStep limits σ start (r >>= λ x. tokenValue script (σ .machine) start (start + x .size) (x .token))
+  unfolding takeToken
+  read-step q =
+      taking-step ∙ ap (λ (l : Lexing Lexeme). tokenStep limits σ start (l >>= λ x. tokenValue script (σ .machine) start (start + x .size) (x .token))) q
 
   -- A token is there.
   pub token-step : {next : ℕ} {t : Token}
       → Lexes script start t next
-      → steps.step limits script σ ≡ moved limits σ start (offsetAfter start (tokenValue script (σ .machine) next t)) (tokenMove (tokenValue script (σ .machine) next t))
-  unfolding takeToken lexeme _>>=_
+      → steps.step limits script σ ≡ tokenStep limits σ start (tokenValue script (σ .machine) start next t)
+  unfolding lexeme _>>=_
   token-step {next} {t} L =
       let there : start + (next - start) ≡ next = omega (arith, L .past) in
-      taking-step
-      ∙ ap (λ (x : Result Taken). moved limits σ start (offsetAfter start x) (tokenMove x))
-      (ap (λ l. l >>= λ x. tokenValue script (σ .machine) (start + x .size) (x .token)) (L .lexes) ∙ ap (λ n. tokenValue script (σ .machine) n t) there)
+      read-step (L .lexes) ∙ ap (λ n. tokenStep limits σ start (tokenValue script (σ .machine) start n t)) there
 
   -- The end is there, which is no token.
-  pub end-step : lex (drop start script) ≡ lexeme Token.end 0 → steps.step limits script σ ≡ moved limits σ start start (silent (fault SyntaxError))
-  unfolding takeToken tokenValue tokenMove offsetAfter lexeme _>>=_
-  end-step q =
-      taking-step
-      ∙ ap (λ (y : Result Taken). moved limits σ start (offsetAfter start y) (tokenMove y))
-      (ap (λ l. l >>= λ x. tokenValue script (σ .machine) (start + x .size) (x .token)) q)
+  pub end-step : lex start (drop start script) ≡ lexeme Token.end 0 → steps.step limits script σ ≡ steps.misreads (BadBrace start) (unmoved σ start)
+  unfolding tokenValue tokenStep lexeme _>>=_
+  end-step q = read-step q
 
   -- A fault.
-  pub fault-step : {x : Error} → lex (drop start script) ≡ fault x → steps.step limits script σ ≡ moved limits σ start start (silent (fault x))
-  unfolding takeToken tokenMove offsetAfter _>>=_
-  fault-step {x} q =
-      taking-step
-      ∙ ap (λ (y : Result Taken). moved limits σ start (offsetAfter start y) (tokenMove y))
-      (ap (λ l. l >>= λ x. tokenValue script (σ .machine) (start + x .size) (x .token)) q)
+  pub fault-step : {f : Fault} → lex start (drop start script) ≡ fault f → steps.step limits script σ ≡ steps.misreads f (unmoved σ start)
+  unfolding tokenStep _>>=_
+  fault-step q = read-step q
 
 -- The topmost slot acts.
 pub frame-step : (limits : Limits) (script : List ℕ) (σ : steps.State) (fs : List Frame)

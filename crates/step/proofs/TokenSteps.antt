@@ -7,14 +7,14 @@ use Prim.Native.Nat.{ℕ, _+_, _-_, _≤_}
 use native.Mathlib.Omega.{arith}
 use lib.ListN.{length, take, drop}
 use Rattle.semantics.specs.Values.{Value, Result, ok, fault, _>>=_, array, Object}
-use Rattle.semantics.specs.Tokens.{Token, lex, lexeme}
+use Rattle.semantics.specs.Tokens.{Lexing, Token, lex, lexeme}
 use Rattle.semantics.specs.Machine as Floo
 use Rattle.semantics.specs.Machine.{Frame, push, made}
-use Rattle.semantics.specs.Groups.{taken, skip, tokenValue}
+use Rattle.semantics.specs.Groups.{Taken, taken, skip, opened, group, tokenValue}
 use Rattle.semantics.specs.Steps as steps
-use Rattle.semantics.specs.Steps.{Move, roomFor, moved, silent, commandOf, tokenMove, offsetAfter}
-use Rattle.semantics.specs.declared.Error.{Error}
-use Rattle.semantics.specs.declared.Error.the-variants.{SyntaxError}
+use Rattle.semantics.specs.Steps.{roomFor, unmoved, moved, commandOf, isProcedure, treat, tokenMove, tokenStep}
+use Rattle.semantics.specs.declared.Fault.{Fault}
+use Rattle.semantics.specs.declared.Fault.the-variants.{BadBrace}
 use Rattle.heap.specs.Shape.{Ghost}
 use Rattle.ending.specs.Endings.{commandText, IsCommand}
 use Rattle.ending.specs.declared.Command.{Command}
@@ -24,21 +24,20 @@ use Rattle.machine.specs.Rep.{Rep, Answer, Frames, bottom, frame}
 use Rattle.machine.specs.Room.{lent, fitted, DoesStack}
 use Rattle.machine.specs.declared.Machine.{Machine}
 use Rattle.machine.specs.declared.Did.{Did}
-use Rattle.machine.specs.declared.Did.the-variants.{Fail}
 use Rattle.token.specs.declared.Token as scanned
 use Rattle.token.specs.Lexing.{TokenAt, Lexes, NameToken, StringToken, BraceToken, EndToken, LexedAt, faultOf}
 use Rattle.token.specs.declared.Lexed.{Lexed}
 use Rattle.token.specs.declared.Lexed.the-variants as lexed
 use Rattle.taking.specs.Effects.{integerTaken, stringTaken, literalTaken, executableTaken}
 use Rattle.taking.specs.Promises.{DoesBinding, DoesNames, DoesString}
-use Rattle.taking.proofs.Moves.{integer-move, string-move, literal-move, executable-move}
-use Rattle.group_taking.specs.Taking.{groupRead, groupTaken, GroupedAs, TakesGroup}
+use Rattle.taking.proofs.Moves.{takenOf, integer-move, string-move, literal-move, executable-move}
+use Rattle.group_taking.specs.Taking.{groupRead, GroupedAs, TakesGroup}
 use Rattle.group_taking.specs.declared.Grouped.{Grouped}
 use Rattle.group_taking.specs.declared.Grouped.the-variants as grouped
-use Rattle.step.specs.Stepping.{stateOf, SteppedAs, StepsToken, endedBy, groupedBy}
+use Rattle.step.specs.Stepping.{stateOf, SteppedAs, StepsToken, endedBy, groupedBy, misreadBy}
 use Rattle.step.specs.declared.State.{State}
 use Rattle.step.specs.declared.Stepped.{Stepped}
-use Rattle.step.proofs.Moving.{Ends, ends-step, kept-answer, token-step, end-step, fault-step, ended-ok, ended-fault}
+use Rattle.step.proofs.Moving.{Ends, ends-step, kept-answer, token-step, end-step, fault-step, ended-ok, ended-fault, unmoved-is}
 
 -- ---- no execution slot
 
@@ -64,22 +63,21 @@ token-is script start k {t} {next} g h = subst (TokenAt script start next) h (su
 module _ {script : List ℕ} {σ : State} (none : σ .machine .frames ≡ 0) {start : ℕ} (begins : start ≡ skip script (σ .next)) (low : start ≤ length script) where
   -- What is done is what the definition makes of the token.
   module _ {next : ℕ} (t : Token) (L : Lexes script start t next) (f : Floo.Machine → Result Floo.Machine) (command : Command)
-      (result : (μ : Floo.Machine) → tokenMove (tokenValue script μ next t) .result ≡ f μ)
-      (after : (μ : Floo.Machine) → offsetAfter start (tokenValue script μ next t) ≡ next)
-      (name : (μ : Floo.Machine) → (tokenMove (tokenValue script μ next t) .command ≡ commandText script (keys μ) command) × IsCommand script (keys μ) command)
+      (value : (μ : Floo.Machine) → tokenValue script μ start next t ≡ ok (takenOf t μ next))
+      (result : (μ : Floo.Machine) → tokenMove (takenOf t μ next) .result ≡ f μ)
+      (name : (μ : Floo.Machine) → (tokenMove (takenOf t μ next) .command ≡ commandText script (keys μ) command) × IsCommand script (keys μ) command)
       {s s′ e e′ d d′ c c′ : List ℕ} (did : Did)
       (does : (l : List ℕ) (μ : Floo.Machine) → Rep (σ .machine) s e d c l μ
       → Answer (λ r. Rep r s′ e′ d′ c′ l) (Rep (σ .machine) s′ e′ d′ c′ l μ) did (fitted (lent s e d c l) f μ)) where
     token-ends : (l : List ℕ) (μ : Floo.Machine) → Rep (σ .machine) s e d c l μ → Ends script σ s s′ e e′ d d′ c c′ l l μ start next command did
-    unfolding fitted
+    unfolding fitted tokenStep
     token-ends l μ R =
         let limits = lent s e d c l in
-        let v = tokenMove (tokenValue script μ next t) in
         record {
-          move = v;
-          is = subst (λ n. steps.step limits script (stateOf σ μ) ≡ moved limits (stateOf σ μ) n (offsetAfter n (tokenValue script μ next t)) v) (sym begins)
+          move = tokenMove (takenOf t μ next);
+          is = subst (λ n. steps.step limits script (stateOf σ μ) ≡ tokenStep limits (stateOf σ μ) n (tokenValue script μ n next t)) (sym begins)
               (token-step limits script (stateOf σ μ) (exec-empty R none) (subst (λ n. Lexes script n t next) begins L))
-              ∙ ap (λ n. moved limits (stateOf σ μ) start n v) (after μ);
+              ∙ ap (tokenStep limits (stateOf σ μ) start) (value μ);
           inside = L .inside;
           within = low;
           named = λ x q. name μ;
@@ -91,81 +89,57 @@ module _ {script : List ℕ} {σ : State} (none : σ .machine .frames ≡ 0) {st
 
   -- A fault.
   module _ {s e d c : List ℕ} where
-    fault-ends : {x : Error} → ((l : List ℕ) (μ : Floo.Machine) → Rep (σ .machine) s e d c l μ
-        → (v : Move) × (v .command ≡ []) × (v .result ≡ fault x) × (n : ℕ) × (steps.step (lent s e d c l) script (stateOf σ μ) ≡ moved (lent s e d c l) (stateOf σ μ) start n v))
+    misread-ends : {f : Fault}
+        → ((l : List ℕ) (μ : Floo.Machine) → Rep (σ .machine) s e d c l μ → steps.step (lent s e d c l) script (stateOf σ μ) ≡ steps.misreads f (unmoved (stateOf σ μ) start))
         → {r : Stepped}
-        → r ≡ endedBy σ start start command.Nothing (Fail x)
+        → r ≡ misreadBy σ start f
         → StepsToken script σ s s e e d d c c r
-    unfolding moved _>>=_ commandText
-    fault-ends {x} h q = subst (StepsToken script σ s s e e d d c c) (sym q) (record {
-      steps = λ l μ R.
-          let w = h l μ R in (
-            w .4 ∙ ended-fault (stateOf σ μ) start (w .3) (w .0 .command) (ap (λ y. y >>= roomFor (lent s e d c l) μ) (w .2))
-                ∙ ap (λ t. steps.fails x t (record { machine = μ; next = σ .next; at = start; steps = σ .steps + 1 })) (w .1),
-            R,
-            tt,
-            low,
-          );
-    })
+    misread-ends {f} h q =
+        subst (StepsToken script σ s s e e d d c c) (sym q)
+        (record { steps = λ l μ R. (h l μ R ∙ ap (steps.misreads f) (unmoved-is (stateOf σ μ) start), R, low) })
 
-    pub lex-fault : {answer : Lexed} → LexedAt script start answer → {x : Error} → answer ≡ lexed.Fault x → {y : Error} → y ≡ faultOf answer → {r : Stepped}
-        → r ≡ endedBy σ start start command.Nothing (Fail y)
+    pub lex-fault : {answer : Lexed} → LexedAt script start answer → {x : Fault} → answer ≡ lexed.Fault x → {y : Fault} → y ≡ faultOf answer → {r : Stepped}
+        → r ≡ misreadBy σ start y
         → StepsToken script σ s s e e d d c c r
-    unfolding silent
-    lex-fault k {x} g {y} is q =
-        let w : lex (drop start script) ≡ fault x = subst (LexedAt script start) g k in
+    lex-fault k {x} g {y} is =
+        let w : lex start (drop start script) ≡ fault x = subst (LexedAt script start) g k in
         let same : y ≡ x = is ∙ ap faultOf g in
-        fault-ends (λ l μ R. (
-          silent (fault y),
-          refl,
-          refl,
-          start,
-          subst (λ n. steps.step (lent s e d c l) script (stateOf σ μ) ≡ moved (lent s e d c l) (stateOf σ μ) n n (silent (fault y))) (sym begins)
-              (fault-step (lent s e d c l) script (stateOf σ μ) (exec-empty R none) (subst (λ n. lex (drop n script) ≡ fault y) begins (w ∙ ap fault (sym same)))),
-        )) q
+        let v : lex start (drop start script) ≡ fault y = w ∙ ap fault (sym same) in
+        misread-ends (λ l μ R.
+        subst (λ n. steps.step (lent s e d c l) script (stateOf σ μ) ≡ steps.misreads y (unmoved (stateOf σ μ) n)) (sym begins)
+        (fault-step (lent s e d c l) script (stateOf σ μ) (exec-empty R none) (subst (λ n. lex n (drop n script) ≡ fault y) begins v)))
 
-    pub close-fault : {next : ℕ} → BraceToken script start Token.closeBrace next → {r : Stepped} → r ≡ endedBy σ start start command.Nothing (Fail SyntaxError) → StepsToken script σ s s e e d d c c r
-    unfolding tokenMove tokenValue offsetAfter silent
-    close-fault {next} B q =
-        fault-ends (λ l μ R. (
-          silent (fault SyntaxError),
-          refl,
-          refl,
-          start,
-          subst (λ n. steps.step (lent s e d c l) script (stateOf σ μ) ≡ moved (lent s e d c l) (stateOf σ μ) n n (silent (fault SyntaxError))) (sym begins)
-              (token-step (lent s e d c l) script (stateOf σ μ) (exec-empty R none) (subst (λ n. Lexes script n Token.closeBrace next) begins (B .token))),
-        )) q
+    pub close-fault : {next : ℕ} → BraceToken script start Token.closeBrace next → {r : Stepped} → r ≡ misreadBy σ start (BadBrace start) → StepsToken script σ s s e e d d c c r
+    unfolding tokenValue tokenStep
+    close-fault {next} B =
+        misread-ends (λ l μ R.
+        subst (λ n. steps.step (lent s e d c l) script (stateOf σ μ) ≡ steps.misreads (BadBrace n) (unmoved (stateOf σ μ) n)) (sym begins)
+        (token-step (lent s e d c l) script (stateOf σ μ) (exec-empty R none) (subst (λ n. Lexes script n Token.closeBrace next) begins (B .token))))
 
-    pub end-fault : {next : ℕ} → EndToken script start next → {r : Stepped} → r ≡ endedBy σ start start command.Nothing (Fail SyntaxError) → StepsToken script σ s s e e d d c c r
-    unfolding tokenMove tokenValue offsetAfter silent
-    end-fault {next} E q =
-        fault-ends (λ l μ R. (
-          silent (fault SyntaxError),
-          refl,
-          refl,
-          start,
-          subst (λ n. steps.step (lent s e d c l) script (stateOf σ μ) ≡ moved (lent s e d c l) (stateOf σ μ) n n (silent (fault SyntaxError))) (sym begins)
-              (end-step (lent s e d c l) script (stateOf σ μ) (exec-empty R none) (subst (λ n. lex (drop n script) ≡ lexeme Token.end 0) begins (E .lexes))),
-        )) q
+    pub end-fault : {next : ℕ} → EndToken script start next → {r : Stepped} → r ≡ misreadBy σ start (BadBrace start) → StepsToken script σ s s e e d d c c r
+    end-fault {next} E =
+        misread-ends (λ l μ R.
+        subst (λ n. steps.step (lent s e d c l) script (stateOf σ μ) ≡ steps.misreads (BadBrace n) (unmoved (stateOf σ μ) n)) (sym begins)
+        (end-step (lent s e d c l) script (stateOf σ μ) (exec-empty R none) (subst (λ n. lex n (drop n script) ≡ lexeme Token.end 0) begins (E .lexes))))
 
   -- ---- tokens that are taken
 
   pub integer-does : {next w : ℕ} → Lexes script start (Token.integer w) next → {s s′ e d c : List ℕ} (did : Did) → DoesStack (integerTaken w) (σ .machine) s s′ did → {r : Stepped}
       → r ≡ endedBy σ start next command.Nothing did
       → StepsToken script σ s s′ e e d d c c r
-  unfolding tokenMove tokenValue taken offsetAfter commandOf commandText
+  unfolding tokenMove tokenValue taken commandOf commandText
   integer-does {next} {w} L {s} {s′} {e} {d} {c} did D =
-      token-does (Token.integer w) L (integerTaken w) command.Nothing (λ μ. integer-move script μ next w) (λ μ. refl) (λ μ. (refl, tt)) did
+      token-does (Token.integer w) L (integerTaken w) command.Nothing (λ μ. refl) (λ μ. integer-move μ next w) (λ μ. (refl, tt)) did
       (λ l μ R. kept-answer (λ r. Rep r s′ e d c l) (s′ ≡ s) (Rep (σ .machine) s′ e d c l μ) did (fitted (lent s e d c l) (integerTaken w) μ)
       (λ q. subst (λ x. Rep (σ .machine) x e d c l μ) (sym q) R) (D .does e d c l μ R))
 
   pub string-does : {next at size : ℕ} → StringToken script start at size next → {s s′ e d c c′ : List ℕ} (did : Did) → DoesString script at (σ .machine) s s′ c c′ did → {r : Stepped}
       → r ≡ endedBy σ start next command.Nothing did
       → StepsToken script σ s s′ e e d d c c′ r
-  unfolding tokenMove tokenValue taken offsetAfter commandOf commandText
+  unfolding tokenMove tokenValue taken commandOf commandText
   string-does {next} T {s} {s′} {e} {d} {c} {c′} did D =
       let bs = T .bytes in
-      token-does (Token.string bs) (T .token) (stringTaken bs) command.Nothing (λ μ. string-move script μ next bs) (λ μ. refl) (λ μ. (refl, tt)) did
+      token-does (Token.string bs) (T .token) (stringTaken bs) command.Nothing (λ μ. refl) (λ μ. string-move μ next bs) (λ μ. (refl, tt)) did
       (λ l μ R. kept-answer (λ r. Rep r s′ e d c′ l) ((s′ ≡ s) × (c′ ≡ c)) (Rep (σ .machine) s′ e d c′ l μ) did (fitted (lent s e d c l) (stringTaken bs) μ)
       (λ q. subst (λ x. Rep (σ .machine) x e d c′ l μ) (sym (q .0)) (subst (λ x. Rep (σ .machine) s e d x l μ) (sym (q .1)) R))
       (D .does bs next (T .own) .does e d l μ R))
@@ -175,11 +149,11 @@ module _ {script : List ℕ} {σ : State} (none : σ .machine .frames ≡ 0) {st
       → {r : Stepped}
       → r ≡ endedBy σ start next command.Nothing did
       → StepsToken script σ s s′ e e d d′ c c r
-  unfolding tokenMove tokenValue taken offsetAfter commandOf commandText
+  unfolding tokenMove tokenValue taken commandOf commandText
   literal-does {next} {at} {size} T {s} {s′} {e} {d} {d′} {c} did D =
       let n = take size (drop at script) in
       let part : at + size - at ≡ size = omega arith in
-      token-does (Token.name false n) (T .token) (literalTaken n) command.Nothing (λ μ. literal-move script μ next n) (λ μ. refl) (λ μ. (refl, tt)) did
+      token-does (Token.name false n) (T .token) (literalTaken n) command.Nothing (λ μ. refl) (λ μ. literal-move μ next n) (λ μ. (refl, tt)) did
       (λ l μ R. kept-answer (λ r. Rep r s′ e d′ c l) ((s′ ≡ s) × (d′ ≡ d)) (Rep (σ .machine) s′ e d′ c l μ) did (fitted (lent s e d c l) (literalTaken n) μ)
       (λ q. subst (λ x. Rep (σ .machine) x e d′ c l μ) (sym (q .0)) (subst (λ x. Rep (σ .machine) s e x c l μ) (sym (q .1)) R))
       (subst (λ k. DoesNames (literalTaken (take k (drop at script))) (σ .machine) s s′ d d′ did) part D .does e c l μ R))
@@ -189,11 +163,11 @@ module _ {script : List ℕ} {σ : State} (none : σ .machine .frames ≡ 0) {st
       → {r : Stepped}
       → r ≡ endedBy σ start next (command.Token at size) did
       → StepsToken script σ s s e e′ d d c c′ r
-  unfolding tokenMove tokenValue taken offsetAfter commandOf commandText
+  unfolding tokenMove tokenValue taken commandOf commandText
   executable-does {next} {at} {size} T {s} {e} {e′} {d} {c} {c′} did D =
       let n = take size (drop at script) in
       let part : at + size - at ≡ size = omega arith in
-      token-does (Token.name true n) (T .token) (executableTaken n) (command.Token at size) (λ μ. executable-move script μ next n) (λ μ. refl)
+      token-does (Token.name true n) (T .token) (executableTaken n) (command.Token at size) (λ μ. refl) (λ μ. executable-move μ next n)
       (λ μ. (refl, (omega (arith, T .ends, T .token .inside), T .few))) did
       (λ l μ R. kept-answer (λ r. Rep r s e′ d c′ l) ((e′ ≡ e) × (c′ ≡ c)) (Rep (σ .machine) s e′ d c′ l μ) did (fitted (lent s e d c l) (executableTaken n) μ)
       (λ q. subst (λ x. Rep (σ .machine) s x d c′ l μ) (sym (q .0)) (subst (λ x. Rep (σ .machine) s e d x l μ) (sym (q .1)) R))
@@ -204,37 +178,35 @@ module _ {script : List ℕ} {σ : State} (none : σ .machine .frames ≡ 0) {st
 module _ (script : List ℕ) (σ : State) (none : σ .machine .frames ≡ 0) (start : ℕ) (begins : start ≡ skip script (σ .next)) (low : start ≤ length script) (next : ℕ) (B : BraceToken script start Token.openBrace next)
     (s s′ e d d′ c c′ : List ℕ) where
   opens-step : {l : List ℕ} {μ : Floo.Machine} → Rep (σ .machine) s e d c l μ
-      → steps.step (lent s e d c l) script (stateOf σ μ)
-      ≡ moved (lent s e d c l) (stateOf σ μ) start (offsetAfter start (groupRead script next μ)) (tokenMove (groupRead script next μ))
+      → {r : Lexing Taken} → groupRead script next μ ≡ r
+      → steps.step (lent s e d c l) script (stateOf σ μ) ≡ tokenStep (lent s e d c l) (stateOf σ μ) start r
   unfolding tokenValue groupRead
-  opens-step {l} {μ} R =
-      subst (λ n. steps.step (lent s e d c l) script (stateOf σ μ) ≡ moved (lent s e d c l) (stateOf σ μ) n (offsetAfter n (groupRead script next μ)) (tokenMove (groupRead script next μ))) (sym begins)
-      (token-step (lent s e d c l) script (stateOf σ μ) (exec-empty R none) (subst (λ n. Lexes script n Token.openBrace next) begins (B .token)))
+  opens-step {l} {μ} R q =
+      let limits = lent s e d c l in
+      let brace : start ≡ next - 1 = omega (arith, B .ends) in
+      subst (λ n. steps.step limits script (stateOf σ μ) ≡ tokenStep limits (stateOf σ μ) n (tokenValue script μ n next Token.openBrace)) (sym begins)
+      (token-step limits script (stateOf σ μ) (exec-empty R none) (subst (λ n. Lexes script n Token.openBrace next) begins (B .token)))
+      ∙ ap (λ n. tokenStep limits (stateOf σ μ) start (group script (length script) (made μ) n 15 next [] (opened μ))) brace
+      ∙ ap (tokenStep limits (stateOf σ μ) start) q
 
   group-steps : (answer : Grouped) (l : List ℕ) (μ : Floo.Machine)
       → Rep (σ .machine) s e d c l μ
       → GroupedAs script next (σ .machine) s s′ e d d′ c c′ l μ answer
       → SteppedAs script σ s s′ e e d d′ c c′ l l μ (groupedBy σ start answer)
-  unfolding moved tokenMove offsetAfter groupTaken taken commandText commandOf
+  unfolding tokenStep moved tokenMove treat isProcedure taken commandText commandOf _>>=_
   group-steps (grouped.Done r after) l μ R G =
-      let limits = lent s e d c l in
-      let x = taken (array true (made μ)) (G .0) after in
-      let room : tokenMove x .result >>= roomFor limits μ ≡ ok (push (array true (made μ)) (G .0)) = ap (λ q. tokenMove q .result >>= roomFor limits μ) (sym (G .1)) ∙ G .2 in (
-        push (array true (made μ)) (G .0),
-        opens-step R ∙ ap (λ q. moved limits (stateOf σ μ) start (offsetAfter start q) (tokenMove q)) (G .1) ∙ ended-ok (stateOf σ μ) start after [] room,
-        G .3,
-        G .4,
-        low,
-      )
-  group-steps (grouped.Fail x) l μ R G =
-      let q = groupRead script next μ in (
-        opens-step R
-            ∙ ended-fault (stateOf σ μ) start (offsetAfter start q) (tokenMove q .command) (G .0)
-            ∙ ap (λ t. steps.fails x t (record { machine = μ; next = σ .next; at = start; steps = σ .steps + 1 })) (G .1),
-        subst (λ y. Rep (σ .machine) y e d′ c′ l μ) (sym (G .2)) (subst (λ y. Rep (σ .machine) s e d′ y l μ) (sym (G .3)) (G .4)),
-        tt,
-        low,
-      )
+      (push (array true (made μ)) (G .0), opens-step R (G .1) ∙ ended-ok (stateOf σ μ) start after [] (G .2), G .3, G .4, low)
+  group-steps (grouped.Fail x) l μ R G = (
+    opens-step R (G .2) ∙ ended-fault (stateOf σ μ) start (G .1) [] (G .3),
+    subst (λ y. Rep (σ .machine) y e d′ c′ l μ) (sym (G .4)) (subst (λ y. Rep (σ .machine) s e d′ y l μ) (sym (G .5)) (G .6)),
+    tt,
+    low,
+  )
+  group-steps (grouped.Misread r f) l μ R G = (
+    opens-step R (G .0) ∙ ap (steps.misreads f) (unmoved-is (stateOf σ μ) start),
+    subst (λ y. Rep (σ .machine) y e d′ c′ l μ) (sym (G .1)) (subst (λ y. Rep (σ .machine) s e d′ y l μ) (sym (G .2)) (G .3)),
+    low,
+  )
 
 pub group-does : {script : List ℕ} {σ : State} → σ .machine .frames ≡ 0
     → {start : ℕ} → start ≡ skip script (σ .next)

@@ -8,6 +8,7 @@ use lib.ListN.{length, drop}
 use Rattle.semantics.specs.Sizes.{scriptMost, fuelMost}
 use Rattle.semantics.specs.Machine as Floo
 use Rattle.semantics.specs.Steps as steps
+use Rattle.semantics.specs.declared.Fault.{Fault}
 use Rattle.ending.specs.Endings.{commandText, IsCommand}
 use Rattle.ending.specs.declared.Command.{Command}
 use Rattle.ending.specs.declared.Command.the-variants.{Nothing}
@@ -20,7 +21,7 @@ use Rattle.group_taking.specs.declared.Grouped.{Grouped}
 use Rattle.group_taking.specs.declared.Grouped.the-variants as grouped
 use Rattle.step.specs.declared.State.{State}
 use Rattle.step.specs.declared.Stepped.{Stepped}
-use Rattle.step.specs.declared.Stepped.the-variants.{Goes, Fails}
+use Rattle.step.specs.declared.Stepped.the-variants.{Goes, Fails, Misreads}
 
 -- The state of the definition, with this machine.
 abbrev pub stateOf : State → Floo.Machine → steps.State
@@ -28,7 +29,7 @@ stateOf σ μ = record { machine = μ; next = σ .next; at = σ .at; steps = σ 
 
 -- ---- what a step answers
 
--- The state after it; or the state before it with the step counted and `at` set, the error, and the command.
+-- The state after it; or the state before it with the step counted and `at` set, and the error and the command, or what is wrong with the token.
 abbrev pub SteppedAs : List ℕ → State → List ℕ → List ℕ → List ℕ → List ℕ → List ℕ → List ℕ → List ℕ → List ℕ → List ℕ → List ℕ → Floo.Machine → Stepped → Type 0
 SteppedAs script σ s s′ e e′ d d′ c c′ l l′ μ (Goes τ) =
     (ν : Floo.Machine) × (steps.step (lent s e d c l) script (stateOf σ μ) ≡ steps.goes (stateOf τ ν))
@@ -36,11 +37,14 @@ SteppedAs script σ s s′ e e′ d d′ c c′ l l′ μ (Goes τ) =
 SteppedAs script σ s s′ e e′ d d′ c c′ l l′ μ (Fails τ x command) =
     (steps.step (lent s e d c l) script (stateOf σ μ) ≡ steps.fails x (commandText script (keys μ) command) (stateOf τ μ))
     × Rep (τ .machine) s′ e′ d′ c′ l′ μ × IsCommand script (keys μ) command × (τ .at ≤ length script)
+SteppedAs script σ s s′ e e′ d d′ c c′ l l′ μ (Misreads τ command f) =
+    (steps.step (lent s e d c l) script (stateOf σ μ) ≡ steps.misreads f (stateOf τ μ)) × Rep (τ .machine) s′ e′ d′ c′ l′ μ × (τ .at ≤ length script)
 
 -- The log past what is written is as before.
 abbrev pub LogLeft : List ℕ → List ℕ → Stepped → Type 0
 LogLeft l l′ (Goes τ) = drop (τ .machine .written) l′ ≡ drop (τ .machine .written) l
 LogLeft l l′ (Fails τ x command) = l′ ≡ l
+LogLeft l l′ (Misreads τ command f) = l′ ≡ l
 
 pub record Steps (script : List ℕ) (σ : State) (s s′ e e′ d d′ c c′ l l′ : List ℕ) (r : Stepped) : Type 0 where
   pub steps : (μ : Floo.Machine) → Rep (σ .machine) s e d c l μ → SteppedAs script σ s s′ e e′ d d′ c c′ l l′ μ r
@@ -76,9 +80,13 @@ abbrev pub endedBy : State → ℕ → ℕ → Command → Did → Stepped
 endedBy σ at next command (did.Ok r) = Goes (record { machine = r; next = next; at = at; steps = σ .steps + 1 })
 endedBy σ at next command (did.Fail e) = Fails (record { machine = σ .machine; next = σ .next; at = at; steps = σ .steps + 1 }) e command
 
+abbrev pub misreadBy : State → ℕ → Fault → Stepped
+misreadBy σ at f = Misreads (record { machine = σ .machine; next = σ .next; at = at; steps = σ .steps + 1 }) Nothing f
+
 abbrev pub groupedBy : State → ℕ → Grouped → Stepped
 groupedBy σ at (grouped.Done r next) = Goes (record { machine = r; next = next; at = at; steps = σ .steps + 1 })
 groupedBy σ at (grouped.Fail e) = Fails (record { machine = σ .machine; next = σ .next; at = at; steps = σ .steps + 1 }) e Nothing
+groupedBy σ at (grouped.Misread r f) = misreadBy σ at f
 
 -- ---- the run's end
 

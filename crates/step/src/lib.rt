@@ -4,12 +4,13 @@ ghost use mathlib.Core.Path.{_≡_};
 ghost use Prim.Native.Nat.{_<_, _≤_};
 ghost use lib.ListN.{length};
 ghost use Rattle.semantics.specs.Sizes.{fuelMost};
-ghost use Rattle.step.specs.Stepping.{ReadySlot, ReadyToken, StepsSlot, StepsToken, Finished, endedBy, groupedBy};
+ghost use Rattle.step.specs.Stepping.{ReadySlot, ReadyToken, StepsSlot, StepsToken, Finished, endedBy, groupedBy, misreadBy};
 use ending::Command;
 use group_taking::Grouped;
 use machine::Did;
 use machine::Machine;
 use semantics::Error;
+use semantics::Fault;
 use token::Lexed;
 use token::Token;
 
@@ -21,9 +22,11 @@ pub struct State {
     pub steps: u32,
 }
 
+// A step that could not read its token has the empty command, so that its fault lies where nothing of the other answers does.
 pub enum Stepped {
     Goes(State),
     Fails(State, Error, Command),
+    Misreads(State, Command, Fault),
 }
 
 impl State {
@@ -67,12 +70,7 @@ impl State {
         let start = token::skip(script, self.next);
         let lexed = token::token_at(script, start);
         let Lexed::Token(read, next) = lexed else {
-            return self.ended(
-                start,
-                start,
-                Command::Nothing,
-                Did::Fail(token::fault_of(lexed)),
-            );
+            return self.misread(start, token::fault_of(lexed));
         };
         let m = self.machine;
         match read {
@@ -98,13 +96,8 @@ impl State {
                 let grouped = group_taking::take_group(m, stack, dict, cells, script, next);
                 self.grouped(start, grouped)
             }
-            Token::CloseBrace => self.ended(
-                start,
-                next,
-                Command::Nothing,
-                Did::Fail(Error::SyntaxError),
-            ),
-            Token::End => self.ended(start, next, Command::Nothing, Did::Fail(Error::SyntaxError)),
+            Token::CloseBrace => self.misread(start, Fault::BadBrace(start as u32)),
+            Token::End => self.misread(start, Fault::BadBrace(start as u32)),
         }
     }
 
@@ -183,6 +176,25 @@ impl State {
         match answer {
             Grouped::Done(r, next) => self.ended(at, next, Command::Nothing, Did::Ok(r)),
             Grouped::Fail(e) => self.ended(at, at, Command::Nothing, Did::Fail(e)),
+            Grouped::Misread(_, f) => self.misread(at, f),
         }
+    }
+
+    // The token at `at` could not be read.
+    fn misread(self, at: usize, f: Fault) -> Stepped
+        requires { ⌜ self .steps < fuelMost ⌝ }
+        ensures { λ r. ⌜ r ≡ misreadBy self at f ⌝ }
+    {
+        let m = self.machine;
+        Stepped::Misreads(
+            State {
+                machine: m,
+                next: self.next,
+                at: at,
+                steps: self.steps + 1,
+            },
+            Command::Nothing,
+            f,
+        )
     }
 }

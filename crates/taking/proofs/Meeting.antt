@@ -7,10 +7,11 @@ use mathlib.Core.List.{List, [], _++_}
 use Prim.Native.Nat.{ℕ, _+_, _-_, _≤_}
 use native.Mathlib.Omega.{arith}
 use lib.ListN.{length, drop}
-use Rattle.semantics.specs.Values.{ok, fault}
+use Rattle.semantics.specs.Values.{fault}
+use Rattle.semantics.specs.ResultLaws.{ok-injective}
 use Rattle.semantics.specs.Tokens.{Token, Lexeme, lex, lexeme}
 use Rattle.semantics.specs.Groups.{skip}
-use Rattle.semantics.specs.declared.Error.{Error}
+use Rattle.semantics.specs.declared.Fault.{Fault}
 use Rattle.token.specs.Lexing.{Lexes, NameToken, LexedAt, TokenAt}
 use Rattle.token.specs.declared.Lexed.{Lexed}
 use Rattle.token.specs.declared.Lexed.the-variants as lexed
@@ -24,14 +25,11 @@ use Rattle.taking.proofs.Flattening.{skip-far, First, first-token, firs
 
 -- ---- lexing is a function
 
-ok-one : {a b : Lexeme} → ok a ≡ ok b → a ≡ b
-ok-one e = cc
-
 same-lexeme : (t u : Token) (n k : ℕ) → lexeme t n ≡ lexeme u k → (t ≡ u) × (n ≡ k)
 unfolding lexeme
-same-lexeme t u n k e = (ap (λ (x : Lexeme). x .token) (ok-one e), ap (λ (x : Lexeme). x .size) (ok-one e))
+same-lexeme t u n k e = (ap (λ (x : Lexeme). x .token) (ok-injective e), ap (λ (x : Lexeme). x .size) (ok-injective e))
 
-no-lexeme : (t : Token) (n : ℕ) {e : Error} → lexeme t n ≡ fault e → ⊥
+no-lexeme : (t : Token) (n : ℕ) {e : Fault} → lexeme t n ≡ fault e → ⊥
 unfolding lexeme
 no-lexeme t n q =
     let z : _≡_ {A = ℕ} 0 1 = cc in
@@ -74,11 +72,11 @@ module _ (script : List ℕ) (at start : ℕ) (begins : start ≡ skip script at
   group-first : First script at (ahead .0) (ahead .1)
   group-first = first-token (ahead .2) (ahead .3)
 
-  pub meet-fault : {e : Error} → answer ≡ lexed.Fault e → ⊥
+  pub meet-fault : {e : Fault} → answer ≡ lexed.Fault e → ⊥
   meet-fault {e} g =
-      let h : lex (drop start script) ≡ fault e = subst (LexedAt script start) g k in
+      let h : lex start (drop start script) ≡ fault e = subst (LexedAt script start) g k in
       let F = group-first in
-      no-lexeme (F .token) (F .next - skip script at) (sym (F .lexes .lexes) ∙ subst (λ n. lex (drop n script) ≡ fault e) begins h)
+      no-lexeme (F .token) (F .next - skip script at) (sym (F .lexes .lexes) ∙ subst (λ n. lex n (drop n script) ≡ fault e) begins h)
 
   module _ (t : scanned.Token) (next : ℕ) (g : answer ≡ lexed.Token t next) where
     at-token : (u : scanned.Token) → t ≡ u → TokenAt script (skip script at) next u

@@ -11,7 +11,7 @@ use Rattle.semantics.specs.Machine as Floo
 use Rattle.semantics.specs.Machine.{withDictionary}
 use Rattle.semantics.specs.ListLaws.{All}
 use Rattle.semantics.specs.declared.Error.{Error}
-use Rattle.semantics.specs.declared.Error.the-variants.{SyntaxError, LimitCheck}
+use Rattle.semantics.specs.declared.Error.the-variants.{LimitCheck}
 use Rattle.token.specs.Lexing.{Lexes}
 use Rattle.groups.specs.Nodes.{leafNames, internAll}
 use Rattle.machine.specs.Rep.{Rep}
@@ -96,4 +96,4 @@ MetAt script at (met.Good f next) = FoundAt script at next f
 
 abbrev pub metFault : Met → Error
 metFault (met.Bad e) = e
-metFault (met.Good f next) = SyntaxError
+metFault (met.Good f next) = LimitCheck

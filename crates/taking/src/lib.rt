@@ -140,7 +140,7 @@ pub fn take_name(m: Machine, exec: &mut [u32], dict: &[u32], cells: &mut [u32], 
 // there were may have changed, where there is no room for all: the machine still stands.
 // Rules out: an inner group's names left out; limitcheck where the last name has a slot already.
 pub fn add_names(m: Machine, dict: &mut [u32], script: &[u8], from: usize, end: usize) -> Named
-    requires { ⌜ Group (now script) from end × Dictionary m (now dict) ⌝ }
+    requires { ⌜ (length (now script) ≤ scriptMost) × Group (now script) from end × Dictionary m (now dict) ⌝ }
     ensures { λ r. ⌜ AddsNames (now (script .entry)) from end m (now (dict .entry)) (now (dict .exit)) r ⌝ }
 {
     let mut r = m;
@@ -218,13 +218,13 @@ fn add_name(m: Machine, dict: &mut [u32], name: &[u8]) -> Named
 
 // The token from `at` on, of a group that goes on there: the group has been judged, so no fault is met.
 fn meet(script: &[u8], at: usize) -> Met
-    requires { ⌜ Ahead (now script) at ⌝ }
+    requires { ⌜ (length (now script) ≤ scriptMost) × Ahead (now script) at ⌝ }
     ensures { λ r. ⌜ MetAt (now (script .entry)) at r ⌝ }
 {
     let start = token::skip(script, at);
     let lexed = token::token_at(script, start);
     let Lexed::Token(read, next) = lexed else {
-        return Met::Bad(token::fault_of(lexed));
+        return Met::Bad(Error::LimitCheck);
     };
     match read {
         Token::Integer(_) => Met::Good(Found::Other, next),
@@ -233,7 +233,7 @@ fn meet(script: &[u8], at: usize) -> Met
         Token::LiteralName(begins, size) => Met::Good(Found::Name(begins, size), next),
         Token::OpenBrace => Met::Good(Found::Other, next),
         Token::CloseBrace => Met::Good(Found::Other, next),
-        Token::End => Met::Bad(Error::SyntaxError),
+        Token::End => Met::Bad(Error::LimitCheck),
     }
 }
 
@@ -243,6 +243,6 @@ fn met_fault(met: Met) -> Error
 {
     match met {
         Met::Bad(e) => e,
-        Met::Good(_, _) => Error::SyntaxError,
+        Met::Good(_, _) => Error::LimitCheck,
     }
 }

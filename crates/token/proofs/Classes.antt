@@ -1,7 +1,7 @@
 -- Tests of single bytes: each test of the code that leads to an answer settles the definition's test.
 -- Assumes nothing.
 use mathlib.Core.Path.{_≡_, refl, sym, _∙_}
-use mathlib.Core.Bool.{Bool, true, false, not, _&&_}
+use mathlib.Core.Bool.{Bool, true, false, not, _&&_, false≢true}
 use mathlib.Core.Logic.{_⊎_, inl, inr}
 use Prim.Native.Nat.{ℕ, _≤_, _<_}
 use lib.Dec.{eqb, leb}
@@ -19,13 +19,16 @@ within-below a b x h = rw (lt-leb a x h)
 pub within-above : (a b x : ℕ) → a ≤ x → leb x b ≡ within a b x
 within-above a b x h = rw (le-leb a x h)
 
-both : (s t : Bool) → (s && t) ≡ true → s ≡ true
-both true t e = refl
-both false t e = e
+both : (s t : Bool) → (s && t) ≡ true → (s ≡ true) × (t ≡ true)
+both true t e = (refl, e)
+both false t e = absurd (false≢true e)
 
--- What is within a range is not below it.
+-- What is within a range is neither below nor above it.
 pub within-low : (a b x : ℕ) (t : Bool) → t ≡ within a b x → t ≡ true → a ≤ x
-within-low a b x t e f = leb-true a x (both (leb a x) (leb x b) (sym e ∙ f))
+within-low a b x t e f = leb-true a x (both (leb a x) (leb x b) (sym e ∙ f) .0)
+
+pub within-high : (a b x : ℕ) (t : Bool) → t ≡ within a b x → t ≡ true → x ≤ b
+within-high a b x t e f = leb-true x b (both (leb a x) (leb x b) (sym e ∙ f) .1)
 
 -- ---- space
 

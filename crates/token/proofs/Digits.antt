@@ -1,7 +1,7 @@
 -- Numbers: how one begins, its form, its digits read from left to right with the value kept over the limit, and its 32 bits.
 -- Assumes nothing.
 use mathlib.Core.Path.{_≡_, refl, sym, ap, _∙_}
-use mathlib.Core.Bool.{Bool, true, false, not, cond}
+use mathlib.Core.Bool.{Bool, true, false, not, cond, false≢true}
 use mathlib.Core.List.{List, [], _∷_}
 use Prim.Native.Nat.{ℕ, zero, suc, _+_, _-_, _*_, _^_, _≤_, _<_}
 use native.Mathlib.Nat.{mul-le-mul, le-mul-of-pos-right}
@@ -12,12 +12,12 @@ use lib.ListN.{length, drop, getD, drop-of-length-le}
 use lib.Seq.{drop-cons}
 use lib.Dec.{T, ltb, ltb→lt, nltb→le}
 use borrow.Author.Tests.{lt-ltb, le-ltb, le-leb, lt-leb, ne-eqb}
-use Rattle.semantics.specs.Values.{Result, ok, fault, _>>=_, check}
+use Rattle.semantics.specs.Values.{ok, fault, _>>=_, check}
 use Rattle.semantics.specs.Words.{word}
-use Rattle.semantics.specs.Tokens.{isDigit, within, digit, digits, digitsFrom, upTo, startsNumber, formOf, number}
+use Rattle.semantics.specs.Tokens.{Lexing, isDigit, within, digit, digits, digitsFrom, upTo, startsNumber, signs, formOf, number}
 use Rattle.semantics.specs.Tokens as tokens
-use Rattle.semantics.specs.declared.Error.{Error}
-use Rattle.semantics.specs.declared.Error.the-variants.{SyntaxError, LimitCheck}
+use Rattle.semantics.specs.declared.Fault as semantics
+use Rattle.semantics.specs.declared.Fault.the-variants.{BadNumber, OverLimit}
 use Rattle.token.specs.Numbers.{numberIs, faultOf, withDigit, numeral, negation}
 use Rattle.token.specs.declared.numbers.Number.{Number}
 use Rattle.token.specs.declared.numbers.Number.the-variants.{Word, Fault}
@@ -56,6 +56,31 @@ module _ (t : Bool) where
   starts-minus (b ∷ []) r h k e f g i = absurd (k refl)
   starts-minus (b ∷ c ∷ s) r h k e f g i = rw g i
 
+pub signs-none : (s : List ℕ) → length s ≡ 0 → 0 ≡ signs s
+unfolding signs
+signs-none [] e = refl
+signs-none (b ∷ s) e = absurd (omega arith)
+
+module _ (t : Bool) where
+  pub signs-digit : (s : List ℕ) → t ≡ isDigit (getD s 0 0) → t ≡ true → 0 ≡ signs s
+  unfolding signs
+  signs-digit [] e f = refl
+  signs-digit (b ∷ s) e f = rw (sym e ∙ f)
+
+  pub signs-other : (s : List ℕ) → (length s ≡ 0 → ⊥) → t ≡ isDigit (getD s 0 0) → t ≡ false → 1 ≡ signs s
+  unfolding signs
+  signs-other [] h e f = absurd (h refl)
+  signs-other (b ∷ s) h e f = rw (sym e ∙ f)
+
+pub signs-few : {n : ℕ} (s : List ℕ) → n ≡ signs s → n ≤ 1
+unfolding signs
+signs-few [] e = omega arith
+signs-few (b ∷ s) e = by (isDigit b) e
+  where
+    by : {n : ℕ} (t : Bool) → n ≡ cond {A = ℕ} t 0 1 → n ≤ 1
+    by true e = omega arith
+    by false e = omega arith
+
 -- ---- its form
 
 pub form-short : (s : List ℕ) → length s < 2 → tokens.plain ≡ formOf s
@@ -87,6 +112,18 @@ unfolding formOf
 form-zero [] h e f = absurd (omega arith)
 form-zero (b ∷ []) h e f = absurd (omega arith)
 form-zero (b ∷ c ∷ s) h e f = rw (e, ne-eqb c 120 f)
+
+abbrev signed : tokens.Form → Bool
+signed tokens.negative = true
+signed tokens.hexadecimal = true
+signed tokens.plain = false
+
+-- A form that is not the plain one has two bytes before its digits, or one and a digit.
+pub form-long : (f : tokens.Form) (s : List ℕ) → f ≡ formOf s → signed f ≡ true → 2 ≤ length s
+unfolding formOf
+form-long f [] e k = absurd (false≢true (sym (ap signed e) ∙ k))
+form-long f (b ∷ []) e k = absurd (false≢true (sym (ap signed e) ∙ k))
+form-long f (b ∷ c ∷ s) e k = omega arith
 
 -- ---- a digit
 
@@ -134,63 +171,69 @@ test limit n = by (ltb limit n) (ltb→lt limit n) (nltb→le limit n)
     by true f g = f tt
     by false f g = g tt
 
--- What the digits left give, where those before them gave n.
-pub judged : ℕ → ℕ → ℕ → List ℕ → Result ℕ
-judged base limit n s = digitsFrom base n s >>= upTo limit
+-- What the digits left give, the first of them at the offset `at`, where those before them gave n.
+pub judged : ℕ → ℕ → ℕ → ℕ → List ℕ → Lexing ℕ
+judged base limit at n s = digitsFrom base at n s >>= upTo limit
 
-over-limit : (limit n : ℕ) → limit < n → upTo limit n ≡ fault LimitCheck
+over-limit : (limit n : ℕ) → limit < n → upTo limit n ≡ fault OverLimit
 unfolding upTo check _>>=_
 over-limit limit n h = rw (lt-leb n limit h)
 
-judged-bad : (base limit n b : ℕ) (s : List ℕ) → base ≤ digit b → judged base limit n (b ∷ s) ≡ fault SyntaxError
+judged-bad : (base limit at n b : ℕ) (s : List ℕ) → base ≤ digit b → judged base limit at n (b ∷ s) ≡ fault (BadNumber at)
 unfolding judged digitsFrom _>>=_
-judged-bad base limit n b s h = rw (le-ltb (digit b) base h, digitsFrom)
+judged-bad base limit at n b s h = rw (le-ltb (digit b) base h, digitsFrom)
 
-judged-good : (base limit n b : ℕ) (s : List ℕ) → digit b < base → judged base limit n (b ∷ s) ≡ judged base limit (n * base + digit b) s
+judged-good : (base limit at n b : ℕ) (s : List ℕ) → digit b < base → judged base limit at n (b ∷ s) ≡ judged base limit (suc at) (n * base + digit b) s
 unfolding judged digitsFrom
-judged-good base limit n b s h = rw (lt-ltb (digit b) base h, digitsFrom)
+judged-good base limit at n b s h = rw (lt-ltb (digit b) base h, digitsFrom)
 
 -- Over the limit the value does not matter.
-over : (base limit : ℕ) → 0 < base → (s : List ℕ) (n m : ℕ) → limit < n → limit < m → judged base limit n s ≡ judged base limit m s
+over : (base limit : ℕ) → 0 < base → (at : ℕ) (s : List ℕ) (n m : ℕ) → limit < n → limit < m → judged base limit at n s ≡ judged base limit at m s
 unfolding judged digitsFrom _>>=_
-over base limit p [] n m h k = over-limit limit n h ∙ sym (over-limit limit m k)
-over base limit p (b ∷ s) n m h k = by (ltb (digit b) base) (over base limit p s (n * base + digit b) (m * base + digit b) (more n h) (more m k))
+over base limit p at [] n m h k = over-limit limit n h ∙ sym (over-limit limit m k)
+over base limit p at (b ∷ s) n m h k =
+    by (ltb (digit b) base) (over base limit p (suc at) s (n * base + digit b) (m * base + digit b) (more n h) (more m k))
   where
     more : (n : ℕ) → limit < n → limit < n * base + digit b
     more n h = let q : n ≤ n * base = le-mul-of-pos-right n p in omega arith
 
-    by : (t : Bool) → judged base limit (n * base + digit b) s ≡ judged base limit (m * base + digit b) s
-        → (elim t as (λ _. Result ℕ) [ true ↦ digitsFrom base (n * base + digit b) s | false ↦ fault SyntaxError ] >>= upTo limit)
-        ≡ (elim t as (λ _. Result ℕ) [ true ↦ digitsFrom base (m * base + digit b) s | false ↦ fault SyntaxError ] >>= upTo limit)
+    by : (t : Bool) → judged base limit (suc at) (n * base + digit b) s ≡ judged base limit (suc at) (m * base + digit b) s
+        → (elim t as (λ _. Lexing ℕ) [ true ↦ digitsFrom base (suc at) (n * base + digit b) s | false ↦ fault (BadNumber at) ] >>= upTo limit)
+        ≡ (elim t as (λ _. Lexing ℕ) [ true ↦ digitsFrom base (suc at) (m * base + digit b) s | false ↦ fault (BadNumber at) ] >>= upTo limit)
     by true e = e
     by false e = refl
 
-module _ (s : List ℕ) (base limit : ℕ) where
-  pub numeral-none : (at : ℕ) → length s ≤ at → fault SyntaxError ≡ numeral base limit (drop at s)
+-- A run whose first byte is at `start` in the script.
+module _ (s : List ℕ) (start base limit : ℕ) where
+  pub numeral-none : (at : ℕ) → length s ≤ at → fault (BadNumber (start + at)) ≡ numeral base limit (start + at) (drop at s)
   unfolding numeral digits _>>=_
   numeral-none at h = rw (drop-of-length-le s h)
 
-  pub numeral-start : (at : ℕ) → at < length s → numeral base limit (drop at s) ≡ judged base limit 0 (drop at s)
+  pub numeral-start : (at : ℕ) → at < length s → numeral base limit (start + at) (drop at s) ≡ judged base limit (start + at) 0 (drop at s)
   unfolding numeral digits judged
   numeral-start at h = rw (drop-cons s at 0 h)
 
-  module _ (total : Result ℕ) (i n : ℕ) (inv : total ≡ judged base limit n (drop i s)) where
-    pub numeral-bad : (d : ℕ) → i < length s → d ≡ digit (getD s i 0) → base ≤ d → fault SyntaxError ≡ total
-    numeral-bad d h e k = sym (inv ∙ rw (drop-cons s i 0 h) (judged-bad base limit n (getD s i 0) (drop (suc i) s) (rw (sym e) k)))
+  module _ (total : Lexing ℕ) (i n : ℕ) (inv : total ≡ judged base limit (start + i) n (drop i s)) where
+    pub numeral-bad : (d : ℕ) → i < length s → d ≡ digit (getD s i 0) → base ≤ d → fault (BadNumber (start + i)) ≡ total
+    numeral-bad d h e k = sym (inv ∙ rw (drop-cons s i 0 h) (judged-bad base limit (start + i) n (getD s i 0) (drop (suc i) s) (rw (sym e) k)))
 
     pub numeral-turn : (d m : ℕ) → 0 < base → i < length s → d ≡ digit (getD s i 0) → d < base → m ≡ withDigit limit base n d
-        → total ≡ judged base limit m (drop (i + 1) s)
+        → total ≡ judged base limit (start + (i + 1)) m (drop (i + 1) s)
     unfolding withDigit
     numeral-turn d m p h e k f =
-        inv ∙ rw (drop-cons s i 0 h, add-one i)
-        (judged-good base limit n (getD s i 0) (drop (suc i) s) (rw (sym e) k) ∙ rw (sym e, f) (by (ltb limit n) (test limit n)))
+        let further : suc (start + i) ≡ start + (i + 1) = omega arith in
+        inv ∙ rw (drop-cons s i 0 h)
+        (judged-good base limit (start + i) n (getD s i 0) (drop (suc i) s) (rw (sym e) k) ∙ rw (sym e, f) (by (ltb limit n) (test limit n)))
+        ∙ ap (λ (o : ℕ). judged base limit o m (drop (suc i) s)) further
+        ∙ ap (λ (j : ℕ). judged base limit (start + (i + 1)) m (drop j s)) (sym (add-one i))
       where
         by : (t : Bool) → Over t limit n
-            → judged base limit (n * base + d) (drop (suc i) s) ≡ judged base limit (cond t n (n * base + d)) (drop (suc i) s)
-        by true q = over base limit p (drop (suc i) s) (n * base + d) n (let r : n ≤ n * base = le-mul-of-pos-right n p in omega arith) q
+            → judged base limit (suc (start + i)) (n * base + d) (drop (suc i) s)
+            ≡ judged base limit (suc (start + i)) (cond t n (n * base + d)) (drop (suc i) s)
+        by true q = over base limit p (suc (start + i)) (drop (suc i) s) (n * base + d) n (let r : n ≤ n * base = le-mul-of-pos-right n p in omega arith) q
         by false q = refl
 
-    pub numeral-over : length s ≤ i → limit < n → fault LimitCheck ≡ total
+    pub numeral-over : length s ≤ i → limit < n → fault OverLimit ≡ total
     unfolding judged digitsFrom _>>=_
     numeral-over h k = sym (inv ∙ rw (drop-of-length-le s h) (over-limit limit n k))
 
@@ -213,25 +256,26 @@ module _ (n : Number) (w : ℕ) (is : n ≡ Word w) where
       back zero h k = absurd (h refl)
       back (suc v) h k = omega arith
 
-pub negation-fault : (n : Number) (e x : Error) → n ≡ Fault e → x ≡ faultOf n → fault x ≡ negation (numberIs n)
+pub negation-fault : (n : Number) (e x : semantics.Fault) → n ≡ Fault e → x ≡ faultOf n → fault x ≡ negation (numberIs n)
 unfolding negation _>>=_
 negation-fault n e x is q =
     let same : x ≡ e = q ∙ ap faultOf is in
     rw (is, same)
 
-associates : (r : Result ℕ) (f g : ℕ → Result ℕ) → (r >>= f >>= g) ≡ (r >>= λ n. f n >>= g)
+associates : (r : Lexing ℕ) (f g : ℕ → Lexing ℕ) → (r >>= f >>= g) ≡ (r >>= λ n. f n >>= g)
 unfolding _>>=_
 associates (ok a) f g = refl
 associates (fault e) f g = refl
 
-pub number-negative : (s : List ℕ) → tokens.negative ≡ formOf s → negation (numeral 10 2147483648 (drop 1 s)) ≡ number s
-unfolding negation numeral number
-number-negative s e = rw (sym e, number) (associates (digits 10 (drop 1 s)) (upTo 2147483648) (λ n. ok (word (negℤ (pos n)))))
+module _ (at : ℕ) (s : List ℕ) where
+  pub number-negative : tokens.negative ≡ formOf s → negation (numeral 10 2147483648 (at + 1) (drop 1 s)) ≡ number at s
+  unfolding negation numeral number
+  number-negative e = rw (sym e, number) (associates (digits 10 (at + 1) (drop 1 s)) (upTo 2147483648) (λ n. ok (word (negℤ (pos n)))))
 
-pub number-hexadecimal : (s : List ℕ) → tokens.hexadecimal ≡ formOf s → numeral 16 4294967295 (drop 2 s) ≡ number s
-unfolding numeral number
-number-hexadecimal s e = rw (sym e, number)
+  pub number-hexadecimal : tokens.hexadecimal ≡ formOf s → numeral 16 4294967295 (at + 2) (drop 2 s) ≡ number at s
+  unfolding numeral number
+  number-hexadecimal e = rw (sym e, number)
 
-pub number-plain : (s : List ℕ) → tokens.plain ≡ formOf s → numeral 10 2147483647 (drop 0 s) ≡ number s
-unfolding numeral number
-number-plain s e = rw (sym e, number)
+  pub number-plain : tokens.plain ≡ formOf s → numeral 10 2147483647 (at + 0) (drop 0 s) ≡ number at s
+  unfolding numeral number
+  number-plain e = let z : at + 0 ≡ at = omega arith in rw (sym e, number, z)

@@ -15,7 +15,7 @@ use Rattle.semantics.specs.Tokens as tokens
 use Rattle.semantics.specs.Groups.{skip}
 use Rattle.semantics.specs.Setup.{isTooLong, reading, readingOf}
 use Rattle.semantics.specs.Setup as setup
-use Rattle.semantics.specs.declared.Error.{Error}
+use Rattle.semantics.specs.declared.Fault.{Fault}
 use Rattle.semantics.specs.declared.Kind.{Kind}
 use Rattle.token.specs.Lexing.{TokenAt, LexedAt, faultOf}
 use Rattle.token.specs.Reading.{LocatedAt, Within, Ordered, ownedBy, answerOf, answer, locatedIs, partOf, refusalOf}
@@ -59,19 +59,19 @@ pub record Begun (script : List ℕ) (offset start : ℕ) : Type 0 where
   pub begins : start ≡ skip script offset
 
 module _ {script : List ℕ} {offset start : ℕ} (B : Begun script offset start) where
-  answers-fault : {e : Error} → lex (drop start script) ≡ fault e → setup.faulty e ≡ reading script offset
+  answers-fault : {f : Fault} → lex start (drop start script) ≡ fault f → setup.faulty f ≡ reading script offset
   unfolding reading isTooLong
   answers-fault g = rw (le-ltb scriptMost (length script) (B .short), reading, le-ltb (length script) offset (B .known), sym (B .begins), g)
 
-  answers-token : (t : tokens.Token) (n : ℕ) → lex (drop start script) ≡ lexeme t n
+  answers-token : (t : tokens.Token) (n : ℕ) → lex start (drop start script) ≡ lexeme t n
       → readingOf start (record { token = t; size = n }) ≡ reading script offset
   unfolding reading isTooLong lexeme
   answers-token t n g =
       rw (B .begins, le-ltb scriptMost (length script) (B .short), reading, le-ltb (length script) offset (B .known), rw (B .begins) at g)
 
-  pub located-fault : {x v : Error} {l : Lexed} → LexedAt script start l → l ≡ lexed.Fault v → x ≡ faultOf l → LocatedAt script offset (Faulty x)
+  pub located-fault : {x v : Fault} {l : Lexed} → LexedAt script start l → l ≡ lexed.Fault v → x ≡ faultOf l → LocatedAt script offset (Faulty x)
   located-fault {x} {v} {l} L e f =
-      let g : lex (drop start script) ≡ fault v = subst (LexedAt script start) e L in
+      let g : lex start (drop start script) ≡ fault v = subst (LexedAt script start) e L in
       let h : x ≡ v = f ∙ ap faultOf e in
       record { is = ap setup.faulty h ∙ answers-fault g; inside = tt }
 
@@ -130,7 +130,7 @@ module _ {script : List ℕ} {offset : ℕ} {r : Located} (L : LocatedAt script 
 
 -- Where there is no token, the answer has the tag 0, 1 or 2.
 pub without-token : (tag : Located → ℕ) → ((k : Kind) (n start size : ℕ) → tag (At k n start size) ≡ 3)
-    → (P : Located → Type 0) → P TooLong → P PastEnd → ((e : Error) → P (Faulty e))
+    → (P : Located → Type 0) → P TooLong → P PastEnd → ((f : Fault) → P (Faulty f))
     → (r : Located) → (tag r ≡ 0) ⊎ ((tag r ≡ 1) ⊎ (tag r ≡ 2)) → P r
 without-token tag last P a b f TooLong e = a
 without-token tag last P a b f PastEnd e = b

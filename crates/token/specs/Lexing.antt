@@ -9,8 +9,8 @@ use Rattle.semantics.specs.Sizes.{nameMost}
 use Rattle.semantics.specs.Values.{fault}
 use Rattle.semantics.specs.Tokens.{lex, lexeme, classOf}
 use Rattle.semantics.specs.Tokens as tokens
-use Rattle.semantics.specs.declared.Error.{Error}
-use Rattle.semantics.specs.declared.Error.the-variants.{SyntaxError}
+use Rattle.semantics.specs.declared.Fault.{Fault}
+use Rattle.semantics.specs.declared.Fault.the-variants.{OverLimit}
 use Rattle.token.specs.declared.Token.{Token}
 use Rattle.token.specs.declared.Token.the-variants.{Integer, String, ExecutableName, LiteralName, OpenBrace, CloseBrace, End}
 use Rattle.token.specs.declared.Lexed.{Lexed}
@@ -19,7 +19,7 @@ use Rattle.token.specs.Strings.{StringAt}
 
 -- The definition reads the token t at `start`, and `next` is the offset after it.
 pub record Lexes (script : List ℕ) (start : ℕ) (t : tokens.Token) (next : ℕ) : Type 0 where
-  pub lexes : lex (drop start script) ≡ lexeme t (next - start)
+  pub lexes : lex start (drop start script) ≡ lexeme t (next - start)
   pub past : start < next
   pub inside : next ≤ length script
 
@@ -46,7 +46,7 @@ pub record BraceToken (script : List ℕ) (start : ℕ) (t : tokens.Token) (next
 
 -- The end takes none.
 pub record EndToken (script : List ℕ) (start next : ℕ) : Type 0 where
-  pub lexes : lex (drop start script) ≡ lexeme tokens.end 0
+  pub lexes : lex start (drop start script) ≡ lexeme tokens.end 0
   pub ends : next ≡ start
   pub last : start ≡ length script
 
@@ -61,11 +61,11 @@ TokenAt script start next End = EndToken script start next
 
 abbrev pub LexedAt : List ℕ → ℕ → Lexed → Type 0
 LexedAt script start (lexed.Token t next) = TokenAt script start next t
-LexedAt script start (lexed.Fault e) = lex (drop start script) ≡ fault e
+LexedAt script start (lexed.Fault f) = lex start (drop start script) ≡ fault f
 
-abbrev pub faultOf : Lexed → Error
-faultOf (lexed.Token t next) = SyntaxError
-faultOf (lexed.Fault e) = e
+abbrev pub faultOf : Lexed → Fault
+faultOf (lexed.Token t next) = OverLimit
+faultOf (lexed.Fault f) = f
 
 -- A byte of a class stands at `start`.
 pub record ClassAt (script : List ℕ) (start : ℕ) (class : tokens.Class) : Type 0 where

@@ -6,11 +6,11 @@ use Prim.Native.Nat.{ℕ, _+_, _*_}
 use lib.IntN.{pos, negℤ}
 use lib.Dec.{ltb}
 use Rattle.semantics.specs.Words.{word}
-use Rattle.semantics.specs.Values.{Result, ok, fault, _>>=_}
-use Rattle.semantics.specs.Tokens.{digits, upTo}
+use Rattle.semantics.specs.Values.{ok, fault, _>>=_}
+use Rattle.semantics.specs.Tokens.{Lexing, digits, upTo}
 use Rattle.semantics.specs.Tokens as tokens
-use Rattle.semantics.specs.declared.Error.{Error}
-use Rattle.semantics.specs.declared.Error.the-variants.{SyntaxError}
+use Rattle.semantics.specs.declared.Fault as semantics
+use Rattle.semantics.specs.declared.Fault.the-variants.{OverLimit}
 use Rattle.token.specs.declared.numbers.Form.{Form}
 use Rattle.token.specs.declared.numbers.Form.the-variants.{Negative, Hexadecimal, Plain}
 use Rattle.token.specs.declared.numbers.Number.{Number}
@@ -21,21 +21,21 @@ formIs Negative = tokens.negative
 formIs Hexadecimal = tokens.hexadecimal
 formIs Plain = tokens.plain
 
-abbrev pub numberIs : Number → Result ℕ
+abbrev pub numberIs : Number → Lexing ℕ
 numberIs (Word w) = ok w
-numberIs (Fault e) = fault e
+numberIs (Fault f) = fault f
 
-abbrev pub faultOf : Number → Error
-faultOf (Word w) = SyntaxError
-faultOf (Fault e) = e
+abbrev pub faultOf : Number → semantics.Fault
+faultOf (Word w) = OverLimit
+faultOf (Fault f) = f
 
 -- A number over the limit stays as it is.
 unfoldable pub withDigit : ℕ → ℕ → ℕ → ℕ → ℕ
 withDigit limit base n d = cond (ltb limit n) n (n * base + d)
 
--- The number that one or more digits write, at most the limit.
-unfoldable pub numeral : ℕ → ℕ → List ℕ → Result ℕ
-numeral base limit s = digits base s >>= upTo limit
+-- The number that one or more digits write, at most the limit, the first of them at the offset `at`.
+unfoldable pub numeral : ℕ → ℕ → ℕ → List ℕ → Lexing ℕ
+numeral base limit at s = digits base at s >>= upTo limit
 
-unfoldable pub negation : Result ℕ → Result ℕ
+unfoldable pub negation : Lexing ℕ → Lexing ℕ
 negation r = r >>= λ n. ok (word (negℤ (pos n)))

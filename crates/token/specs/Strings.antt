@@ -2,12 +2,12 @@
 -- Assumes nothing.
 use mathlib.Core.Path.{_≡_}
 use mathlib.Core.List.{List, [], _∷_, _++_}
-use Prim.Native.Nat.{ℕ, _+_, _*_, _-_, _<_, _≤_}
+use Prim.Native.Nat.{ℕ, _+_, _*_, _-_, _^_, _<_, _≤_}
 use lib.ListN.{length, drop}
-use Rattle.semantics.specs.Values.{Result, ok, fault}
-use Rattle.semantics.specs.Tokens.{Quoted, quoted}
+use Rattle.semantics.specs.Values.{ok, fault}
+use Rattle.semantics.specs.Tokens.{Lexing, Quoted, quoted}
 use Rattle.semantics.specs.Tokens as tokens
-use Rattle.semantics.specs.declared.Error.the-variants.{SyntaxError}
+use Rattle.semantics.specs.declared.Fault.the-variants.{OpenString, BadEscape}
 use Rattle.token.specs.declared.quoted.Met.{Met}
 use Rattle.token.specs.declared.quoted.Met.the-variants.{Nothing, Backslash, Return, Digit, Digits}
 use Rattle.token.specs.declared.quoted.Act.{Act}
@@ -30,33 +30,52 @@ abbrev pub actIs : Act → tokens.Act
 actIs (act.Byte b) = tokens.byte b
 actIs (act.Go m) = tokens.go (metIs m)
 actIs act.Close = tokens.close
+actIs act.Cut = tokens.cut
 actIs act.Bad = tokens.bad
 
--- What a string holds, where its first n bytes of the script gave `bs` and the rest reads as the result says.
-unfoldable pub after : List ℕ → ℕ → Result Quoted → Result Quoted
-after bs n (ok q) = ok (record { contents = bs ++ q .contents; taken = n + q .taken })
-after bs n (fault e) = fault e
+-- With the digits to come, those that were met write a byte.
+abbrev pub Small : tokens.Met → Type 0
+Small tokens.nothing = Unit {0}
+Small tokens.backslash = Unit {0}
+Small tokens.return = Unit {0}
+Small (tokens.octal k v) = v * 8 ^ k < 256
 
--- At `at`, with no escape open, the rest of a well-formed string: it holds `bs`, and `next` is the offset after its closing quote.
+-- What a string holds, where its first n bytes of the script gave `bs` and the rest reads as the result says.
+unfoldable pub after : List ℕ → ℕ → Lexing Quoted → Lexing Quoted
+after bs n (ok q) = ok (record { contents = bs ++ q .contents; taken = n + q .taken })
+after bs n (fault f) = fault f
+
+-- At `at`, with no escape open, the rest of a well-formed string: it holds `bs`, and `next` is the offset after its closing quote. Where its opening quote
+-- is does not matter here and below.
 pub record StringAt (script : List ℕ) (at : ℕ) (bs : List ℕ) (next : ℕ) : Type 0 where
-  pub reads : quoted tokens.nothing (drop at script) ≡ ok (record { contents = bs; taken = next - at })
+  pub reads : (quote : ℕ) → quoted quote at tokens.nothing (drop at script) ≡ ok (record { contents = bs; taken = next - at })
   pub past : at < next
   pub inside : next ≤ length script
 
 -- The string at `at` begins with `bs`, which the bytes of the script up to `next` write, and goes on there.
 pub record Begins (script : List ℕ) (at : ℕ) (bs : List ℕ) (next : ℕ) : Type 0 where
-  pub splits : quoted tokens.nothing (drop at script) ≡ after bs (next - at) (quoted tokens.nothing (drop next script))
+  pub splits : (quote : ℕ) → quoted quote at tokens.nothing (drop at script) ≡ after bs (next - at) (quoted quote next tokens.nothing (drop next script))
   pub past : at < next
   pub inside : next ≤ length script
+
+-- The string is cut short, or no escape goes on with the byte at i.
+abbrev pub CutAt : List ℕ → ℕ → Type 0
+CutAt script at = (quote : ℕ) → quoted quote at tokens.nothing (drop at script) ≡ fault (OpenString quote)
+
+pub record BadAt (script : List ℕ) (at i : ℕ) : Type 0 where
+  pub reads : (quote : ℕ) → quoted quote at tokens.nothing (drop at script) ≡ fault (BadEscape i)
+  pub inside : i < length script
 
 abbrev pub PieceAt : List ℕ → ℕ → Piece → Type 0
 PieceAt script at (piece.Byte b next) = Begins script at (b ∷ []) next
 PieceAt script at (piece.Closed next) = StringAt script at [] next
-PieceAt script at piece.Bad = quoted tokens.nothing (drop at script) ≡ fault SyntaxError
+PieceAt script at piece.Cut = CutAt script at
+PieceAt script at (piece.Bad i) = BadAt script at i
 
 abbrev pub JudgedAt : List ℕ → ℕ → Judged → Type 0
 JudgedAt script at (judged.Closed size next) = (bs : List ℕ) × StringAt script at bs next × (length bs ≡ size)
-JudgedAt script at judged.Bad = quoted tokens.nothing (drop at script) ≡ fault SyntaxError
+JudgedAt script at judged.Cut = CutAt script at
+JudgedAt script at (judged.Bad i) = BadAt script at i
 
 -- Of the bytes `bs` of the string at `at`, whose end is at `last`: the first, with the rest at an offset further on; or there are none.
 abbrev pub Gives : List ℕ → ℕ → List ℕ → ℕ → Unescaped → Type 0

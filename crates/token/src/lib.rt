@@ -2,13 +2,13 @@
 // the definition's `lex` does, and the public reading, `read`, `part` and `locate`, as its `reading`, on every script and at every offset.
 // No byte is copied: an answer says where a token's bytes are, and `unescape` gives a string's bytes one by one.
 ghost use mathlib.Core.Path.{_≡_};
-ghost use Prim.Native.Nat.{_≤_};
+ghost use Prim.Native.Nat.{_≤_, _<_, _^_};
 ghost use lib.ListN.{length};
 ghost use Rattle.semantics.specs.Groups as groups;
 ghost use Rattle.semantics.specs.Setup as setup;
 ghost use Rattle.token.specs.Lexing.{LexedAt, NameByteAt, SlashAt, QuoteAt, faultOf};
 ghost use Rattle.token.specs.Reading.{LocatedAt, Ordered, ownedBy, answerOf, answer, partOf, refusalOf};
-use semantics::Error;
+use semantics::Fault;
 use semantics::Kind;
 use semantics::NAME_MOST;
 use semantics::SCRIPT_MOST;
@@ -24,6 +24,7 @@ use bytes::run_end;
 use numbers::Number;
 use numbers::number_fault;
 use numbers::number_of;
+use numbers::signs;
 use numbers::starts_number;
 use quoted::Judged;
 pub use quoted::Unescaped;
@@ -45,14 +46,14 @@ pub enum Token {
 // A token and the offset after it, or the fault that its reading gives.
 pub enum Lexed {
     Token(Token, usize),
-    Fault(Error),
+    Fault(Fault),
 }
 
 // The public answer: the paper's refusals 1 and 10, a fault, or the token's kind and the offset after it.
 pub enum Reading {
     TooLong,
     PastEnd,
-    Faulty(Error),
+    Faulty(Fault),
     Read(Kind, usize),
 }
 
@@ -60,7 +61,7 @@ pub enum Reading {
 pub enum Located {
     TooLong,
     PastEnd,
-    Faulty(Error),
+    Faulty(Fault),
     At(Kind, usize, usize, usize),
 }
 
@@ -121,6 +122,7 @@ pub fn skip(script: &[u8], at: usize) -> usize
 // Ruled out: a name of 32 bytes; -2147483649 wrapped to 2147483647.
 pub fn token_at(script: &[u8], start: usize) -> Lexed
     requires { ⌜ start ≤ length (now script) ⌝ }
+    requires { ⌜ length (now script) < 2 ^ 32 ⌝ }
     ensures { λ r. ⌜ LexedAt (now (script .entry)) start r ⌝ }
 {
     if script.len() <= start {
@@ -133,18 +135,18 @@ pub fn token_at(script: &[u8], start: usize) -> Lexed
         Class::CloseBrace => Lexed::Token(Token::CloseBrace, start + 1),
         Class::Quote => string_at(script, start),
         Class::Slash => literal_at(script, start),
-        Class::Other => Lexed::Fault(Error::SyntaxError),
+        Class::Other => Lexed::Fault(Fault::BadByte(start as u32)),
     }
 }
 
 // The fault of an answer that has one, for the branch of a `let .. else` that returns with its name.
-// Ruled out: to call every fault a syntaxerror; to give another fault than the one that the reading met.
-pub fn fault_of(lexed: Lexed) -> Error
+// Ruled out: to call every fault by one name; to give another fault or offset than the one that the reading met.
+pub fn fault_of(lexed: Lexed) -> Fault
     ensures { λ r. ⌜ r ≡ faultOf lexed ⌝ }
 {
     match lexed {
-        Lexed::Token(_, _) => Error::SyntaxError,
-        Lexed::Fault(e) => e,
+        Lexed::Token(_, _) => Fault::OverLimit,
+        Lexed::Fault(f) => f,
     }
 }
 
@@ -155,20 +157,21 @@ fn refusal_of(located: Located) -> Reading
     match located {
         Located::TooLong => Reading::TooLong,
         Located::PastEnd => Reading::PastEnd,
-        Located::Faulty(e) => Reading::Faulty(e),
-        Located::At(_, _, _, _) => Reading::Faulty(Error::SyntaxError),
+        Located::Faulty(f) => Reading::Faulty(f),
+        Located::At(_, _, _, _) => Reading::Faulty(Fault::OverLimit),
     }
 }
 
 // The number or the executable name that begins at a name byte.
 fn word_at(script: &[u8], start: usize) -> Lexed
     requires { ⌜ NameByteAt (now script) start ⌝ }
+    requires { ⌜ length (now script) < 2 ^ 32 ⌝ }
     ensures { λ r. ⌜ LexedAt (now (script .entry)) start r ⌝ }
 {
     let end = run_end(script, start);
     let run = &script[start..end];
     if starts_number(run) {
-        let number = number_of(run);
+        let number = number_of(run, start);
         let Number::Word(w) = number else {
             return Lexed::Fault(number_fault(number));
         };
@@ -176,7 +179,7 @@ fn word_at(script: &[u8], start: usize) -> Lexed
     }
     let size = end - start;
     if NAME_MOST < size {
-        return Lexed::Fault(Error::LimitCheck);
+        return Lexed::Fault(Fault::OverLimit);
     }
     Lexed::Token(Token::ExecutableName(start, size), end)
 }
@@ -184,19 +187,21 @@ fn word_at(script: &[u8], start: usize) -> Lexed
 // The literal name that begins at a slash.
 fn literal_at(script: &[u8], start: usize) -> Lexed
     requires { ⌜ SlashAt (now script) start ⌝ }
+    requires { ⌜ length (now script) < 2 ^ 32 ⌝ }
     ensures { λ r. ⌜ LexedAt (now (script .entry)) start r ⌝ }
 {
     let at = start + 1;
     let end = run_end(script, at);
     let size = end - at;
     if size == 0 {
-        return Lexed::Fault(Error::SyntaxError);
+        return Lexed::Fault(Fault::BadByte(at as u32));
     }
-    if starts_number(&script[at..end]) {
-        return Lexed::Fault(Error::SyntaxError);
+    let run = &script[at..end];
+    if starts_number(run) {
+        return Lexed::Fault(Fault::BadByte((at + signs(run)) as u32));
     }
     if NAME_MOST < size {
-        return Lexed::Fault(Error::LimitCheck);
+        return Lexed::Fault(Fault::OverLimit);
     }
     Lexed::Token(Token::LiteralName(at, size), end)
 }
@@ -204,14 +209,15 @@ fn literal_at(script: &[u8], start: usize) -> Lexed
 // The string that begins at a quote.
 fn string_at(script: &[u8], start: usize) -> Lexed
     requires { ⌜ QuoteAt (now script) start ⌝ }
+    requires { ⌜ length (now script) < 2 ^ 32 ⌝ }
     ensures { λ r. ⌜ LexedAt (now (script .entry)) start r ⌝ }
 {
     let at = start + 1;
-    let judged = judge(script, at);
-    let Judged::Closed(size, next) = judged else {
-        return Lexed::Fault(Error::SyntaxError);
-    };
-    Lexed::Token(Token::String(at, size), next)
+    match judge(script, at) {
+        Judged::Closed(size, next) => Lexed::Token(Token::String(at, size), next),
+        Judged::Cut => Lexed::Fault(Fault::OpenString(start as u32)),
+        Judged::Bad(i) => Lexed::Fault(Fault::BadEscape(i as u32)),
+    }
 }
 
 // A token's kind and its own bytes, for one from `start` to `next`.

@@ -1,12 +1,14 @@
 // Strings: the machine that reads escapes byte by byte, a string judged whole, and its bytes given one by one.
 ghost use mathlib.Core.Path.{_≡_};
+ghost use mathlib.Core.Bool.{cond};
 ghost use mathlib.Core.List.{List};
-ghost use Prim.Native.Nat.{ℕ, _≤_};
+ghost use Prim.Native.Nat.{ℕ, _+_, _*_, _<_, _≤_};
 ghost use lib.ListN.{length};
 ghost use Rattle.semantics.specs.Tokens as tokens;
-ghost use Rattle.token.specs.Strings.{metIs, actIs, PieceAt, JudgedAt, StringAt, Unescapes};
+ghost use Rattle.token.specs.Strings.{metIs, actIs, Small, PieceAt, JudgedAt, StringAt, Unescapes};
 use crate::bytes::is_break;
 use crate::bytes::is_octal;
+use crate::bytes::within;
 
 // What the reading of a string has just met: nothing, a backslash, a backslash and CR, or a backslash and one or two octal digits.
 pub enum Met {
@@ -22,20 +24,24 @@ pub enum Act {
     Byte(u8),
     Go(Met),
     Close,
+    Cut,
     Bad,
 }
 
-// What comes next in a string: a byte and the offset after it, its closing quote and the offset after that, or a fault.
+// What comes next in a string: a byte and the offset after it, its closing quote and the offset after that, a line break or the end too early, or a byte with
+// which no escape goes on, by its offset.
 pub enum Piece {
     Byte(u8, usize),
     Closed(usize),
-    Bad,
+    Cut,
+    Bad(usize),
 }
 
-// How many bytes a string holds and the offset after its closing quote, or a fault.
+// How many bytes a string holds and the offset after its closing quote, or what is wrong with it.
 pub enum Judged {
     Closed(usize, usize),
-    Bad,
+    Cut,
+    Bad(usize),
 }
 
 // The next byte of a string and the offset after it, or no more.
@@ -55,7 +61,7 @@ fn plain_act(b: u8) -> Act
         return Act::Go(Met::Backslash);
     }
     if is_break(b) {
-        return Act::Bad;
+        return Act::Cut;
     }
     Act::Byte(b)
 }
@@ -76,27 +82,35 @@ fn escape_act(b: u8) -> Act
     if b == b'\n' {
         return Act::Go(Met::Nothing);
     }
-    if is_octal(b) {
+    if within(b'0', b'3', b) {
         return Act::Go(Met::Digit(b - 48));
     }
     Act::Bad
 }
 
-// After two octal digits: the third, and the byte is at most 377.
-fn third_digit(d: u8, e: u8, b: u8) -> Act
-    ensures { λ r. ⌜ actIs r ≡ tokens.act (metIs (Met.Digits d e)) b ⌝ }
+// In the middle of an octal escape, a byte that is no octal digit.
+fn broken_off(b: u8) -> Act
+    ensures { λ r. ⌜ actIs r ≡ cond (tokens.isBreak b) tokens.cut tokens.bad ⌝ }
 {
-    if !is_octal(b) {
-        return Act::Bad;
-    }
-    let v = ((d as u32) * 8 + (e as u32)) * 8 + ((b as u32) - 48);
-    if v < 256 {
-        return Act::Byte(v as u8);
+    if is_break(b) {
+        return Act::Cut;
     }
     Act::Bad
 }
 
+// After two octal digits: the third. The first is at most 3, so that the three write a byte.
+fn third_digit(d: u8, e: u8, b: u8) -> Act
+    requires { ⌜ d * 8 + e < 32 ⌝ }
+    ensures { λ r. ⌜ actIs r ≡ tokens.act (metIs (Met.Digits d e)) b ⌝ }
+{
+    if !is_octal(b) {
+        return broken_off(b);
+    }
+    Act::Byte((d * 8 + e) * 8 + (b - 48))
+}
+
 fn act_on(met: Met, b: u8) -> Act
+    requires { ⌜ Small (metIs met) ⌝ }
     ensures { λ r. ⌜ actIs r ≡ tokens.act (metIs met) b ⌝ }
 {
     match met {
@@ -112,7 +126,7 @@ fn act_on(met: Met, b: u8) -> Act
             if is_octal(b) {
                 return Act::Go(Met::Digits(d, b - 48));
             }
-            Act::Bad
+            broken_off(b)
         }
         Met::Digits(d, e) => third_digit(d, e, b),
     }
@@ -138,12 +152,15 @@ fn piece_at(script: &[u8], at: usize) -> Piece
             Act::Close => {
                 return Piece::Closed(i);
             }
+            Act::Cut => {
+                return Piece::Cut;
+            }
             Act::Bad => {
-                return Piece::Bad;
+                return Piece::Bad(i - 1);
             }
         }
     }
-    Piece::Bad
+    Piece::Cut
 }
 
 // A string's judgment, from the byte after its opening quote.
@@ -162,8 +179,11 @@ pub fn judge(script: &[u8], at: usize) -> Judged
             Piece::Closed(next) => {
                 return Judged::Closed(size, next);
             }
-            Piece::Bad => {
-                return Judged::Bad;
+            Piece::Cut => {
+                return Judged::Cut;
+            }
+            Piece::Bad(i) => {
+                return Judged::Bad(i);
             }
         }
     }
@@ -179,6 +199,7 @@ pub fn unescape(script: &[u8], at: usize) -> Unescaped
     match piece_at(script, at) {
         Piece::Byte(b, next) => Unescaped::Byte(b, next),
         Piece::Closed(_) => Unescaped::Closed,
-        Piece::Bad => Unescaped::Closed,
+        Piece::Cut => Unescaped::Closed,
+        Piece::Bad(_) => Unescaped::Closed,
     }
 }

@@ -3,7 +3,7 @@
 ghost use Prim.Native.Nat.{_≤_};
 use libc::STDIN_FILENO;
 use libc::STDOUT_FILENO;
-use semantics::Error;
+use semantics::Fault;
 use semantics::Kind;
 use token::Reading;
 
@@ -31,12 +31,21 @@ fn say_kind(kind: Kind) {
     }
 }
 
-// A token has no other faults.
-fn say_fault(fault: Error) {
+// A fault of these words, with the offset of the first byte that could not be accepted.
+fn say_place(words: &[u8], place: u32) {
+    say(words);
+    say_number(place as usize);
+    say(b"\n");
+}
+
+fn say_fault(fault: Fault) {
     match fault {
-        Error::SyntaxError => say(b"syntaxerror\n"),
-        Error::LimitCheck => say(b"limitcheck\n"),
-        _ => say(b"another fault\n"),
+        Fault::BadNumber(place) => say_place(b"badnumber ", place),
+        Fault::BadEscape(place) => say_place(b"badescape ", place),
+        Fault::OpenString(place) => say_place(b"openstring ", place),
+        Fault::BadBrace(place) => say_place(b"badbrace ", place),
+        Fault::BadByte(place) => say_place(b"badbyte ", place),
+        Fault::OverLimit => say(b"limitcheck\n"),
     }
 }
 

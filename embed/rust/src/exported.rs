@@ -11,14 +11,15 @@ pub struct Reply {
     pub outcome: usize,
 }
 
-/// The number of the refusal, of the fault or of the token's kind, the other two being 0; the offset after the token, and where in the script its own bytes
-/// begin and how many they are.
+/// The number of the refusal, of the fault or of the token's kind, the other two being 0; the offset of the first byte that could not be accepted, of a fault that has
+/// one, and else 0; the offset after the token, and where in the script its own bytes begin and how many they are.
 #[repr(C)]
 #[derive(Clone, Copy, Debug, PartialEq, Eq)]
 pub struct TokenReply {
     pub refused: u32,
     pub fault: u32,
     pub kind: u32,
+    pub place: u32,
     pub next: usize,
     pub start: usize,
     pub size: usize,

@@ -129,6 +129,7 @@ impl Eq for Book {}
 /// The answer to a scan. Answers are looked for in this order, and the first that applies is given. All but the last two refuse the scan and leave the book as it
 /// was; those without a report come before the run.
 #[derive(Clone, Copy, Debug, PartialEq, Eq)]
+#[non_exhaustive]
 pub enum Scan<'a> {
     /// As by [`Runner::run`].
     Refused(Refusal),

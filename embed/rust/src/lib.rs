@@ -20,17 +20,32 @@
 //! let name = token(b"#FLOO\n/two 2 def", 6).unwrap();
 //! assert_eq!((name.kind, name.part, name.next), (Kind::LiteralName, &b"two"[..], 10));
 //! ```
+//!
+//! Where a run or a token comes to grief over bytes that are no token, it says at which of them, and [`position`] gives its line and column:
+//!
+//! ```
+//! use floo::{position, Runner, Sizes};
+//!
+//! let mut runner = Runner::new(Sizes::default());
+//! let script = b"#FLOO\n{ 1 2\n  { 0x1G }\n} exec";
+//! let report = runner.run(script, 100).unwrap();
+//! assert_eq!(report.value("error"), Some("badnumber"));
+//! let position = position(script, report.place().unwrap()).unwrap();
+//! assert_eq!((position.line, position.column), (3, 8));
+//! ```
 
 #![deny(unsafe_code)]
 
 mod exported;
 pub mod floor;
+mod position;
 mod refusal;
 mod report;
 mod token;
 
 pub use exported::{run as run_lent, scan as scan_lent, token as token_reply};
 pub use exported::{Reply, ScanReply, TokenReply};
+pub use position::{position, Position};
 pub use refusal::Refusal;
 pub use report::Report;
 pub use token::{token, Kind, Token, TokenError};

@@ -4,6 +4,7 @@ use std::fmt;
 /// Why no run was made, or no token read. Refusals are looked for in this order, and the first that applies is given: by a run of 1 to 9, by the reading
 /// of a token of 1 and 10.
 #[derive(Clone, Copy, Debug, PartialEq, Eq)]
+#[non_exhaustive]
 pub enum Refusal {
     /// The script has over 32,768 bytes.
     ScriptTooLong = 1,

@@ -33,11 +33,17 @@ impl<'a> Report<'a> {
         self.outcome
     }
 
-    /// The value of a line of the outcome: `ending`, `error`, `command`, `at`, `steps`, `depth`, `held` or `log`.
+    /// The value of a line of the outcome: `ending`, `error`, `command`, `at`, `where`, `steps`, `depth`, `held` or `log`.
     pub fn value(&self, key: &str) -> Option<&'a str> {
         self.pairs()
             .find(|(found, _)| *found == key)
             .map(|(_, value)| value)
+    }
+
+    /// The offset in the script of the first byte of a token that could not be accepted, where that ended the run: an open string's is its quote, an unclosed
+    /// brace's its own. [`position`](crate::position) gives its line and column.
+    pub fn place(&self) -> Option<usize> {
+        self.value("where")?.parse().ok()
     }
 
     /// The stack, bottom first: `integer:7`, `string:2/5`, `name:/x` and so on.

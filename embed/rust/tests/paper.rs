@@ -34,7 +34,7 @@ fn the_worked_example() {
     assert_eq!(report.steps(), 12);
     assert_eq!(
         report.outcome(),
-        "ending=finished\nerror=none\ncommand=\nat=34\nsteps=12\ndepth=1\nheld=0\nlog=2\nitem=integer:7\n"
+        "ending=finished\nerror=none\ncommand=\nat=34\nwhere=\nsteps=12\ndepth=1\nheld=0\nlog=2\nitem=integer:7\n"
     );
 }
 

@@ -1,4 +1,4 @@
-//! The sentences of the scope paper on the second public reading (Setup), one after another.
+//! The sentences of the scope paper on the second public reading (Setup), one after another, and those of the change request on what is wrong with a token.
 
 use floo::{token, token_reply, Kind, Refusal, TokenError};
 
@@ -68,21 +68,48 @@ fn refusals() {
     }
 }
 
-/// "or syntaxerror or limitcheck"
+/// "or syntaxerror or limitcheck", which the change request splits: "badnumber, badescape, openstring, badbrace and badbyte, and give the offset of the first byte
+/// that could not be accepted, limits aside (the 4 of `\\400`), or the script's length if it ended first"
 #[test]
 fn faults() {
-    let bad: [&[u8]; 8] = [
-        b"0x",
-        b"12a",
-        b"/",
-        b"/1",
-        b"\"a",
-        b"\"\\q\"",
-        b"\"\\400\"",
-        b"\x00",
+    use TokenError::{BadByte, BadEscape, BadNumber, OpenString};
+    let bad: [(&[u8], TokenError); 33] = [
+        (b"5a", BadNumber(1)),
+        (b"1.5", BadNumber(1)),
+        (b"00x1", BadNumber(2)),
+        (b"-5a", BadNumber(2)),
+        (b"-0x10", BadNumber(2)),
+        (b"0x", BadNumber(2)),
+        (b"0x ", BadNumber(2)),
+        (b"0xg", BadNumber(2)),
+        (b"0x1g", BadNumber(3)),
+        (b"99999999999a", BadNumber(11)),
+        (b"0x1FFFFFFFFg", BadNumber(11)),
+        (b" # 1a\n 2a", BadNumber(8)),
+        (b"/", BadByte(1)),
+        (b"/ x", BadByte(1)),
+        (b"//x", BadByte(1)),
+        (b"/5", BadByte(1)),
+        (b"/-5", BadByte(2)),
+        (b"\x00", BadByte(0)),
+        (b"\t\x7f", BadByte(1)),
+        (b"\xff", BadByte(0)),
+        (b"\"a\\q\"", BadEscape(3)),
+        (b"\"\\\\\"", BadEscape(2)),
+        (b"\"\\400\"", BadEscape(2)),
+        (b"\"\\4", BadEscape(2)),
+        (b"\"\\38\"", BadEscape(3)),
+        (b"\"\\01\"", BadEscape(4)),
+        (b"\"a", OpenString(0)),
+        (b"  \"a\nb\"", OpenString(2)),
+        (b"\"a\rb\"", OpenString(0)),
+        (b"\"\\", OpenString(0)),
+        (b"\"\\3\n77\"", OpenString(0)),
+        (b"\"\\37", OpenString(0)),
+        (b"\"\\\n\rx\"", OpenString(0)),
     ];
-    for script in bad {
-        assert_eq!(token(script, 0), Err(TokenError::SyntaxError), "{script:?}");
+    for (script, error) in bad {
+        assert_eq!(token(script, 0), Err(error), "{}", script.escape_ascii());
     }
     let over: [&[u8]; 4] = [b"2147483648", b"-2147483649", b"0x100000000", &[b'n'; 32]];
     for script in over {
@@ -91,25 +118,42 @@ fn faults() {
     assert_eq!(token(&[b'n'; 31], 0).map(|read| read.next), Ok(31));
 }
 
+/// The name and the offset, as a message and by themselves.
+#[test]
+fn a_fault_says_its_name_and_place() {
+    let said = |script: &[u8]| {
+        let error = token(script, 1).unwrap_err();
+        (error.to_string(), error.place())
+    };
+    let at = |name: &str, place| (format!("{name} at offset {place}"), Some(place));
+    assert_eq!(said(b" 5a"), at("badnumber", 2));
+    assert_eq!(said(b" \"\\q\""), at("badescape", 3));
+    assert_eq!(said(b" \"a"), at("openstring", 1));
+    assert_eq!(said(b" /"), at("badbyte", 2));
+    assert_eq!(said(b" 2147483648"), ("limitcheck".to_owned(), None));
+    assert_eq!(said(b"").1, None);
+}
+
 /// "in those cases the offset after is the one given. There and at end, where it is the length, the part is empty."
 #[test]
 fn no_token_moves_no_offset() {
     let long = blanks(32_769);
-    let without: [(&[u8], usize, u32, u32); 5] = [
-        (&long, 7, 1, 0),
-        (&long, usize::MAX, 1, 0),
-        (b"add", 4, 10, 0),
-        (b"add  99x", 3, 0, 1),
-        (b"add 9999999999", 3, 0, 2),
+    let without: [(&[u8], usize, [u32; 3]); 8] = [
+        (&long, 7, [1, 0, 0]),
+        (&long, usize::MAX, [1, 0, 0]),
+        (b"add", 4, [10, 0, 0]),
+        (b"add 9999999999", 3, [0, 2, 0]),
+        (b"add  99x", 3, [0, 13, 7]),
+        (b"add \"\\400\"", 3, [0, 14, 6]),
+        (b"add \"", 3, [0, 15, 4]),
+        (b"add /", 3, [0, 17, 5]),
     ];
-    for (script, offset, refused, fault) in without {
+    for (script, offset, numbers) in without {
         let reply = token_reply(script, offset);
-        assert_eq!(
-            (reply.refused, reply.fault, reply.kind),
-            (refused, fault, 0)
-        );
-        assert_eq!((reply.next, reply.size), (offset, 0));
+        assert_eq!([reply.refused, reply.fault, reply.place], numbers);
+        assert_eq!((reply.kind, reply.next, reply.size), (0, offset, 0));
     }
+    assert_eq!(token_reply(SCRIPT, 0).place, 0);
     for offset in [3, 5, 8] {
         let end = token(b"add  # x", offset).unwrap();
         assert_eq!((end.kind, end.next, end.part), (Kind::End, 8, &b""[..]));

@@ -54,6 +54,10 @@ fn token_readings_stay_within_the_script() {
             let reading = read_token(&script, offset);
             let TokenAnswer::Kind(_) = reading.answer else {
                 assert_eq!((reading.next, reading.part), (offset, &[][..]));
+                if let TokenAnswer::Fault(fault) = reading.answer {
+                    let place = fault.place().unwrap_or(offset);
+                    assert!(offset <= place && place <= script.len());
+                }
                 continue;
             };
             assert!(offset <= reading.next && reading.next <= script.len());

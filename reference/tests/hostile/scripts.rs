@@ -1,4 +1,4 @@
-//! Scripts that mean no good: random bytes, random tokens, damaged programs and loops at the ends of the integers.
+//! Scripts that mean no good: random bytes, random tokens, damaged programs, misspelt tokens and loops at the ends of the integers.
 
 use crate::random::Random;
 
@@ -107,6 +107,40 @@ const OBJECTS: &[&str] = &[
 
 const LOOP_BODIES: &[&str] = &["{ }", "{ pop }", "{ exit }", "{ dup pop continue }", "{ pop { exit } loop }", "pop"];
 
+/// What is no token, or is none where the script or the line ends too early. Each is also met cut off at any byte.
+const MISSPELT: &[&[u8]] = &[
+    b"5a",
+    b"-12,5",
+    b"00x1",
+    b"0x1FFg",
+    b"0x",
+    b"-0x10",
+    b"99999999999a",
+    b"99999999999",
+    b"0x1FFFFFFFF",
+    b"\"ab\\q\"",
+    b"\"a\\\\\"",
+    b"\"a\\400\"",
+    b"\"\\1018\\018\"",
+    b"\"\\378\"",
+    b"\"\\01\"",
+    b"\"\\101\\n\\\"abc",
+    b"\"ab\ncd\"",
+    b"\"ab\\\n\rcd\"",
+    b"\"a\\3\r\"",
+    b"/ a",
+    b"/5a",
+    b"/-5",
+    b"/nnnnnnnnnnnnnnnnnnnnnnnnnnnnnnnn",
+    b"nnnnnnnnnnnnnnnnnnnnnnnnnnnnnnnn",
+    b"\x00",
+    b"\x7f",
+    b"\xe4",
+    b"} }",
+    b"{ 1 { 2 } { 3",
+    b"{ { { } }",
+];
+
 /// Programs that finish or end in an orderly way.
 const PROGRAMS: &[&str] = &[
     "/f { dup 1 gt { dup 1 sub f mul } if } def 1 1 10 { f echo } for",
@@ -124,10 +158,11 @@ const PROGRAMS: &[&str] = &[
 ];
 
 pub fn hostile(random: &mut Random) -> Vec<u8> {
-    match random.below(9) {
+    match random.below(10) {
         0 => random_bytes(random),
         1..=4 => random_words(random),
         5 => border_loops(random),
+        6 => misspelt(random),
         _ => damaged_program(random),
     }
 }
@@ -171,6 +206,37 @@ fn border_loops(random: &mut Random) -> Vec<u8> {
         script += &format!("{first} {increment} {last} {body} for ");
     }
     script.into_bytes()
+}
+
+/// A token that is none, whole or cut off, in up to 17 braces or outside, with little before it that could fail.
+fn misspelt(random: &mut Random) -> Vec<u8> {
+    let mut script = b"#FLOO\n".to_vec();
+    for _ in 0..random.below(3) {
+        script.extend(random.choose(OBJECTS).bytes().chain(*b" "));
+    }
+    let depth = match random.below(8) {
+        0..=3 => 0,
+        4 => 14 + random.below(4),
+        _ => 1 + random.below(3),
+    };
+    for _ in 0..depth {
+        script.extend(b"{ ");
+        if random.below(2) == 0 {
+            script.extend(random.choose(OBJECTS).bytes().chain(*b" "));
+        }
+    }
+    let token = MISSPELT[random.below(MISSPELT.len())];
+    let length = match random.below(2) {
+        0 => token.len(),
+        _ => random.below(token.len() + 1),
+    };
+    script.extend(&token[..length]);
+    if random.below(2) == 0 {
+        script.push(b" \t\r\n}/\"5"[random.below(8)]);
+        script.extend(b" }".repeat(random.below(depth + 2)));
+        script.extend(word(random).bytes());
+    }
+    script
 }
 
 fn near_border(random: &mut Random) -> i32 {

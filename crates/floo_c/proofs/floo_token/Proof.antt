@@ -11,7 +11,7 @@ use Rattle.token.specs.declared.Located.{Located}
 use Rattle.token.specs.Reading.{LocatedAt, locatedIs}
 use Rattle.token.proofs.Located.{the-type}
 use Rattle.token.proofs.Readings.{part-inside, without-token}
-use Rattle.floo_c.specs.TokenReply.{refusalNumber, faultNumber, tokenReplyOf}
+use Rattle.floo_c.specs.TokenReply.{refusalNumber, faultNumber, faultPlace, tokenReplyOf}
 use Rattle.floo_c.specs.declared.TokenReply.{TokenReply}
 use borrow.Author.Needs.{needs}
 use Rattle.floo_c.proofs.floo_token.Statement.{statement}
@@ -23,17 +23,19 @@ replied : {script : List ℕ} {offset : ℕ} {r : Located} → LocatedAt script 
 replied {offset = offset} h l e = ap (tokenReplyOf offset) (ap locatedIs (sym e) ∙ h .is)
 
 -- A reply with no token.
-abbrev empty : ℕ → ℕ → ℕ → TokenReply
-empty offset refused fault = record { refused = refused; fault = fault; kind = 0; next = offset; start = 0; size = 0 }
+abbrev empty : ℕ → ℕ → ℕ → ℕ → TokenReply
+empty offset refused fault place = record { refused = refused; fault = fault; kind = 0; place = place; next = offset; start = 0; size = 0 }
 
 replied-none : {script : List ℕ} {offset : ℕ} {r : Located} → LocatedAt script offset r
     → (tagOf the-type r ≡ 0) ⊎ ((tagOf the-type r ≡ 1) ⊎ (tagOf the-type r ≡ 2))
-    → {a b : ℕ} {t : TokenReply} → a ≡ refusalNumber r → b ≡ faultNumber r → t ≡ empty offset a b → t ≡ tokenReplyOf offset (setup.reading script offset)
-replied-none {offset = offset} {r = r} h e {a} {b} p q s =
+    → {a b p : ℕ} {t : TokenReply} → a ≡ refusalNumber r → b ≡ faultNumber r → p ≡ faultPlace r → t ≡ empty offset a b p
+    → t ≡ tokenReplyOf offset (setup.reading script offset)
+replied-none {offset = offset} {r = r} h e {a} {b} {p} x y z s =
     s
-    ∙ ap (λ (x : ℕ). empty offset x b) p
-    ∙ ap (empty offset (refusalNumber r)) q
-    ∙ without-token (tagOf the-type) (λ k n i z. refl) (λ l. empty offset (refusalNumber l) (faultNumber l) ≡ tokenReplyOf offset (locatedIs l)) refl refl (λ x. refl) r e
+    ∙ ap (λ (n : ℕ). empty offset n b p) x
+    ∙ ap (λ (n : ℕ). empty offset (refusalNumber r) n p) y
+    ∙ ap (empty offset (refusalNumber r) (faultNumber r)) z
+    ∙ without-token (tagOf the-type) (λ k n i m. refl) (λ l. empty offset (refusalNumber l) (faultNumber l) (faultPlace l) ≡ tokenReplyOf offset (locatedIs l)) refl refl (λ f. refl) r e
     ∙ ap (tokenReplyOf offset) (h .is)
 
 -- A part of no bytes at the script's start is inside it.
@@ -52,13 +54,16 @@ refusal-number-requires c κs = search needs
 fault-number-requires : tie.Need-fault-number-requires
 fault-number-requires c κs = search needs
 
+fault-place-requires : tie.Need-fault-place-requires
+fault-place-requires c κs = search needs
+
 no-token-requires : tie.Need-no-token-requires
 no-token-requires c κs = search needs
 
 returns : tie.Need-returns
 returns c =
-    let locate = c .before .before .before .before .locate in (
-      replied-none (locate .ensures) (c .before .before .before .match .keys2) (c .before .before .refusal-number .ensures) (c .before .fault-number .ensures) (c .no-token .ensures),
+    let locate = c .before .before .before .before .before .locate in (
+      replied-none (locate .ensures) (c .before .before .before .before .match .keys2) (c .before .before .before .refusal-number .ensures) (c .before .before .fault-number .ensures) (c .before .fault-place .ensures) (c .no-token .ensures),
       inside (c .no-token .ensures) refl,
     )
 
@@ -79,6 +84,7 @@ floo-token-spec =
     enum-known-located
     refusal-number-requires
     fault-number-requires
+    fault-place-requires
     no-token-requires
     returns
     kind-number-requires

@@ -11,7 +11,9 @@ sub-judge c =
     some-depth (start .pre .2) (start .pre .3 .9)
 
 judge-requires : tie.Need-judge-requires
-judge-requires c κs = c .before .before .pre .2 .inside
+judge-requires c κs =
+    let pre = c .before .before .pre in
+    (omega (arith, pre .2 .past), pre .2 .inside, omega (arith, pre .3 .9 .short))
 
 enum-known-judged : tie.Need-enum-known-judged
 enum-known-judged c = c .match .keys1

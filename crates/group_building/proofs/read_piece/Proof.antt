@@ -1,6 +1,7 @@
 -- `read_piece` meets its contract: each kind of token by its own law, and a fault or the end cannot be where a group is.
 -- Assumes nothing.
 use Rattle.group_building.proofs.Inverting.{piece-fault, piece-integer, piece-string, piece-executable, piece-literal, piece-open, piece-close, piece-end}
+use native.Mathlib.Omega.{arith}
 use Rattle.group_building.proofs.read_piece.Statement.{statement}
 use Rattle.group_building.proofs.read_piece.Tie as tie
 
@@ -8,7 +9,7 @@ skip-requires : tie.Need-skip-requires
 skip-requires c κs = c .before .pre .4
 
 token-at-requires : tie.Need-token-at-requires
-token-at-requires c κs = c .skip .ensures .1
+token-at-requires c κs = (c .skip .ensures .1, omega (arith, c .before .before .pre .5))
 
 enum-known-lexed : tie.Need-enum-known-lexed
 enum-known-lexed c = c .match .keys1

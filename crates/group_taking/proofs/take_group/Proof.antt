@@ -8,7 +8,9 @@ use Rattle.group_taking.proofs.take_group.Statement.{statement}
 use Rattle.group_taking.proofs.take_group.Tie as tie
 
 judge-requires : tie.Need-judge-requires
-judge-requires c κs = c .before .before .before .before .pre .1
+judge-requires c κs =
+    let pre = c .before .before .before .before .pre in
+    (pre .0, pre .1, omega (arith, pre .2))
 
 enum-known-judged : tie.Need-enum-known-judged
 enum-known-judged c = c .match .keys1
@@ -23,7 +25,7 @@ returns : tie.Need-returns
 returns c = group-fault (c .before .before .before .judge .ensures) (c .before .enum-told .given .1) (c .before .before .before .before .before .before .before .before .pre .0) (c .fault-of .ensures)
 
 add-names-requires : tie.Need-add-names-requires
-add-names-requires c κs = ((_, parsed-flat (judged-good (c .before .before .before .before .judge .ensures) (c .before .before .judged .given .1) .1)), (_, _, _, _, _, c .before .before .before .before .before .before .before .before .before .pre .3 .3))
+add-names-requires c κs = (c .before .before .before .before .before .before .before .before .before .pre .2, (_, parsed-flat (judged-good (c .before .before .before .before .judge .ensures) (c .before .before .judged .given .1) .1)), (_, _, _, _, _, c .before .before .before .before .before .before .before .before .before .pre .3 .3))
 
 enum-known-named : tie.Need-enum-known-named
 enum-known-named c = c .match2 .keys1
@@ -74,7 +76,7 @@ returns-4 : tie.Need-returns-4
 returns-4 c = let G = judged-good (c .before .before .before .before .before .before .before .before .before .before .before .before .before .before .before .judge .ensures) (c .before .before .before .before .before .before .before .before .before .before .before .before .before .judged .given .1) in group-none (c .before .before .before .before .before .before .before .before .before .before .before .before .before .before .before .before .before .before .before .before .pre .0) (c .before .before .before .before .before .before .before .before .before .before .before .before .before .before .before .before .before .before .before .before .pre .1) (G .1) (c .before .before .before .before .before .before .before .before .before .before .add-names .ensures) (c .before .before .before .before .before .before .before .before .before .before .add-names .kept .1 .0) (c .before .before .before .before .before .before .named .given .1) (c .before .before .before .if1 .left) (omega (arith, c .if2 .taken, c .before .free-cells .ensures, G .2, G .3))
 
 construct-requires : tie.Need-construct-requires
-construct-requires c κs = let G = judged-good (c .before .before .before .before .before .before .before .before .before .before .before .before .before .before .before .before .before .before .judge .ensures) (c .before .before .before .before .before .before .before .before .before .before .before .before .before .before .before .before .judged .given .1) in group-ready (c .before .before .before .before .before .before .before .before .before .before .before .before .before .before .before .before .before .before .before .before .before .before .before .pre .0) (c .before .before .before .before .before .before .before .before .before .before .before .before .before .before .before .before .before .before .before .before .before .before .before .pre .1) (G .1) (c .before .before .before .before .before .before .before .before .before .before .before .before .before .add-names .ensures) (c .before .before .before .before .before .before .before .before .before .before .before .before .before .add-names .kept .1 .0) (c .before .before .before .before .before .before .before .before .before .named .given .1) (c .before .before .before .before .before .before .if1 .left) (omega (arith, c .before .before .before .if2 .left, c .before .before .before .before .free-cells .ensures, G .2, G .3)) (G .2) (omega (arith, G .4, G .5, c .before .before .before .before .before .before .before .before .before .before .before .before .before .before .before .before .before .before .before .before .before .before .before .pre .2)) (c .before .before .before .before .before .before .before .before .before .before .before .before .before .before .before .before .before .before .before .before .before .before .before .pre .3)
+construct-requires c κs = let G = judged-good (c .before .before .before .before .before .before .before .before .before .before .before .before .before .before .before .before .before .before .judge .ensures) (c .before .before .before .before .before .before .before .before .before .before .before .before .before .before .before .before .judged .given .1) in group-ready (c .before .before .before .before .before .before .before .before .before .before .before .before .before .before .before .before .before .before .before .before .before .before .before .pre .0) (c .before .before .before .before .before .before .before .before .before .before .before .before .before .before .before .before .before .before .before .before .before .before .before .pre .1) (G .1) (c .before .before .before .before .before .before .before .before .before .before .before .before .before .add-names .ensures) (c .before .before .before .before .before .before .before .before .before .before .before .before .before .add-names .kept .1 .0) (c .before .before .before .before .before .before .before .before .before .named .given .1) (c .before .before .before .before .before .before .if1 .left) (omega (arith, c .before .before .before .if2 .left, c .before .before .before .before .free-cells .ensures, G .2, G .3)) (c .before .before .before .before .before .before .before .before .before .before .before .before .before .before .before .before .before .before .before .before .before .before .before .pre .2) (G .2) (omega (arith, G .4, G .5, c .before .before .before .before .before .before .before .before .before .before .before .before .before .before .before .before .before .before .before .before .before .before .before .pre .2)) (c .before .before .before .before .before .before .before .before .before .before .before .before .before .before .before .before .before .before .before .before .before .before .before .pre .3)
 
 same-length-5 : tie.Need-same-length-5
 same-length-5 c = c .before .before .before .before .construct .kept .1 .0

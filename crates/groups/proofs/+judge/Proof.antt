@@ -2,7 +2,7 @@
 -- Assumes nothing.
 use lib.ListN.{length}
 use native.Mathlib.Omega.{arith}
-use Rattle.groups.proofs.Judging.{Judging, begin, weighs, judge-fault, element-inside, judge-element, open-inside, judge-deep, judge-inner-fault, inner-inside, judge-inner, judge-close}
+use Rattle.groups.proofs.Judging.{Judging, begin, weighs, judge-fault, element-inside, judge-element, open-inside, judge-deep, judge-inner-fault, inner-inside, judge-inner, judge-close, judge-end}
 use Prim.Native.Nat.{ℕ, _-_, _<_}
 use borrow.Fn.Kinds.{In}
 use borrow.Fn.PlainCycle.{Measures, is, falls, and}
@@ -44,10 +44,12 @@ abbrev judge-μ-loop : judge-lts.MeasureT-loop
 judge-μ-loop script from depth at₀ size₀ wants₀ at size wants = length script - at
 
 judge-loop-holds : (t : ℕ) → judge-lts.Need-loop-holds (claims t) (judge-at t) judge.Post judge-Inv-loop judge-μ-loop
-judge-loop-holds t c = begin _ _ _ (c .before .pre .1)
+judge-loop-holds t c = begin _ _ _ (c .before .pre .1 .1)
 
 judge-weigh-requires : (t : ℕ) → judge-lts.Need-weigh-requires (claims t) (judge-at t) judge.Post judge-Inv-loop judge-μ-loop
-judge-weigh-requires t c κs = c .loop .inv .inside
+judge-weigh-requires t c κs =
+    let pre = c .before .before .pre in
+    (c .loop .inv .inside, pre .1 .2)
 
 judge-enum-known-weighed : (t : ℕ) → judge-lts.Need-enum-known-weighed (claims t) (judge-at t) judge.Post judge-Inv-loop judge-μ-loop
 judge-enum-known-weighed t c = c .match .keys1
@@ -59,34 +61,61 @@ judge-weighed-fault-requires : (t : ℕ) → judge-lts.Need-weighed-fault-requir
 judge-weighed-fault-requires t c κs = tt
 
 judge-returns : (t : ℕ) → judge-lts.Need-returns (claims t) (judge-at t) judge.Post judge-Inv-loop judge-μ-loop
-judge-returns t c = judge-fault (c .before .before .before .before .loop .inv) (c .before .enum-told .given .1) (c .before .before .before .weigh .ensures) (c .weighed-fault .ensures)
+judge-returns t c =
+    let loop = c .before .before .before .before .loop in
+    let weigh = c .before .before .before .weigh in
+    judge-fault (loop .inv) (c .before .enum-told .given .1) (weigh .ensures) (c .weighed-fault .ensures)
 
 judge-enum-known-weight : (t : ℕ) → judge-lts.Need-enum-known-weight (claims t) (judge-at t) judge.Post judge-Inv-loop judge-μ-loop
 judge-enum-known-weight t c = c .match2 .keys1
 
 judge-add-size : (t : ℕ) → judge-lts.Need-add-size (claims t) (judge-at t) judge.Post judge-Inv-loop judge-μ-loop
-judge-add-size t c = omega (arith, c .before .before .before .before .before .before .before .loop .inv .few, c .before .before .before .before .before .before .before .loop .inv .inside)
+judge-add-size t c =
+    let loop = c .before .before .before .before .before .before .before .loop in
+    omega (arith, loop .inv .few, loop .inv .inside)
 
 judge-add-wants : (t : ℕ) → judge-lts.Need-add-wants (claims t) (judge-at t) judge.Post judge-Inv-loop judge-μ-loop
-judge-add-wants t c = omega (arith, c .before .before .before .before .before .before .before .loop .inv .few, element-inside (c .before .before .before .before .before .before .before .loop .inv) (weighs (c .before .before .before .before .weighed .given .1) (c .before .weight .given .1)) (c .before .before .before .before .before .before .weigh .ensures))
+judge-add-wants t c =
+    let loop = c .before .before .before .before .before .before .before .loop in
+    let weighed = c .before .before .before .before .weighed in
+    let weigh = c .before .before .before .before .before .before .weigh in
+    omega (arith, loop .inv .few, element-inside (loop .inv) (weighs (weighed .given .1) (c .before .weight .given .1)) (weigh .ensures))
 
 judge-loop-less : (t : ℕ) → judge-lts.Need-loop-less (claims t) (judge-at t) judge.Post judge-Inv-loop judge-μ-loop
-judge-loop-less t c = omega (arith, element-inside (c .before .before .before .before .before .before .before .loop .inv) (weighs (c .before .before .before .before .weighed .given .1) (c .before .weight .given .1)) (c .before .before .before .before .before .before .weigh .ensures))
+judge-loop-less t c =
+    let loop = c .before .before .before .before .before .before .before .loop in
+    let weighed = c .before .before .before .before .weighed in
+    let weigh = c .before .before .before .before .before .before .weigh in
+    omega (arith, element-inside (loop .inv) (weighs (weighed .given .1) (c .before .weight .given .1)) (weigh .ensures))
 
 judge-loop-again : (t : ℕ) → judge-lts.Need-loop-again (claims t) (judge-at t) judge.Post judge-Inv-loop judge-μ-loop
-judge-loop-again t c = judge-element (c .before .before .before .before .before .before .before .loop .inv) (weighs (c .before .before .before .before .weighed .given .1) (c .before .weight .given .1)) (c .before .before .before .before .before .before .weigh .ensures)
+judge-loop-again t c =
+    let loop = c .before .before .before .before .before .before .before .loop in
+    let weighed = c .before .before .before .before .weighed in
+    let weigh = c .before .before .before .before .before .before .weigh in
+    judge-element (loop .inv) (weighs (weighed .given .1) (c .before .weight .given .1)) (weigh .ensures)
 
 judge-enum-told-2 : (t : ℕ) → judge-lts.Need-enum-told-2 (claims t) (judge-at t) judge.Post judge-Inv-loop judge-μ-loop
 judge-enum-told-2 t c = c .match2 .keys2
 
 judge-returns-2 : (t : ℕ) → judge-lts.Need-returns-2 (claims t) (judge-at t) judge.Post judge-Inv-loop judge-μ-loop
-judge-returns-2 t c = judge-deep (c .before .before .before .before .before .before .before .loop .inv) (weighs (c .before .before .before .before .weighed .given .1) (c .before .enum-told2 .given .1)) (c .before .before .before .before .before .before .weigh .ensures) (c .if1 .taken)
+judge-returns-2 t c =
+    let loop = c .before .before .before .before .before .before .before .loop in
+    let weighed = c .before .before .before .before .weighed in
+    let weigh = c .before .before .before .before .before .before .weigh in
+    judge-deep (loop .inv) (weighs (weighed .given .1) (c .before .enum-told2 .given .1)) (weigh .ensures) (c .if1 .taken)
 
 judge-sub-judge : (t : ℕ) → judge-lts.Need-sub-judge (claims t) (judge-at t) judge.Post judge-Inv-loop judge-μ-loop
 judge-sub-judge t c = omega (arith, c .if1 .left)
 
 judge-judge-requires : (t : ℕ) → judge-lts.Need-judge-requires (claims t) (judge-at t) judge.Post judge-Inv-loop judge-μ-loop
-judge-judge-requires t c κs = (omega (arith, c .if1 .left, c .before .before .before .before .before .before .before .before .before .pre .0), open-inside (c .before .before .before .before .before .before .before .loop .inv) (weighs (c .before .before .before .before .weighed .given .1) (c .before .enum-told2 .given .1)) (c .before .before .before .before .before .before .weigh .ensures))
+judge-judge-requires t c κs =
+    let loop = c .before .before .before .before .before .before .before .loop in
+    let weighed = c .before .before .before .before .weighed in
+    let weigh = c .before .before .before .before .before .before .weigh in
+    let pre = c .before .before .before .before .before .before .before .before .before .pre in
+    let o = open-inside (loop .inv) (weighs (weighed .given .1) (c .before .enum-told2 .given .1)) (weigh .ensures) in
+    (omega (arith, c .if1 .left, pre .0), (o .0, o .1, pre .1 .2))
 
 judge-enum-known-judged : (t : ℕ) → judge-lts.Need-enum-known-judged (claims t) (judge-at t) judge.Post judge-Inv-loop judge-μ-loop
 judge-enum-known-judged t c = c .match3 .keys1
@@ -98,31 +127,99 @@ judge-fault-of-requires : (t : ℕ) → judge-lts.Need-fault-of-requires (claims
 judge-fault-of-requires t c κs = tt
 
 judge-returns-3 : (t : ℕ) → judge-lts.Need-returns-3 (claims t) (judge-at t) judge.Post judge-Inv-loop judge-μ-loop
-judge-returns-3 t c = judge-inner-fault (c .before .before .before .before .before .before .before .before .before .before .before .loop .inv) (weighs (c .before .before .before .before .before .before .before .before .weighed .given .1) (c .before .before .before .before .before .enum-told2 .given .1)) (c .before .before .before .before .before .before .before .before .before .before .weigh .ensures) _ (omega (arith, c .before .before .before .before .if1 .left)) (c .before .before .before .judge .ensures) (c .before .enum-told3 .given .1) _ (c .fault-of .ensures)
+judge-returns-3 t c =
+    let loop = c .before .before .before .before .before .before .before .before .before .before .before .loop in
+    let weighed = c .before .before .before .before .before .before .before .before .weighed in
+    let enum-told2 = c .before .before .before .before .before .enum-told2 in
+    let weigh = c .before .before .before .before .before .before .before .before .before .before .weigh in
+    let if1 = c .before .before .before .before .if1 in
+    let judge = c .before .before .before .judge in
+    judge-inner-fault (loop .inv) (weighs (weighed .given .1) (enum-told2 .given .1)) (weigh .ensures) _ (omega (arith, if1 .left)) (judge .ensures) (c .before .enum-told3 .given .1) _ (c .fault-of .ensures)
 
 judge-add-size-2 : (t : ℕ) → judge-lts.Need-add-size-2 (claims t) (judge-at t) judge.Post judge-Inv-loop judge-μ-loop
-judge-add-size-2 t c = omega (arith, c .before .before .before .before .before .before .before .before .before .before .before .loop .inv .few, c .before .before .before .before .before .before .before .before .before .before .before .loop .inv .inside)
+judge-add-size-2 t c =
+    let loop = c .before .before .before .before .before .before .before .before .before .before .before .loop in
+    omega (arith, loop .inv .few, loop .inv .inside)
 
 judge-add-wants-2 : (t : ℕ) → judge-lts.Need-add-wants-2 (claims t) (judge-at t) judge.Post judge-Inv-loop judge-μ-loop
-judge-add-wants-2 t c = let o = weighs (c .before .before .before .before .before .before .before .before .weighed .given .1) (c .before .before .before .before .before .enum-told2 .given .1) in omega (arith, c .before .before .before .before .before .before .before .before .before .before .before .loop .inv .few, open-inside (c .before .before .before .before .before .before .before .before .before .before .before .loop .inv) o (c .before .before .before .before .before .before .before .before .before .before .weigh .ensures), inner-inside (c .before .before .before .before .before .before .before .before .before .before .before .loop .inv) o (c .before .before .before .before .before .before .before .before .before .before .weigh .ensures) _ (omega (arith, c .before .before .before .before .if1 .left)) (c .before .before .before .judge .ensures) (c .before .judged .given .1))
+judge-add-wants-2 t c =
+    let weighed = c .before .before .before .before .before .before .before .before .weighed in
+    let enum-told2 = c .before .before .before .before .before .enum-told2 in
+    let loop = c .before .before .before .before .before .before .before .before .before .before .before .loop in
+    let weigh = c .before .before .before .before .before .before .before .before .before .before .weigh in
+    let if1 = c .before .before .before .before .if1 in
+    let judge = c .before .before .before .judge in
+    let o = weighs (weighed .given .1) (enum-told2 .given .1) in omega (arith, loop .inv .few, open-inside (loop .inv) o (weigh .ensures), inner-inside (loop .inv) o (weigh .ensures) _ (omega (arith, if1 .left)) (judge .ensures) (c .before .judged .given .1))
 
 judge-add-wants-3 : (t : ℕ) → judge-lts.Need-add-wants-3 (claims t) (judge-at t) judge.Post judge-Inv-loop judge-μ-loop
-judge-add-wants-3 t c = let o = weighs (c .before .before .before .before .before .before .before .before .weighed .given .1) (c .before .before .before .before .before .enum-told2 .given .1) in omega (arith, c .before .before .before .before .before .before .before .before .before .before .before .loop .inv .few, open-inside (c .before .before .before .before .before .before .before .before .before .before .before .loop .inv) o (c .before .before .before .before .before .before .before .before .before .before .weigh .ensures), inner-inside (c .before .before .before .before .before .before .before .before .before .before .before .loop .inv) o (c .before .before .before .before .before .before .before .before .before .before .weigh .ensures) _ (omega (arith, c .before .before .before .before .if1 .left)) (c .before .before .before .judge .ensures) (c .before .judged .given .1))
+judge-add-wants-3 t c =
+    let weighed = c .before .before .before .before .before .before .before .before .weighed in
+    let enum-told2 = c .before .before .before .before .before .enum-told2 in
+    let loop = c .before .before .before .before .before .before .before .before .before .before .before .loop in
+    let weigh = c .before .before .before .before .before .before .before .before .before .before .weigh in
+    let if1 = c .before .before .before .before .if1 in
+    let judge = c .before .before .before .judge in
+    let o = weighs (weighed .given .1) (enum-told2 .given .1) in omega (arith, loop .inv .few, open-inside (loop .inv) o (weigh .ensures), inner-inside (loop .inv) o (weigh .ensures) _ (omega (arith, if1 .left)) (judge .ensures) (c .before .judged .given .1))
 
 judge-add-wants-4 : (t : ℕ) → judge-lts.Need-add-wants-4 (claims t) (judge-at t) judge.Post judge-Inv-loop judge-μ-loop
-judge-add-wants-4 t c = let o = weighs (c .before .before .before .before .before .before .before .before .weighed .given .1) (c .before .before .before .before .before .enum-told2 .given .1) in omega (arith, c .before .before .before .before .before .before .before .before .before .before .before .loop .inv .few, open-inside (c .before .before .before .before .before .before .before .before .before .before .before .loop .inv) o (c .before .before .before .before .before .before .before .before .before .before .weigh .ensures), inner-inside (c .before .before .before .before .before .before .before .before .before .before .before .loop .inv) o (c .before .before .before .before .before .before .before .before .before .before .weigh .ensures) _ (omega (arith, c .before .before .before .before .if1 .left)) (c .before .before .before .judge .ensures) (c .before .judged .given .1))
+judge-add-wants-4 t c =
+    let weighed = c .before .before .before .before .before .before .before .before .weighed in
+    let enum-told2 = c .before .before .before .before .before .enum-told2 in
+    let loop = c .before .before .before .before .before .before .before .before .before .before .before .loop in
+    let weigh = c .before .before .before .before .before .before .before .before .before .before .weigh in
+    let if1 = c .before .before .before .before .if1 in
+    let judge = c .before .before .before .judge in
+    let o = weighs (weighed .given .1) (enum-told2 .given .1) in omega (arith, loop .inv .few, open-inside (loop .inv) o (weigh .ensures), inner-inside (loop .inv) o (weigh .ensures) _ (omega (arith, if1 .left)) (judge .ensures) (c .before .judged .given .1))
 
 judge-loop-less-2 : (t : ℕ) → judge-lts.Need-loop-less-2 (claims t) (judge-at t) judge.Post judge-Inv-loop judge-μ-loop
-judge-loop-less-2 t c = omega (arith, inner-inside (c .before .before .before .before .before .before .before .before .before .before .before .loop .inv) (weighs (c .before .before .before .before .before .before .before .before .weighed .given .1) (c .before .before .before .before .before .enum-told2 .given .1)) (c .before .before .before .before .before .before .before .before .before .before .weigh .ensures) _ (omega (arith, c .before .before .before .before .if1 .left)) (c .before .before .before .judge .ensures) (c .before .judged .given .1))
+judge-loop-less-2 t c =
+    let loop = c .before .before .before .before .before .before .before .before .before .before .before .loop in
+    let weighed = c .before .before .before .before .before .before .before .before .weighed in
+    let enum-told2 = c .before .before .before .before .before .enum-told2 in
+    let weigh = c .before .before .before .before .before .before .before .before .before .before .weigh in
+    let if1 = c .before .before .before .before .if1 in
+    let judge = c .before .before .before .judge in
+    omega (arith, inner-inside (loop .inv) (weighs (weighed .given .1) (enum-told2 .given .1)) (weigh .ensures) _ (omega (arith, if1 .left)) (judge .ensures) (c .before .judged .given .1))
 
 judge-loop-again-2 : (t : ℕ) → judge-lts.Need-loop-again-2 (claims t) (judge-at t) judge.Post judge-Inv-loop judge-μ-loop
-judge-loop-again-2 t c = judge-inner (c .before .before .before .before .before .before .before .before .before .before .before .loop .inv) (weighs (c .before .before .before .before .before .before .before .before .weighed .given .1) (c .before .before .before .before .before .enum-told2 .given .1)) (c .before .before .before .before .before .before .before .before .before .before .weigh .ensures) _ (omega (arith, c .before .before .before .before .if1 .left)) (c .before .before .before .judge .ensures) (c .before .judged .given .1)
+judge-loop-again-2 t c =
+    let loop = c .before .before .before .before .before .before .before .before .before .before .before .loop in
+    let weighed = c .before .before .before .before .before .before .before .before .weighed in
+    let enum-told2 = c .before .before .before .before .before .enum-told2 in
+    let weigh = c .before .before .before .before .before .before .before .before .before .before .weigh in
+    let if1 = c .before .before .before .before .if1 in
+    let judge = c .before .before .before .judge in
+    judge-inner (loop .inv) (weighs (weighed .given .1) (enum-told2 .given .1)) (weigh .ensures) _ (omega (arith, if1 .left)) (judge .ensures) (c .before .judged .given .1)
 
 judge-enum-told-4 : (t : ℕ) → judge-lts.Need-enum-told-4 (claims t) (judge-at t) judge.Post judge-Inv-loop judge-μ-loop
 judge-enum-told-4 t c = c .match2 .keys3
 
 judge-returns-4 : (t : ℕ) → judge-lts.Need-returns-4 (claims t) (judge-at t) judge.Post judge-Inv-loop judge-μ-loop
-judge-returns-4 t c = judge-close (c .before .before .before .before .before .before .loop .inv) (weighs (c .before .before .before .weighed .given .1) (c .enum-told4 .given .1)) (c .before .before .before .before .before .weigh .ensures)
+judge-returns-4 t c =
+    let loop = c .before .before .before .before .before .before .loop in
+    let weighed = c .before .before .before .weighed in
+    let weigh = c .before .before .before .before .before .weigh in
+    judge-close (loop .inv) (weighs (weighed .given .1) (c .enum-told4 .given .1)) (weigh .ensures)
+
+judge-enum-told-5 : (t : ℕ) → judge-lts.Need-enum-told-5 (claims t) (judge-at t) judge.Post judge-Inv-loop judge-μ-loop
+judge-enum-told-5 t c = c .match2 .keys4
+
+judge-sub-t22 : (t : ℕ) → judge-lts.Need-sub-t22 (claims t) (judge-at t) judge.Post judge-Inv-loop judge-μ-loop
+judge-sub-t22 t c =
+    let pre = c .before .before .before .before .before .before .before .before .pre in
+    omega (arith, pre .1)
+
+judge-cast-t23 : (t : ℕ) → judge-lts.Need-cast-t23 (claims t) (judge-at t) judge.Post judge-Inv-loop judge-μ-loop
+judge-cast-t23 t c =
+    let pre = c .before .before .before .before .before .before .before .before .pre in
+    omega (arith, pre .1)
+
+judge-returns-5 : (t : ℕ) → judge-lts.Need-returns-5 (claims t) (judge-at t) judge.Post judge-Inv-loop judge-μ-loop
+judge-returns-5 t c =
+    let loop = c .before .before .before .before .before .before .loop in
+    let weighed = c .before .before .before .weighed in
+    let weigh = c .before .before .before .before .before .weigh in
+    judge-end (loop .inv) (weighs (weighed .given .1) (c .enum-told5 .given .1)) (weigh .ensures)
 
 pub +judge-spec : {M : Type 1} → statement M
 +judge-spec = close μ-judge λ t. judge-lts.spec (claims t)
@@ -157,3 +254,7 @@ pub +judge-spec : {M : Type 1} → statement M
     (judge-loop-again-2 t)
     (judge-enum-told-4 t)
     (judge-returns-4 t)
+    (judge-enum-told-5 t)
+    (judge-sub-t22 t)
+    (judge-cast-t23 t)
+    (judge-returns-5 t)

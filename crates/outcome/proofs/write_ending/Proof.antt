@@ -1,11 +1,11 @@
--- `write_ending` meets its contract: three endings are one text each, and a failure is written in its parts.
+-- `write_ending` meets its contract: three endings are one text each, an error and a token's fault are written in their parts.
 -- Assumes nothing.
 use native.Mathlib.Omega.{arith}
-use Rattle.ending.specs.declared.Ending.the-variants.{Finished, Stopped, OutOfFuel}
-use Rattle.ending.specs.Endings.{endingOf}
 use Rattle.semantics.specs.Outcome.{endingLines}
 use Rattle.semantics.specs.Text.{bytes}
-use Rattle.outcome.proofs.Commands.{ending-written, failed-room, failed-written}
+use Rattle.ending.specs.Endings.{endingOf}
+use Rattle.ending.specs.declared.Ending.the-variants.{Finished, Stopped, OutOfFuel}
+use Rattle.outcome.proofs.Commands.{ending-written, failed-room, failed-written, misread-written}
 use borrow.Author.Needs.{needs}
 use Rattle.outcome.proofs.write_ending.Statement.{statement}
 use Rattle.outcome.proofs.write_ending.Tie as tie
@@ -43,32 +43,44 @@ enum-known-ending c = c .match .keys4
 write-failure-requires : tie.Need-write-failure-requires
 write-failure-requires c κs = failed-room (c .before .before .before .before .before .before .before .before .pre) (c .before .before .ending .given .1)
 
+enum-known-ending-2 : tie.Need-enum-known-ending-2
+enum-known-ending-2 c = c .match .keys5
+
+write-misread-requires : tie.Need-write-misread-requires
+write-misread-requires c κs = omega (arith, c .before .before .before .before .before .before .before .before .pre .fits)
+
 same-length : tie.Need-same-length
 same-length c = c .before .before .copy .kept .0
 
 returns : tie.Need-returns
 unfolding endingLines endingOf bytes
-returns c = (ending-written Finished (λ names. c .before .before .copy .ensures) (c .before .before .before .before .before .enum-told .given .1), omega (arith, c .before .before .copy .ensures .end))
+returns c = ending-written Finished (λ names. c .before .before .copy .ensures) (c .before .before .before .before .before .enum-told .given .1)
 
 same-length-2 : tie.Need-same-length-2
 same-length-2 c = c .before .before .copy2 .kept .0
 
 returns-2 : tie.Need-returns-2
 unfolding endingLines endingOf bytes
-returns-2 c = (ending-written Stopped (λ names. c .before .before .copy2 .ensures) (c .before .before .before .before .before .enum-told2 .given .1), omega (arith, c .before .before .copy2 .ensures .end))
+returns-2 c = ending-written Stopped (λ names. c .before .before .copy2 .ensures) (c .before .before .before .before .before .enum-told2 .given .1)
 
 same-length-3 : tie.Need-same-length-3
 same-length-3 c = c .before .before .copy3 .kept .0
 
 returns-3 : tie.Need-returns-3
 unfolding endingLines endingOf bytes
-returns-3 c = (ending-written OutOfFuel (λ names. c .before .before .copy3 .ensures) (c .before .before .before .before .before .enum-told3 .given .1), omega (arith, c .before .before .copy3 .ensures .end))
+returns-3 c = ending-written OutOfFuel (λ names. c .before .before .copy3 .ensures) (c .before .before .before .before .before .enum-told3 .given .1)
 
 same-length-4 : tie.Need-same-length-4
 same-length-4 c = c .before .before .write-failure .kept .1 .1 .1 .1 .1 .0
 
 returns-4 : tie.Need-returns-4
-returns-4 c = (failed-written (c .before .before .before .before .before .ending .given .1) (c .before .before .write-failure .ensures .0), c .before .before .write-failure .ensures .1)
+returns-4 c = failed-written (c .before .before .before .before .before .ending .given .1) (c .before .before .write-failure .ensures)
+
+same-length-5 : tie.Need-same-length-5
+same-length-5 c = c .before .before .write-misread .kept .1 .0
+
+returns-5 : tie.Need-returns-5
+returns-5 c = misread-written (c .before .before .before .before .before .ending2 .given .1) (c .before .before .write-misread .ensures)
 
 pub write-ending-spec : {M : Type 1} → statement M
 write-ending-spec =
@@ -85,6 +97,8 @@ write-ending-spec =
     copy-requires-3
     enum-known-ending
     write-failure-requires
+    enum-known-ending-2
+    write-misread-requires
     same-length
     returns
     same-length-2
@@ -92,4 +106,6 @@ write-ending-spec =
     same-length-3
     returns-3
     same-length-4
-    returns-4)
+    returns-4
+    same-length-5
+    returns-5)

@@ -43,7 +43,7 @@ same-length c = length-set (c .before .before .write-command .last .1 .1 .1 .1 .
 
 returns : tie.Need-returns
 unfolding bytes
-returns c = (failure-written (c .before .before .before .before .before .before .before .before .before .before .before .before .before .before .before .before .before .before .before .before .before .before .pre) (c .before .before .before .before .before .before .before .before .before .before .before .before .before .before .before .copy .ensures) (c .before .before .before .before .before .before .before .before .before .before .before .before .before .before .before .copy .kept .0) (c .before .before .before .before .before .before .before .before .before .before .before .before .before .before .before .before .before .before .before .before .before .before .args .error) (c .before .before .before .before .before .before .before .before .before .before .before .write-error .ensures) (c .before .before .before .before .before .before .before .before .before .before .before .write-error .kept .0) (c .before .before .before .before .before .before .copy2 .ensures) (c .before .before .before .before .before .before .copy2 .kept .0) (c .before .before .write-command .ensures) (c .before .before .write-command .kept .1 .1 .1 .1 .0), after-few (c .before .before .before .before .before .before .before .before .before .before .before .before .before .before .before .before .before .before .before .before .before .before .pre) (c .before .before .before .before .before .before .before .before .before .before .before .before .before .before .before .copy .ensures) (c .before .before .before .before .before .before .before .before .before .before .before .before .before .before .before .copy .kept .0) (c .before .before .before .before .before .before .before .before .before .before .before .before .before .before .before .before .before .before .before .before .before .before .args .error) (c .before .before .before .before .before .before .before .before .before .before .before .write-error .ensures) (c .before .before .before .before .before .before .before .before .before .before .before .write-error .kept .0) (c .before .before .before .before .before .before .copy2 .ensures) (c .before .before .before .before .before .before .copy2 .kept .0) (c .before .before .write-command .ensures) (c .before .before .write-command .kept .1 .1 .1 .1 .0))
+returns c = failure-written (c .before .before .before .before .before .before .before .before .before .before .before .before .before .before .before .before .before .before .before .before .before .before .pre) (c .before .before .before .before .before .before .before .before .before .before .before .before .before .before .before .copy .ensures) (c .before .before .before .before .before .before .before .before .before .before .before .before .before .before .before .copy .kept .0) (c .before .before .before .before .before .before .before .before .before .before .before .before .before .before .before .before .before .before .before .before .before .before .args .error) (c .before .before .before .before .before .before .before .before .before .before .before .write-error .ensures) (c .before .before .before .before .before .before .before .before .before .before .before .write-error .kept .0) (c .before .before .before .before .before .before .copy2 .ensures) (c .before .before .before .before .before .before .copy2 .kept .0) (c .before .before .write-command .ensures) (c .before .before .write-command .kept .1 .1 .1 .1 .0)
 
 pub write-failure-spec : {M : Type 1} → statement M
 write-failure-spec =

@@ -1,7 +1,7 @@
 -- `advance` meets its contract: the loop keeps `Running`, and each way out is a law of it. The measure is the fuel that is left.
 -- Assumes nothing.
 use borrow.Author.Needs.{needs}
-use Rattle.run_loop.proofs.Running.{Running, begin, ends-from, ready, end-finished, end-spent, end-stopped, goes-less, go-on, end-failed, Went, went-by}
+use Rattle.run_loop.proofs.Running.{Running, begin, ends-from, ready, end-finished, end-spent, end-stopped, goes-less, go-on, end-failed, end-misread, Went, went-by}
 use Rattle.run_loop.specs.History.{moment}
 use Rattle.step.proofs.FrameSteps.{token-steps}
 use native.Mathlib.Omega.{arith}
@@ -40,13 +40,17 @@ went j =
     }) (w .17) (w .18) (w .19) (w .20) (w .21) (w .22)) (j .if3 .came)
 
 add-limit : tie.Need-add-limit Inv-loop μ-loop
-add-limit c = omega (arith, c .before .before .before .before .before .before .before .pre .fueled)
+add-limit c =
+    let pre = c .before .before .before .before .before .before .before .pre in
+    omega (arith, pre .fueled)
 
 by-fields-requires : tie.Need-by-fields-requires Inv-loop μ-loop
 by-fields-requires c κs = search needs
 
 loop-holds : tie.Need-loop-holds Inv-loop μ-loop
-loop-holds c = begin (c .before .before .before .before .before .before .before .before .pre) (c .by-fields .ensures)
+loop-holds c =
+    let pre = c .before .before .before .before .before .before .before .before .pre in
+    begin (pre) (c .by-fields .ensures)
 
 is-finished-requires : tie.Need-is-finished-requires Inv-loop μ-loop
 is-finished-requires c κs = c .loop .inv .inside
@@ -55,97 +59,220 @@ finish-requires : tie.Need-finish-requires Inv-loop μ-loop
 finish-requires c κs = search needs
 
 same-length : tie.Need-same-length Inv-loop μ-loop
-same-length c = c .before .before .before .loop .inv .ls
+same-length c =
+    let loop = c .before .before .before .loop in
+    loop .inv .ls
 
 same-length-2 : tie.Need-same-length-2 Inv-loop μ-loop
-same-length-2 c = c .before .before .before .loop .inv .le
+same-length-2 c =
+    let loop = c .before .before .before .loop in
+    loop .inv .le
 
 same-length-3 : tie.Need-same-length-3 Inv-loop μ-loop
-same-length-3 c = c .before .before .before .loop .inv .ld
+same-length-3 c =
+    let loop = c .before .before .before .loop in
+    loop .inv .ld
 
 same-length-4 : tie.Need-same-length-4 Inv-loop μ-loop
-same-length-4 c = c .before .before .before .loop .inv .lc
+same-length-4 c =
+    let loop = c .before .before .before .loop in
+    loop .inv .lc
 
 same-length-5 : tie.Need-same-length-5 Inv-loop μ-loop
-same-length-5 c = c .before .before .before .loop .inv .ll
+same-length-5 c =
+    let loop = c .before .before .before .loop in
+    loop .inv .ll
 
 returns : tie.Need-returns Inv-loop μ-loop
-returns c = ends-from (c .before .before .before .before .by-fields .ensures) (end-finished (c .before .before .before .loop .inv) (c .before .before .is-finished .ensures) (c .before .if1 .taken) (c .finish .ensures))
+returns c =
+    let by-fields = c .before .before .before .before .by-fields in
+    let loop = c .before .before .before .loop in
+    let is-finished = c .before .before .is-finished in
+    ends-from (by-fields .ensures) (end-finished (loop .inv) (is-finished .ensures) (c .before .if1 .taken) (c .finish .ensures))
 
 same-length-6 : tie.Need-same-length-6 Inv-loop μ-loop
-same-length-6 c = c .before .before .before .before .loop .inv .ls
+same-length-6 c =
+    let loop = c .before .before .before .before .loop in
+    loop .inv .ls
 
 same-length-7 : tie.Need-same-length-7 Inv-loop μ-loop
-same-length-7 c = c .before .before .before .before .loop .inv .le
+same-length-7 c =
+    let loop = c .before .before .before .before .loop in
+    loop .inv .le
 
 same-length-8 : tie.Need-same-length-8 Inv-loop μ-loop
-same-length-8 c = c .before .before .before .before .loop .inv .ld
+same-length-8 c =
+    let loop = c .before .before .before .before .loop in
+    loop .inv .ld
 
 same-length-9 : tie.Need-same-length-9 Inv-loop μ-loop
-same-length-9 c = c .before .before .before .before .loop .inv .lc
+same-length-9 c =
+    let loop = c .before .before .before .before .loop in
+    loop .inv .lc
 
 same-length-10 : tie.Need-same-length-10 Inv-loop μ-loop
-same-length-10 c = c .before .before .before .before .loop .inv .ll
+same-length-10 c =
+    let loop = c .before .before .before .before .loop in
+    loop .inv .ll
 
 returns-2 : tie.Need-returns-2 Inv-loop μ-loop
-returns-2 c = ends-from (c .before .before .before .before .before .by-fields .ensures) (end-spent (c .before .before .before .before .loop .inv) (c .before .before .before .is-finished .ensures) (c .before .before .if1 .left) (omega (arith, c .if2 .taken, ap (λ σ. σ .steps) (c .before .before .before .before .before .by-fields .ensures))))
+returns-2 c =
+    let by-fields = c .before .before .before .before .before .by-fields in
+    let loop = c .before .before .before .before .loop in
+    let is-finished = c .before .before .before .is-finished in
+    let if1 = c .before .before .if1 in
+    ends-from (by-fields .ensures) (end-spent (loop .inv) (is-finished .ensures) (if1 .left) (omega (arith, c .if2 .taken, ap (λ σ. σ .steps) (by-fields .ensures))))
 
 take-requires : tie.Need-take-requires Inv-loop μ-loop
-take-requires c κs = (_, ready (c .before .before .before .before .before .before .before .before .before .before .before .loop .inv) (omega (arith, c .before .before .before .before .before .before .before .before .before .before .before .loop .inv .count, c .before .before .before .before .before .before .before .if2 .left, ap (λ σ. σ .steps) (c .before .before .before .before .before .before .before .before .before .before .before .before .by-fields .ensures))), c .before .before .before .before .if3 .taken)
+take-requires c κs =
+    let loop = c .before .before .before .before .before .before .before .before .before .before .before .loop in
+    let if2 = c .before .before .before .before .before .before .before .if2 in
+    let by-fields = c .before .before .before .before .before .before .before .before .before .before .before .before .by-fields in
+    let if3 = c .before .before .before .before .if3 in
+    (_, ready (loop .inv) (omega (arith, loop .inv .count, if2 .left, ap (λ σ. σ .steps) (by-fields .ensures))), if3 .taken)
 
 resume-requires : tie.Need-resume-requires Inv-loop μ-loop
-resume-requires c κs = (omega (arith, c .before .before .before .before .before .if3 .left), (_, ready (c .before .before .before .before .before .before .before .before .before .before .before .before .loop .inv) (omega (arith, c .before .before .before .before .before .before .before .before .before .before .before .before .loop .inv .count, c .before .before .before .before .before .before .before .before .if2 .left, ap (λ σ. σ .steps) (c .before .before .before .before .before .before .before .before .before .before .before .before .before .by-fields .ensures)))))
+resume-requires c κs =
+    let if3 = c .before .before .before .before .before .if3 in
+    let loop = c .before .before .before .before .before .before .before .before .before .before .before .before .loop in
+    let if2 = c .before .before .before .before .before .before .before .before .if2 in
+    let by-fields = c .before .before .before .before .before .before .before .before .before .before .before .before .before .by-fields in
+    (omega (arith, if3 .left), (_, ready (loop .inv) (omega (arith, loop .inv .count, if2 .left, ap (λ σ. σ .steps) (by-fields .ensures)))))
 
 enum-known-stepped : tie.Need-enum-known-stepped Inv-loop μ-loop
 enum-known-stepped c = c .match .keys1
 
 same-length-11 : tie.Need-same-length-11 Inv-loop μ-loop
-same-length-11 c = went (c .before .before .before .before .before) .ls ∙ c .before .before .before .before .before .before .before .before .before .before .before .before .loop .inv .ls
+same-length-11 c =
+    let loop = c .before .before .before .before .before .before .before .before .before .before .before .before .loop in
+    went (c .before .before .before .before .before) .ls ∙ loop .inv .ls
 
 same-length-12 : tie.Need-same-length-12 Inv-loop μ-loop
-same-length-12 c = went (c .before .before .before .before .before) .le ∙ c .before .before .before .before .before .before .before .before .before .before .before .before .loop .inv .le
+same-length-12 c =
+    let loop = c .before .before .before .before .before .before .before .before .before .before .before .before .loop in
+    went (c .before .before .before .before .before) .le ∙ loop .inv .le
 
 same-length-13 : tie.Need-same-length-13 Inv-loop μ-loop
-same-length-13 c = went (c .before .before .before .before .before) .ld ∙ c .before .before .before .before .before .before .before .before .before .before .before .before .loop .inv .ld
+same-length-13 c =
+    let loop = c .before .before .before .before .before .before .before .before .before .before .before .before .loop in
+    went (c .before .before .before .before .before) .ld ∙ loop .inv .ld
 
 same-length-14 : tie.Need-same-length-14 Inv-loop μ-loop
-same-length-14 c = went (c .before .before .before .before .before) .lc ∙ c .before .before .before .before .before .before .before .before .before .before .before .before .loop .inv .lc
+same-length-14 c =
+    let loop = c .before .before .before .before .before .before .before .before .before .before .before .before .loop in
+    went (c .before .before .before .before .before) .lc ∙ loop .inv .lc
 
 same-length-15 : tie.Need-same-length-15 Inv-loop μ-loop
-same-length-15 c = went (c .before .before .before .before .before) .ll ∙ c .before .before .before .before .before .before .before .before .before .before .before .before .loop .inv .ll
+same-length-15 c =
+    let loop = c .before .before .before .before .before .before .before .before .before .before .before .before .loop in
+    went (c .before .before .before .before .before) .ll ∙ loop .inv .ll
 
 returns-3 : tie.Need-returns-3 Inv-loop μ-loop
-returns-3 c = ends-from (c .before .before .before .before .before .before .before .before .before .before .before .before .before .by-fields .ensures) (end-stopped (c .before .before .before .before .before .before .before .before .before .before .before .before .loop .inv) (c .before .before .before .before .before .before .before .before .before .before .before .is-finished .ensures) (c .before .before .before .before .before .before .before .before .before .before .if1 .left) (omega (arith, c .before .before .before .before .before .before .before .before .before .before .before .before .loop .inv .count, c .before .before .before .before .before .before .before .before .if2 .left, ap (λ σ. σ .steps) (c .before .before .before .before .before .before .before .before .before .before .before .before .before .by-fields .ensures))) (went (c .before .before .before .before .before)) (c .before .before .before .stepped .given .1) (c .if4 .taken))
+returns-3 c =
+    let by-fields = c .before .before .before .before .before .before .before .before .before .before .before .before .before .by-fields in
+    let loop = c .before .before .before .before .before .before .before .before .before .before .before .before .loop in
+    let is-finished = c .before .before .before .before .before .before .before .before .before .before .before .is-finished in
+    let if1 = c .before .before .before .before .before .before .before .before .before .before .if1 in
+    let if2 = c .before .before .before .before .before .before .before .before .if2 in
+    let stepped = c .before .before .before .stepped in
+    ends-from (by-fields .ensures) (end-stopped (loop .inv) (is-finished .ensures) (if1 .left) (omega (arith, loop .inv .count, if2 .left, ap (λ σ. σ .steps) (by-fields .ensures))) (went (c .before .before .before .before .before)) (stepped .given .1) (c .if4 .taken))
 
 by-fields-requires-2 : tie.Need-by-fields-requires-2 Inv-loop μ-loop
 by-fields-requires-2 c κs = search needs
 
 loop-less : tie.Need-loop-less Inv-loop μ-loop
-loop-less c = goes-less (c .before .before .before .before .before .before .before .before .before .before .before .before .before .loop .inv) (c .before .before .before .before .before .before .before .before .before .before .before .before .is-finished .ensures) (c .before .before .before .before .before .before .before .before .before .before .before .if1 .left) (omega (arith, c .before .before .before .before .before .before .before .before .before .before .before .before .before .loop .inv .count, c .before .before .before .before .before .before .before .before .before .if2 .left, ap (λ σ. σ .steps) (c .before .before .before .before .before .before .before .before .before .before .before .before .before .before .by-fields .ensures))) (went (c .before .before .before .before .before .before)) (c .before .before .before .before .stepped .given .1) (c .by-fields2 .ensures)
+loop-less c =
+    let loop = c .before .before .before .before .before .before .before .before .before .before .before .before .before .loop in
+    let is-finished = c .before .before .before .before .before .before .before .before .before .before .before .before .is-finished in
+    let if1 = c .before .before .before .before .before .before .before .before .before .before .before .if1 in
+    let if2 = c .before .before .before .before .before .before .before .before .before .if2 in
+    let by-fields = c .before .before .before .before .before .before .before .before .before .before .before .before .before .before .by-fields in
+    let stepped = c .before .before .before .before .stepped in
+    goes-less (loop .inv) (is-finished .ensures) (if1 .left) (omega (arith, loop .inv .count, if2 .left, ap (λ σ. σ .steps) (by-fields .ensures))) (went (c .before .before .before .before .before .before)) (stepped .given .1) (c .by-fields2 .ensures)
 
 loop-again : tie.Need-loop-again Inv-loop μ-loop
-loop-again c = let w = went (c .before .before .before .before .before .before) in go-on (c .before .before .before .before .before .before .before .before .before .before .before .before .before .loop .inv) (c .before .before .before .before .before .before .before .before .before .before .before .before .is-finished .ensures) (c .before .before .before .before .before .before .before .before .before .before .before .if1 .left) (omega (arith, c .before .before .before .before .before .before .before .before .before .before .before .before .before .loop .inv .count, c .before .before .before .before .before .before .before .before .before .if2 .left, ap (λ σ. σ .steps) (c .before .before .before .before .before .before .before .before .before .before .before .before .before .before .by-fields .ensures))) w (c .before .before .before .before .stepped .given .1) (c .by-fields2 .ensures) (c .before .if4 .left)
+loop-again c =
+    let loop = c .before .before .before .before .before .before .before .before .before .before .before .before .before .loop in
+    let is-finished = c .before .before .before .before .before .before .before .before .before .before .before .before .is-finished in
+    let if1 = c .before .before .before .before .before .before .before .before .before .before .before .if1 in
+    let if2 = c .before .before .before .before .before .before .before .before .before .if2 in
+    let by-fields = c .before .before .before .before .before .before .before .before .before .before .before .before .before .before .by-fields in
+    let stepped = c .before .before .before .before .stepped in
+    let w = went (c .before .before .before .before .before .before) in go-on (loop .inv) (is-finished .ensures) (if1 .left) (omega (arith, loop .inv .count, if2 .left, ap (λ σ. σ .steps) (by-fields .ensures))) w (stepped .given .1) (c .by-fields2 .ensures) (c .before .if4 .left)
 
 enum-known-stepped-2 : tie.Need-enum-known-stepped-2 Inv-loop μ-loop
 enum-known-stepped-2 c = c .match .keys2
 
 same-length-16 : tie.Need-same-length-16 Inv-loop μ-loop
-same-length-16 c = went (c .before .before .before) .ls ∙ c .before .before .before .before .before .before .before .before .before .before .loop .inv .ls
+same-length-16 c =
+    let loop = c .before .before .before .before .before .before .before .before .before .before .loop in
+    went (c .before .before .before) .ls ∙ loop .inv .ls
 
 same-length-17 : tie.Need-same-length-17 Inv-loop μ-loop
-same-length-17 c = went (c .before .before .before) .le ∙ c .before .before .before .before .before .before .before .before .before .before .loop .inv .le
+same-length-17 c =
+    let loop = c .before .before .before .before .before .before .before .before .before .before .loop in
+    went (c .before .before .before) .le ∙ loop .inv .le
 
 same-length-18 : tie.Need-same-length-18 Inv-loop μ-loop
-same-length-18 c = went (c .before .before .before) .ld ∙ c .before .before .before .before .before .before .before .before .before .before .loop .inv .ld
+same-length-18 c =
+    let loop = c .before .before .before .before .before .before .before .before .before .before .loop in
+    went (c .before .before .before) .ld ∙ loop .inv .ld
 
 same-length-19 : tie.Need-same-length-19 Inv-loop μ-loop
-same-length-19 c = went (c .before .before .before) .lc ∙ c .before .before .before .before .before .before .before .before .before .before .loop .inv .lc
+same-length-19 c =
+    let loop = c .before .before .before .before .before .before .before .before .before .before .loop in
+    went (c .before .before .before) .lc ∙ loop .inv .lc
 
 same-length-20 : tie.Need-same-length-20 Inv-loop μ-loop
-same-length-20 c = went (c .before .before .before) .ll ∙ c .before .before .before .before .before .before .before .before .before .before .loop .inv .ll
+same-length-20 c =
+    let loop = c .before .before .before .before .before .before .before .before .before .before .loop in
+    went (c .before .before .before) .ll ∙ loop .inv .ll
 
 returns-4 : tie.Need-returns-4 Inv-loop μ-loop
-returns-4 c = ends-from (c .before .before .before .before .before .before .before .before .before .before .before .by-fields .ensures) (end-failed (c .before .before .before .before .before .before .before .before .before .before .loop .inv) (c .before .before .before .before .before .before .before .before .before .is-finished .ensures) (c .before .before .before .before .before .before .before .before .if1 .left) (omega (arith, c .before .before .before .before .before .before .before .before .before .before .loop .inv .count, c .before .before .before .before .before .before .if2 .left, ap (λ σ. σ .steps) (c .before .before .before .before .before .before .before .before .before .before .before .by-fields .ensures))) (went (c .before .before .before)) (c .before .stepped2 .given .1))
+returns-4 c =
+    let by-fields = c .before .before .before .before .before .before .before .before .before .before .before .by-fields in
+    let loop = c .before .before .before .before .before .before .before .before .before .before .loop in
+    let is-finished = c .before .before .before .before .before .before .before .before .before .is-finished in
+    let if1 = c .before .before .before .before .before .before .before .before .if1 in
+    let if2 = c .before .before .before .before .before .before .if2 in
+    ends-from (by-fields .ensures) (end-failed (loop .inv) (is-finished .ensures) (if1 .left) (omega (arith, loop .inv .count, if2 .left, ap (λ σ. σ .steps) (by-fields .ensures))) (went (c .before .before .before)) (c .before .stepped2 .given .1))
+
+enum-known-stepped-3 : tie.Need-enum-known-stepped-3 Inv-loop μ-loop
+enum-known-stepped-3 c = c .match .keys3
+
+same-length-21 : tie.Need-same-length-21 Inv-loop μ-loop
+same-length-21 c =
+    let loop = c .before .before .before .before .before .before .before .before .before .before .loop in
+    went (c .before .before .before) .ls ∙ loop .inv .ls
+
+same-length-22 : tie.Need-same-length-22 Inv-loop μ-loop
+same-length-22 c =
+    let loop = c .before .before .before .before .before .before .before .before .before .before .loop in
+    went (c .before .before .before) .le ∙ loop .inv .le
+
+same-length-23 : tie.Need-same-length-23 Inv-loop μ-loop
+same-length-23 c =
+    let loop = c .before .before .before .before .before .before .before .before .before .before .loop in
+    went (c .before .before .before) .ld ∙ loop .inv .ld
+
+same-length-24 : tie.Need-same-length-24 Inv-loop μ-loop
+same-length-24 c =
+    let loop = c .before .before .before .before .before .before .before .before .before .before .loop in
+    went (c .before .before .before) .lc ∙ loop .inv .lc
+
+same-length-25 : tie.Need-same-length-25 Inv-loop μ-loop
+same-length-25 c =
+    let loop = c .before .before .before .before .before .before .before .before .before .before .loop in
+    went (c .before .before .before) .ll ∙ loop .inv .ll
+
+returns-5 : tie.Need-returns-5 Inv-loop μ-loop
+returns-5 c =
+    let by-fields = c .before .before .before .before .before .before .before .before .before .before .before .by-fields in
+    let loop = c .before .before .before .before .before .before .before .before .before .before .loop in
+    let is-finished = c .before .before .before .before .before .before .before .before .before .is-finished in
+    let if1 = c .before .before .before .before .before .before .before .before .if1 in
+    let if2 = c .before .before .before .before .before .before .if2 in
+    ends-from (by-fields .ensures) (end-misread (loop .inv) (is-finished .ensures) (if1 .left) (omega (arith, loop .inv .count, if2 .left, ap (λ σ. σ .steps) (by-fields .ensures))) (went (c .before .before .before)) (c .before .stepped3 .given .1))
 
 pub advance-spec : {M : Type 1} → statement M
 advance-spec =
@@ -188,4 +315,11 @@ advance-spec =
     same-length-18
     same-length-19
     same-length-20
-    returns-4)
+    returns-4
+    enum-known-stepped-3
+    same-length-21
+    same-length-22
+    same-length-23
+    same-length-24
+    same-length-25
+    returns-5)

@@ -17,10 +17,10 @@ abbrev μ-loop : tie.MeasureT-loop
 loop-holds : tie.Need-loop-holds Inv-loop μ-loop
 loop-holds c =
     let start = c .before .before in
-    begin (start .pre .0) (start .pre .1)
+    begin (start .pre .1) (start .pre .2)
 
 meet-requires : tie.Need-meet-requires Inv-loop μ-loop
-meet-requires c κs = ahead (c .before .loop .inv) (c .loop-test .taken)
+meet-requires c κs = (c .before .before .before .before .pre .0, ahead (c .before .loop .inv) (c .loop-test .taken))
 
 enum-known-met : tie.Need-enum-known-met Inv-loop μ-loop
 enum-known-met c = c .match .keys1

@@ -4,6 +4,7 @@ use mathlib.Core.Path.{subst}
 use Rattle.token.specs.Lexing.{LexedAt}
 use Rattle.token.proofs.Readings.{too-long, past-end, ordered, located-fault, located-token}
 use borrow.Author.Needs.{needs}
+use native.Mathlib.Omega.{arith}
 use Rattle.token.proofs.locate.Statement.{statement}
 use Rattle.token.proofs.locate.Tie as tie
 
@@ -17,7 +18,9 @@ skip-requires : tie.Need-skip-requires
 skip-requires c κs = search needs
 
 token-at-requires : tie.Need-token-at-requires
-token-at-requires c κs = c .skip .ensures .1
+token-at-requires c κs =
+    let if1 = c .before .before .if1 in
+    (c .skip .ensures .1, omega (arith, if1 .left))
 
 enum-known-lexed : tie.Need-enum-known-lexed
 enum-known-lexed c = c .match .keys1
@@ -41,24 +44,21 @@ own-part-requires : tie.Need-own-part-requires
 own-part-requires c κs =
     let args = c .before .before .before .before .before .before .before .before .args in
     let skip = c .before .before .before .before .skip in
+    let lexed = c .before .lexed in
     let token-at = c .before .before .before .token-at in
-    let script = args .script .now in
-    let start = skip .result in
-    ordered script start (c .before .lexed .given .0 .1 .0) (c .before .lexed .given .0 .0)
-    (subst (LexedAt script start) (c .before .lexed .given .1) (token-at .ensures))
+    ordered (args .script .now) (skip .result) (lexed .given .0 .1 .0) (lexed .given .0 .0)
+    (subst (LexedAt (args .script .now) (skip .result)) (lexed .given .1) (token-at .ensures))
 
 returns-4 : tie.Need-returns-4
 returns-4 c =
-    let args = c .before .before .before .before .before .before .before .before .before .args in
-    let skip = c .before .before .before .before .before .skip in
     let if1 = c .before .before .before .before .before .before .before .if1 in
     let if2 = c .before .before .before .before .before .before .if2 in
+    let skip = c .before .before .before .before .before .skip in
     let lexed = c .before .before .lexed in
+    let args = c .before .before .before .before .before .before .before .before .before .args in
     let token-at = c .before .before .before .before .token-at in
-    let script = args .script .now in
-    let start = skip .result in
     located-token (record { short = if1 .left; known = if2 .left; begins = skip .ensures .0 }) (lexed .given .0 .1 .0) (lexed .given .0 .0) _
-    (subst (LexedAt script start) (lexed .given .1) (token-at .ensures)) (c .own-part .ensures)
+    (subst (LexedAt (args .script .now) (skip .result)) (lexed .given .1) (token-at .ensures)) (c .own-part .ensures)
 
 pub locate-spec : {M : Type 1} → statement M
 locate-spec =

@@ -2,13 +2,14 @@
 -- Assumes nothing.
 use Rattle.token.proofs.Lexemes.{of-class, end-token, other-fault, bracket-token, open-token, close-token}
 use borrow.Author.Needs.{needs}
+use native.Mathlib.Omega.{arith}
 use Rattle.token.proofs.token_at.Statement.{statement}
 use Rattle.token.proofs.token_at.Tie as tie
 
 returns : tie.Need-returns
 returns c =
     let pre = c .before .before .pre in
-    end-token pre (c .if1 .taken)
+    end-token (pre .0) (c .if1 .taken)
 
 shared-slice-read-class-of : tie.Need-shared-slice-read-class-of
 shared-slice-read-class-of c = search needs
@@ -23,7 +24,8 @@ word-at-requires : tie.Need-word-at-requires
 word-at-requires c κs =
     let if1 = c .before .before .before .before .if1 in
     let class-of = c .before .before .class-of in
-    of-class (if1 .left) (class-of .ensures) _ (c .enum-told .given .1)
+    let pre = c .before .before .before .before .before .before .pre in
+    (of-class (if1 .left) (class-of .ensures) _ (c .enum-told .given .1), pre .1)
 
 enum-told-2 : tie.Need-enum-told-2
 enum-told-2 c = c .match .keys2
@@ -50,7 +52,8 @@ string-at-requires : tie.Need-string-at-requires
 string-at-requires c κs =
     let if1 = c .before .before .before .before .if1 in
     let class-of = c .before .before .class-of in
-    of-class (if1 .left) (class-of .ensures) _ (c .enum-told5 .given .1)
+    let pre = c .before .before .before .before .before .before .pre in
+    (of-class (if1 .left) (class-of .ensures) _ (c .enum-told5 .given .1), pre .1)
 
 enum-told-6 : tie.Need-enum-told-6
 enum-told-6 c = c .match .keys6
@@ -59,10 +62,17 @@ literal-at-requires : tie.Need-literal-at-requires
 literal-at-requires c κs =
     let if1 = c .before .before .before .before .if1 in
     let class-of = c .before .before .class-of in
-    of-class (if1 .left) (class-of .ensures) _ (c .enum-told6 .given .1)
+    let pre = c .before .before .before .before .before .before .pre in
+    (of-class (if1 .left) (class-of .ensures) _ (c .enum-told6 .given .1), pre .1)
 
 enum-told-7 : tie.Need-enum-told-7
 enum-told-7 c = c .match .keys7
+
+cast-t16 : tie.Need-cast-t16
+cast-t16 c =
+    let if1 = c .before .before .before .before .if1 in
+    let pre = c .before .before .before .before .before .before .pre in
+    omega (arith, if1 .left, pre .1)
 
 returns-2 : tie.Need-returns-2
 returns-2 c = c .word-at .ensures
@@ -117,6 +127,7 @@ token-at-spec =
     enum-told-6
     literal-at-requires
     enum-told-7
+    cast-t16
     returns-2
     returns-3
     returns-4

@@ -1,7 +1,7 @@
 -- `token::numbers::numeral_at` meets its contract. The loop's invariant: the digits left, with n for those before, give the same answer.
 -- Assumes nothing.
 use mathlib.Core.Path.{_≡_}
-use Prim.Native.Nat.{_-_, _≤_}
+use Prim.Native.Nat.{_+_, _-_, _≤_}
 use lib.ListN.{length, drop}
 use Rattle.token.specs.Numbers.{numeral}
 use Rattle.token.proofs.Digits.{judged, numeral-none, numeral-start, numeral-bad, numeral-turn, numeral-over, numeral-end}
@@ -11,16 +11,22 @@ use Rattle.token.proofs.numbers.numeral_at.Statement.{statement}
 use Rattle.token.proofs.numbers.numeral_at.Tie as tie
 
 abbrev Inv-loop : tie.InvT-loop
-Inv-loop s at base limit i₀ n₀ i n = (i ≤ length s) × (numeral base limit (drop at s) ≡ judged base limit n (drop i s))
+Inv-loop s start at base limit i₀ n₀ i n = (i ≤ length s) × (numeral base limit (start + at) (drop at s) ≡ judged base limit (start + i) n (drop i s))
 
 abbrev μ-loop : tie.MeasureT-loop
-μ-loop s at base limit i₀ n₀ i n = length s - i
+μ-loop s start at base limit i₀ n₀ i n = length s - i
+
+add-t11 : tie.Need-add-t11 Inv-loop μ-loop
+add-t11 c = omega arith
+
+cast-t12 : tie.Need-cast-t12 Inv-loop μ-loop
+cast-t12 c = omega arith
 
 returns : tie.Need-returns Inv-loop μ-loop
-returns c = numeral-none _ _ _ _ (c .if1 .taken)
+returns c = numeral-none _ _ _ _ _ (c .if1 .taken)
 
 loop-holds : tie.Need-loop-holds Inv-loop μ-loop
-loop-holds c = (omega arith, numeral-start _ _ _ _ (c .if1 .left))
+loop-holds c = (omega arith, numeral-start _ _ _ _ _ (c .if1 .left))
 
 shared-slice-read-digit : tie.Need-shared-slice-read-digit Inv-loop μ-loop
 shared-slice-read-digit c = search needs
@@ -28,11 +34,17 @@ shared-slice-read-digit c = search needs
 digit-requires : tie.Need-digit-requires Inv-loop μ-loop
 digit-requires c κs = tt
 
+add-t18 : tie.Need-add-t18 Inv-loop μ-loop
+add-t18 c = omega arith
+
+cast-t19 : tie.Need-cast-t19 Inv-loop μ-loop
+cast-t19 c = omega arith
+
 returns-2 : tie.Need-returns-2 Inv-loop μ-loop
 returns-2 c =
     let loop = c .before .before .before .before .loop in
     let loop-test = c .before .before .before .loop-test in
-    numeral-bad _ _ _ _ _ _ (loop .inv .1) _ (loop-test .taken) (c .before .digit .ensures) (c .if2 .taken)
+    numeral-bad _ _ _ _ _ _ _ (loop .inv .1) _ (loop-test .taken) (c .before .digit .ensures) (c .if2 .taken)
 
 with-digit-requires : tie.Need-with-digit-requires Inv-loop μ-loop
 with-digit-requires c κs =
@@ -52,21 +64,21 @@ loop-again c =
     let loop-test = c .before .before .before .before .loop-test in
     let digit = c .before .before .digit in (
       omega arith,
-      numeral-turn _ _ _ _ _ _ (loop .inv .1) _ _ (pre .1) (loop-test .taken) (digit .ensures) (c .before .if2 .left) (c .with-digit .ensures),
+      numeral-turn _ _ _ _ _ _ _ (loop .inv .1) _ _ (pre .1) (loop-test .taken) (digit .ensures) (c .before .if2 .left) (c .with-digit .ensures),
     )
 
 returns-3 : tie.Need-returns-3 Inv-loop μ-loop
 returns-3 c =
     let loop = c .before .before .loop in
-    numeral-over _ _ _ _ _ _ (loop .inv .1) (c .before .loop-test .left) (c .if3 .taken)
+    numeral-over _ _ _ _ _ _ _ (loop .inv .1) (c .before .loop-test .left) (c .if3 .taken)
 
-cast-t17 : tie.Need-cast-t17 Inv-loop μ-loop
-cast-t17 c = omega arith
+cast-t22 : tie.Need-cast-t22 Inv-loop μ-loop
+cast-t22 c = omega arith
 
 returns-4 : tie.Need-returns-4 Inv-loop μ-loop
 returns-4 c =
     let loop = c .before .before .loop in
-    numeral-end _ _ _ _ _ _ (loop .inv .1) (c .before .loop-test .left) (c .if3 .left)
+    numeral-end _ _ _ _ _ _ _ (loop .inv .1) (c .before .loop-test .left) (c .if3 .left)
 
 pub numeral-at-spec : {M : Type 1} → statement M
 numeral-at-spec =
@@ -74,15 +86,19 @@ numeral-at-spec =
     (tie.spec
     Inv-loop
     μ-loop
+    add-t11
+    cast-t12
     returns
     loop-holds
     shared-slice-read-digit
     digit-requires
+    add-t18
+    cast-t19
     returns-2
     with-digit-requires
     add-i
     loop-less
     loop-again
     returns-3
-    cast-t17
+    cast-t22
     returns-4)

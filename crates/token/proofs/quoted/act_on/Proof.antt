@@ -2,7 +2,10 @@
 -- Assumes nothing.
 use mathlib.Core.Path.{_∙_}
 use Rattle.token.proofs.Classes.{within-low}
-use Rattle.token.proofs.Escapes.{return-break, return-plain, nothing-plain, octal-bad, octal-second}
+use Rattle.token.proofs.Escapes.{return-break, return-plain, nothing-plain, octal-broken, octal-second}
+use mathlib.Core.Path.{_∙_, subst}
+use Rattle.token.specs.Strings.{metIs, Small}
+use native.Mathlib.Omega.{arith}
 use Rattle.token.proofs.quoted.act_on.Statement.{statement}
 use Rattle.token.proofs.quoted.act_on.Tie as tie
 
@@ -42,11 +45,16 @@ returns-2 c =
     let args = c .before .before .before .before .before .args in
     rw (met .given .1) (octal-second (args .b) _ (c .before .is-octal .ensures) _ (c .if2 .taken))
 
+broken-off-requires : tie.Need-broken-off-requires
+broken-off-requires c κs = tt
+
 enum-known-met-2 : tie.Need-enum-known-met-2
 enum-known-met-2 c = c .match .keys5
 
 third-digit-requires : tie.Need-third-digit-requires
-third-digit-requires c κs = tt
+third-digit-requires c κs =
+    let pre = c .before .before .before .pre in
+    omega (arith, subst (λ m. Small (metIs m)) (c .before .met2 .given .1) (pre))
 
 returns-3 : tie.Need-returns-3
 returns-3 c = rw (c .before .enum-told .given .1) (c .plain-act .ensures ∙ nothing-plain _)
@@ -61,9 +69,10 @@ returns-5 c =
 
 returns-6 : tie.Need-returns-6
 returns-6 c =
-    let met = c .before .before .before .met in
-    let args = c .before .before .before .before .before .args in
-    rw (met .given .1) (octal-bad (args .b) _ (c .before .is-octal .ensures) 2 _ (c .if2 .left))
+    let met = c .before .before .before .before .met in
+    let args = c .before .before .before .before .before .before .args in
+    let is-octal = c .before .before .is-octal in
+    rw (met .given .1) (c .broken-off .ensures ∙ octal-broken (args .b) _ (is-octal .ensures) 2 _ (c .before .if2 .left))
 
 returns-7 : tie.Need-returns-7
 returns-7 c =
@@ -85,6 +94,7 @@ act-on-spec =
     is-octal-requires
     sub-t10
     returns-2
+    broken-off-requires
     enum-known-met-2
     third-digit-requires
     returns-3

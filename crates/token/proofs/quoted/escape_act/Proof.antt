@@ -22,11 +22,11 @@ returns-4 : tie.Need-returns-4
 unfolding act
 returns-4 c = rw (c .if4 .taken)
 
-is-octal-requires : tie.Need-is-octal-requires
-is-octal-requires c κs = tt
+within-requires : tie.Need-within-requires
+within-requires c κs = tt
 
 sub-t6 : tie.Need-sub-t6
-sub-t6 c = within-low 48 55 _ _ (c .before .is-octal .ensures) (c .if5 .taken)
+sub-t6 c = within-low 48 51 _ _ (c .before .within .ensures) (c .if5 .taken)
 
 returns-5 : tie.Need-returns-5
 returns-5 c =
@@ -35,7 +35,7 @@ returns-5 c =
     let if2 = c .before .before .before .before .if2 in
     let if3 = c .before .before .before .if3 in
     let if4 = c .before .before .if4 in
-    escape-octal (args .b) _ (c .before .is-octal .ensures) (if1 .left) (if2 .left) (if3 .left) (if4 .left) (c .if5 .taken)
+    escape-octal (args .b) _ (c .before .within .ensures) (if1 .left) (if2 .left) (if3 .left) (if4 .left) (c .if5 .taken)
 
 returns-6 : tie.Need-returns-6
 returns-6 c =
@@ -44,9 +44,9 @@ returns-6 c =
     let if2 = c .before .before .before .before .if2 in
     let if3 = c .before .before .before .if3 in
     let if4 = c .before .before .if4 in
-    escape-bad (args .b) _ (c .before .is-octal .ensures) (if1 .left) (if2 .left) (if3 .left) (if4 .left) (c .if5 .left)
+    escape-bad (args .b) _ (c .before .within .ensures) (if1 .left) (if2 .left) (if3 .left) (if4 .left) (c .if5 .left)
 
 pub escape-act-spec : {M : Type 1} → statement M
 escape-act-spec =
     tie.close
-    (tie.spec returns returns-2 returns-3 returns-4 is-octal-requires sub-t6 returns-5 returns-6)
+    (tie.spec returns returns-2 returns-3 returns-4 within-requires sub-t6 returns-5 returns-6)

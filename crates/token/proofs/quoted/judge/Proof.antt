@@ -4,7 +4,7 @@ use Prim.Native.Nat.{_-_}
 use mathlib.Core.Path.{subst}
 use lib.ListN.{length}
 use Rattle.token.specs.Strings.{PieceAt}
-use Rattle.token.proofs.Escapes.{Judging, judging-starts, judging-byte, judging-closed, judging-bad}
+use Rattle.token.proofs.Escapes.{Judging, judging-starts, judging-byte, judging-closed, judging-cut, judging-bad}
 use native.Mathlib.Omega.{arith}
 use Rattle.token.proofs.quoted.judge.Statement.{statement}
 use Rattle.token.proofs.quoted.judge.Tie as tie
@@ -59,7 +59,16 @@ returns-2 : tie.Need-returns-2 Inv-loop μ-loop
 returns-2 c =
     let loop = c .before .before .before .loop in
     let piece-at = c .before .before .piece-at in
-    judging-bad (loop .inv) (piece-at .ensures) (c .enum-told .given .1)
+    judging-cut (loop .inv) (piece-at .ensures) (c .enum-told .given .1)
+
+enum-known-i : tie.Need-enum-known-i Inv-loop μ-loop
+enum-known-i c = c .match .keys4
+
+returns-3 : tie.Need-returns-3 Inv-loop μ-loop
+returns-3 c =
+    let loop = c .before .before .before .before .loop in
+    let piece-at = c .before .before .before .piece-at in
+    judging-bad (loop .inv) (piece-at .ensures) (c .before .i .given .1)
 
 pub judge-spec : {M : Type 1} → statement M
 judge-spec =
@@ -76,4 +85,6 @@ judge-spec =
     enum-known-next-2
     returns
     enum-told
-    returns-2)
+    returns-2
+    enum-known-i
+    returns-3)

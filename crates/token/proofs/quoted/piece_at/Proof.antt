@@ -2,7 +2,7 @@
 -- Assumes nothing.
 use Prim.Native.Nat.{_-_}
 use lib.ListN.{length}
-use Rattle.token.proofs.Escapes.{Reading, reading-starts, reading-ends, reading-byte, reading-go, reading-close, reading-bad}
+use Rattle.token.proofs.Escapes.{Reading, reading-starts, reading-ends, reading-byte, reading-go, reading-close, reading-cut, reading-bad}
 use borrow.Author.Needs.{needs}
 use native.Mathlib.Omega.{arith}
 use Rattle.token.proofs.quoted.piece_at.Statement.{statement}
@@ -21,7 +21,9 @@ shared-slice-read-act-on : tie.Need-shared-slice-read-act-on Inv-loop μ-loop
 shared-slice-read-act-on c = search needs
 
 act-on-requires : tie.Need-act-on-requires Inv-loop μ-loop
-act-on-requires c κs = tt
+act-on-requires c κs =
+    let loop = c .before .before .loop in
+    loop .inv .small
 
 add-i : tie.Need-add-i Inv-loop μ-loop
 add-i c = omega arith
@@ -67,10 +69,23 @@ returns-3 c =
     let loop = c .before .before .before .before .before .loop in
     let loop-test = c .before .before .before .before .loop-test in
     let act-on = c .before .before .act-on in
-    reading-bad (loop .inv) (loop-test .taken) (act-on .ensures) (c .enum-told2 .given .1)
+    reading-cut (loop .inv) (loop-test .taken) (act-on .ensures) (c .enum-told2 .given .1)
+
+enum-told-3 : tie.Need-enum-told-3 Inv-loop μ-loop
+enum-told-3 c = c .match .keys5
+
+sub-t12 : tie.Need-sub-t12 Inv-loop μ-loop
+sub-t12 c = omega arith
 
 returns-4 : tie.Need-returns-4 Inv-loop μ-loop
-returns-4 c = reading-ends (c .before .loop .inv) (c .loop-test .left)
+returns-4 c =
+    let loop = c .before .before .before .before .before .loop in
+    let loop-test = c .before .before .before .before .loop-test in
+    let act-on = c .before .before .act-on in
+    reading-bad (loop .inv) (loop-test .taken) (act-on .ensures) (c .enum-told3 .given .1)
+
+returns-5 : tie.Need-returns-5 Inv-loop μ-loop
+returns-5 c = reading-ends (c .before .loop .inv) (c .loop-test .left)
 
 pub piece-at-spec : {M : Type 1} → statement M
 piece-at-spec =
@@ -91,4 +106,7 @@ piece-at-spec =
     returns-2
     enum-told-2
     returns-3
-    returns-4)
+    enum-told-3
+    sub-t12
+    returns-4
+    returns-5)
