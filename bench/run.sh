@@ -1,9 +1,10 @@
 #!/usr/bin/env bash
 # Proves and builds the libraries and the program, and times them. Ghostscript is Debian's package ghostscript; `bench/run.sh scans` prints the table of the floor
-# rule alone, and needs none.
+# rule alone, `bench/run.sh ledgers` that of the ledger, and both need none.
 set -euo pipefail
 cd "$(dirname "${BASH_SOURCE[0]}")/.."
 rt staticlib floo_c
 rt staticlib floor_c
+rt staticlib ledger_c
 rt check floo
 exec cargo run --quiet --release --manifest-path bench/Cargo.toml -- "$@"

@@ -1,8 +1,9 @@
 /*
  * floor.h: the floor rule for late scans. A Floo script takes a scanned label apart, and what it leaves goes into a book of sockets that the caller lends, unless
  * the book knows a scan as late or later. Nothing is allocated and nothing is kept between calls.
- * The function is the one exported by crates/floor_c, which is proved; link target/staticlib/libfloor_c.a. It is all that a program needs that only scans:
- * libfloo_c.a has what floo.h declares, and a program may link both.
+ * The book can be written as a ledger, a text of comma-separated values by RFC 4180, and read back from one.
+ * floor_scan is the function exported by crates/floor_c, which is proved; link target/staticlib/libfloor_c.a. It is all that a program needs that only scans:
+ * libfloo_c.a has what floo.h declares. The two functions of the ledger are those of crates/ledger_c, in target/staticlib/libledger_c.a. A program may link all three.
  */
 #ifndef FLOOR_H
 #define FLOOR_H
@@ -84,6 +85,49 @@ floor_reply floor_scan(const uint8_t *script, size_t script_bytes, uint32_t fuel
                        uint8_t *log, size_t log_bytes,
                        uint8_t *outcome, size_t outcome_bytes,
                        floor_record *book, size_t records, size_t count);
+
+/* Bytes that the ledger of so many records takes at most. A line is its number, comma, place, comma, time, CR and LF. */
+#define FLOOR_LEDGER_BYTES(records) (19u + 88u * (records))
+
+/*
+ * The answers of writing and reading, in the order in which the refusals are looked for: the first that applies is given, each of them looked for in the whole
+ * text before the next. A refusal changes no lent byte. Writing answers with the first and the ninth, reading with the others.
+ */
+enum floor_ledger_answer {
+    FLOOR_LEDGER_BOOK_MALFORMED = 1, /* as FLOOR_BOOK_MALFORMED */
+    FLOOR_LEDGER_BAD_HEADER = 2,     /* the text does not begin with exactly `socket,place,time`, then CR and LF or the end */
+    FLOOR_LEDGER_BAD_QUOTING = 3,    /* a quote inside a field without quotes, a byte after a closing quote, no closing quote, or CR or LF by itself outside quotes */
+    FLOOR_LEDGER_FIELD_COUNT = 4,    /* a line has not three fields; an empty line has one */
+    FLOOR_LEDGER_BAD_NUMBER = 5,     /* a number or a time is not one or more digits, or is over FLOOR_NUMBER_MAX */
+    FLOOR_LEDGER_BAD_PLACE = 6,      /* a place has not 1 to FLOOR_PLACE_BYTES_MAX bytes */
+    FLOOR_LEDGER_SOCKET_TWICE = 7,   /* two lines have one number */
+    FLOOR_LEDGER_TOO_MANY = 8,       /* more lines than the book has room: the lent records, FLOOR_RECORDS_MAX at most */
+    FLOOR_LEDGER_TOO_SHORT = 9,      /* the lent text is shorter than the ledger */
+    FLOOR_LEDGER_DONE = 10           /* the book is written, or read */
+};
+
+typedef struct floor_ledger_reply {
+    uint32_t answer; /* an enum floor_ledger_answer */
+    size_t count;    /* at FLOOR_LEDGER_DONE how many bytes were written, or how many records the book has now; else 0 */
+} floor_ledger_reply;
+
+/*
+ * Writes the first `count` of the lent records as a ledger: the header `socket,place,time`, then a line for each record in the book's order, CR and LF after each
+ * line. Numbers are decimal. A place with a comma, a quote, a CR or an LF stands between quotes, and its quotes are doubled; nothing else is quoted. Bytes of the
+ * lent text past the ledger stay as they were, and no zero byte is put there. What was written is read back as the same records in the same order.
+ *
+ * What the caller promises is as for floor_scan.
+ */
+floor_ledger_reply floor_write_ledger(const floor_record *book, size_t records, size_t count, uint8_t *text, size_t text_bytes);
+
+/*
+ * Reads a ledger of any length. Needless quotes around the fields of a record are accepted, and so is a last line without CR and LF. Its records replace the first
+ * of the lent ones, whatever these hold, and place bytes past the length are written 0; the lent records past them stay as they were. The caller keeps the count:
+ * `count` of the reply is for the next scan.
+ *
+ * What the caller promises is as for floor_scan.
+ */
+floor_ledger_reply floor_read_ledger(const uint8_t *text, size_t text_bytes, floor_record *book, size_t records);
 
 #ifdef __cplusplus
 }

@@ -1,8 +1,10 @@
 //! The proved runner against Ghostscript and the reference interpreter, on the same programs in one run; how its time grows with the length of arrays; the floor rule
-//! against a run; the size of the code. A program counts only if all three leave the same integer. `floo-bench scans` prints the table of the floor rule alone.
+//! against a run; a ledger written and read; the size of the code. A program counts only if all three leave the same integer. `floo-bench scans` prints the table of the
+//! floor rule alone, `floo-bench ledgers` that of the ledger.
 
 mod ghostscript;
 mod growth;
+mod ledgers;
 mod scans;
 mod timing;
 
@@ -34,8 +36,16 @@ const PROGRAMS: [(&str, &str); 7] = [
 ];
 
 fn main() -> ExitCode {
-    let scans_alone = std::env::args().nth(1).is_some_and(|word| word == "scans");
-    match if scans_alone { scans::table() } else { report() } {
+    let alone = std::env::args().nth(1);
+    let printed = match alone.as_deref() {
+        Some("scans") => scans::table(),
+        Some("ledgers") => {
+            ledger_target(ledgers::table());
+            Ok(())
+        }
+        _ => report(),
+    };
+    match printed {
         Ok(()) => ExitCode::SUCCESS,
         Err(error) => {
             eprintln!("bench: {error}");
@@ -51,13 +61,20 @@ fn report() -> io::Result<()> {
     let start = start()?;
     let get = growth::table();
     scans::table()?;
+    let ledger = ledgers::table();
     let text = text_bytes("libfloo_c.a")?;
-    println!("\nCode: {text} bytes of .text in libfloo_c.a, {} in libfloor_c.a.\n", text_bytes("libfloor_c.a")?);
+    let (floor, ledger_text) = (text_bytes("libfloor_c.a")?, text_bytes("libledger_c.a")?);
+    println!("\nCode: {text} bytes of .text in libfloo_c.a, {floor} in libfloor_c.a, {ledger_text} in libledger_c.a.\n");
     target(&format!("at least {TIMES_GHOSTSCRIPT} times as fast as Ghostscript in each program"), least >= TIMES_GHOSTSCRIPT, format!("least {least:.2}"));
     target("start of a run under 3 microseconds", start < START_SECONDS, format!("{:.2}", start * 1e6));
     target("at most 98,304 bytes of .text", text <= TEXT_BYTES, text.to_string());
     target("get on 30,000 elements at most 10 times get on 10", get <= GET_RATIO, format!("{get:.2} times"));
+    ledger_target(ledger);
     Ok(())
+}
+
+fn ledger_target(seconds: f64) {
+    target("a book of 64 written, and read, under 50 microseconds", ledgers::is_met(seconds), format!("at most {:.2}", seconds * 1e6));
 }
 
 fn target(what: &str, met: bool, figure: String) {

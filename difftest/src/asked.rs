@@ -138,7 +138,7 @@ fn bytes(length: usize, random: &mut Random) -> Vec<u8> {
 }
 
 /// Lent records, those past the count and past the 64th of any contents, and the count. One in ten is malformed, by one thing, and of the poor one in two.
-fn book(poor: bool, random: &mut Random) -> (Buffer<Record>, usize) {
+pub(crate) fn book(poor: bool, random: &mut Random) -> (Buffer<Record>, usize) {
     let lent = match random.below(8) {
         0 => random.below(3),
         1..=2 => MOST_RECORDS,
@@ -165,7 +165,7 @@ fn book(poor: bool, random: &mut Random) -> (Buffer<Record>, usize) {
 }
 
 /// A record of any contents, with numbers that scripts scan too.
-fn any_record(random: &mut Random) -> Record {
+pub(crate) fn any_record(random: &mut Random) -> Record {
     let number = |random: &mut Random| match random.below(3) {
         0 => ENDS[random.below(ENDS.len())],
         1 => random.below(100) as u32,

@@ -1,8 +1,8 @@
-//! `floo-difftest N SEED`: N random cases, runs and token readings, a scan for every fourth, and what was compared.
+//! `floo-difftest N SEED`: N random cases, runs and token readings, a scan and a ledger for every fourth, and what was compared.
 
 use std::process::ExitCode;
 
-use floo_difftest::{compare_all, Readings, Scans};
+use floo_difftest::{compare_all, Ledgers, Readings, Scans, DAMAGES};
 
 fn main() -> ExitCode {
     let numbers: Vec<u64> = std::env::args().skip(1).filter_map(|word| word.parse().ok()).collect();
@@ -23,6 +23,7 @@ fn main() -> ExitCode {
             print_misread(tally.misread);
             print_readings(&tally.readings);
             print_scans(&tally.scans);
+            print_ledgers(&tally.ledgers);
             ExitCode::SUCCESS
         }
         Err(what) => {
@@ -69,4 +70,26 @@ fn print_scans(scans: &Scans) {
         scans.replaced_in_full,
         scans.past_64
     );
+}
+
+fn print_ledgers(ledgers: &Ledgers) {
+    let total = |counts: &[usize]| counts.iter().sum::<usize>();
+    let [malformed, _, _, _, _, _, _, _, too_short, written] = ledgers.written;
+    println!(
+        "{} books to be written: {malformed} malformed, {too_short} lent text too short, {written} written, {} of them with quotes, {} read back: no difference",
+        total(&ledgers.written),
+        ledgers.quoted,
+        ledgers.read_back
+    );
+    let [_, header, quoting, fields, number, place, twice, many, _, read] = ledgers.read;
+    println!(
+        "{} texts: {header} bad header, {quoting} bad quoting, {fields} wrong field count, {number} bad number, {place} place not 1 to 31 bytes, {twice} socket twice, \
+         {many} more records than room, {read} read, {} of them with lent records past their count; {} of over 64 lines: no difference",
+        total(&ledgers.read),
+        ledgers.past_count,
+        ledgers.long
+    );
+    for ((name, made), refused) in DAMAGES.iter().zip(ledgers.damaged).zip(ledgers.refused) {
+        println!("  {name}: {made}, {refused} refused");
+    }
 }

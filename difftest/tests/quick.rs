@@ -1,9 +1,9 @@
 //! A short run, with figures below which the comparison would show little.
 
-use floo_difftest::compare_all;
+use floo_difftest::{compare_all, Ledgers, DAMAGES};
 
 #[test]
-fn runs_readings_and_scans_agree_with_the_reference() {
+fn runs_readings_scans_and_ledgers_agree_with_the_reference() {
     let tally = compare_all(20_000, 0x0F10_0F10_0F10_0F10).unwrap();
     assert!(tally.refused > 1_000 && tally.refused < 10_000, "{} refused", tally.refused);
     assert!(tally.steps > 200_000, "{} steps", tally.steps);
@@ -27,6 +27,7 @@ fn runs_readings_and_scans_agree_with_the_reference() {
     assert!((0..=520).all(|length| scans.lengths.contains(&length)), "{} lengths of labels", scans.lengths.len());
     assert!(scans.past_64 > 300, "{} runs with records past the 64th", scans.past_64);
     assert!(scans.steps > 100_000 && scans.objects > 3_000, "{} steps, {} objects in scans", scans.steps, scans.objects);
+    check_ledgers(&tally.ledgers);
     let read = tally.readings;
     assert!(read.total() > 2_000_000, "{} tokens", read.total());
     assert!(read.kinds.iter().all(|&count| count > 20_000), "{:?} of each kind", read.kinds);
@@ -37,4 +38,19 @@ fn runs_readings_and_scans_agree_with_the_reference() {
     assert!(read.limitchecks > 50_000, "{} limitcheck", read.limitchecks);
     assert!(read.too_long > 500, "{} refused with 1", read.too_long);
     assert!(read.past_end > 20_000, "{} refused with 10", read.past_end);
+}
+
+fn check_ledgers(ledgers: &Ledgers) {
+    let [malformed, .., too_short, written] = ledgers.written;
+    assert!(malformed > 200 && too_short > 500, "{malformed} book malformed, {too_short} lent text too short");
+    assert!(written > 2_000 && ledgers.quoted > 1_000, "{written} written, {} with quotes", ledgers.quoted);
+    assert_eq!(ledgers.read_back, written);
+    let [_, refused @ .., _, read] = ledgers.read;
+    assert!(refused.iter().all(|&count| count > 150), "{refused:?} of each refusal of reading");
+    assert!(read > 1_000 && ledgers.past_count > 500, "{read} read, {} with records past their count", ledgers.past_count);
+    assert!(ledgers.long > 300, "{} of over 64 lines", ledgers.long);
+    for ((name, made), refused) in DAMAGES.iter().zip(ledgers.damaged).zip(ledgers.refused) {
+        assert_eq!(made, 250, "{name}");
+        assert!(refused > 30, "{name}: {refused} refused");
+    }
 }

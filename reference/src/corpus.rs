@@ -1,11 +1,13 @@
 //! Reads the corpus, in the format of ../corpus/README.md.
 
+mod ledgers;
 mod scans;
 
 use std::fs;
 use std::path::{Path, PathBuf};
 
 use crate::Sizes;
+pub use ledgers::{read_ledgers, LedgerCase, LedgerQuestion};
 pub use scans::{read_scans, ScanCase};
 
 /// What a case asks for.
@@ -151,8 +153,13 @@ impl<'t> Lines<'t> {
         Some(rest)
     }
 
-    /// A block headed by `word`, `word-` or `word%`.
+    /// A block headed by `word`, `word-` or `word%`, of lines that end with a line feed.
     fn block(&mut self, word: &str) -> Result<Vec<u8>, String> {
+        self.block_of(word, b"\n")
+    }
+
+    /// The same of lines that end with other bytes.
+    fn block_of(&mut self, word: &str, line_break: &[u8]) -> Result<Vec<u8>, String> {
         let header = self.peek().unwrap_or_default();
         let form = match header.strip_prefix(word.as_bytes()) {
             Some(form @ (b"" | b"-" | b"%")) => form,
@@ -160,9 +167,9 @@ impl<'t> Lines<'t> {
         };
         self.next += 1;
         let rows = self.rows();
-        let mut bytes = rows.join(&b'\n');
+        let mut bytes = rows.join(line_break);
         if form == b"" && !rows.is_empty() {
-            bytes.push(b'\n');
+            bytes.extend(line_break);
         }
         if form == b"%" {
             return expand(&bytes).ok_or_else(|| self.malformed("bad `%` in the block above"));

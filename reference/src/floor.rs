@@ -12,7 +12,7 @@ pub const MOST_RECORDS: usize = 64;
 pub const LONGEST_PLACE: usize = 31;
 const LONGEST_LABEL: usize = 512;
 /// "Number and time are integers from 0": those of 32 bits.
-const GREATEST: u32 = i32::MAX as u32;
+pub(crate) const GREATEST: u32 = i32::MAX as u32;
 
 /// A record as it is lent, of any contents. Of the place the first `length` bytes count.
 #[derive(Clone, Copy, Debug, PartialEq, Eq)]
@@ -107,13 +107,13 @@ fn refusal(
 }
 
 /// "lent records past the 64th go unused"
-fn room(book: &[Record]) -> usize {
+pub(crate) fn room(book: &[Record]) -> usize {
     book.len().min(MOST_RECORDS)
 }
 
 /// Not "count past its room, socket twice, field out of range". Records past the count are not looked
 /// at, nor are the bytes of a place, which may have any values.
-fn is_sound(book: &[Record], count: usize) -> bool {
+pub(crate) fn is_sound(book: &[Record], count: usize) -> bool {
     if count > room(book) {
         return false;
     }

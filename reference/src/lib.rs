@@ -2,7 +2,8 @@
 //! other programs. "01" is the scope paper, "000" the Floo document and R1 to R100 the settled
 //! readings. A step is worked out as a `Change` (change.rs) by the rules of run.rs and operators/,
 //! tested for fit in the paper's order, and then applied to the `Machine` (machine.rs). The floor
-//! rule of the change requests ("02") is a library on top of the run (floor.rs).
+//! rule of the change requests ("02") is a library on top of the run (floor.rs), and the ledger
+//! writes and reads its book (ledger.rs).
 
 #![forbid(unsafe_code)]
 
@@ -10,6 +11,7 @@ pub mod change;
 pub mod corpus;
 pub mod error;
 pub mod floor;
+pub mod ledger;
 pub mod machine;
 pub mod operators;
 pub mod print;

@@ -36,12 +36,12 @@ unfolding allInRange
 range-snoc [] r = and-true (inRange r)
 range-snoc (x ∷ l) r = ap (λ t. inRange x && t) (range-snoc l r) ∙ sym (and-assoc (inRange x) (allInRange l) (inRange r))
 
-in-snoc : (n : ℕ) (ns : List ℕ) (k : ℕ) → isIn n (ns ++ k ∷ []) ≡ (isIn n ns || eqb n k)
+pub in-snoc : (n : ℕ) (ns : List ℕ) (k : ℕ) → isIn n (ns ++ k ∷ []) ≡ (isIn n ns || eqb n k)
 unfolding isIn
 in-snoc n [] k = or-false (eqb n k)
 in-snoc n (m ∷ ns) k = ap (λ t. eqb n m || t) (in-snoc n ns k) ∙ sym (or-assoc (eqb n m) (isIn n ns) (eqb n k))
 
-eqb-sym : (n k : ℕ) → eqb n k ≡ eqb k n
+pub eqb-sym : (n k : ℕ) → eqb n k ≡ eqb k n
 eqb-sym n k = by (eqb n k) refl
   where
     by : (t : Bool) → eqb n k ≡ t → eqb n k ≡ eqb k n

@@ -1,4 +1,5 @@
-//! The exported functions of `libfloo_c.a` and `libfloor_c.a`, as `include/floo.h` and `include/floor.h` have them: the one place here that is not safe Rust.
+//! The exported functions of `libfloo_c.a`, `libfloor_c.a` and `libledger_c.a`, as `include/floo.h` and `include/floor.h` have them: the one place here that is not
+//! safe Rust.
 
 use crate::floor::Record;
 
@@ -36,6 +37,14 @@ pub struct ScanReply {
     pub outcome: usize,
     pub count: usize,
     pub at: usize,
+}
+
+/// The number of the answer, and how many bytes were written or records read.
+#[repr(C)]
+#[derive(Clone, Copy, Debug, PartialEq, Eq)]
+pub struct LedgerReply {
+    pub answer: u32,
+    pub count: usize,
 }
 
 extern "C" {
@@ -81,6 +90,21 @@ extern "C" {
         records: usize,
         count: usize,
     ) -> ScanReply;
+
+    fn floor_write_ledger(
+        book: *const Record,
+        records: usize,
+        count: usize,
+        text: *mut u8,
+        text_bytes: usize,
+    ) -> LedgerReply;
+
+    fn floor_read_ledger(
+        text: *const u8,
+        text_bytes: usize,
+        book: *mut Record,
+        records: usize,
+    ) -> LedgerReply;
 }
 
 /// Runs a script in buffers that the caller lends: 2 words for a stack slot, 8 for an execution slot, 12 for a dictionary slot, 4 for a cell, and an outcome of at
@@ -160,6 +184,28 @@ pub fn scan(
             count,
         )
     }
+}
+
+/// Writes the first `count` of the lent records as a ledger into the lent text. Any lengths may be lent, any records and any count.
+#[allow(unsafe_code)]
+pub fn write_ledger(book: &[Record], count: usize, text: &mut [u8]) -> LedgerReply {
+    // SAFETY: as for `scan`.
+    unsafe {
+        floor_write_ledger(
+            book.as_ptr(),
+            book.len(),
+            count,
+            text.as_mut_ptr(),
+            text.len(),
+        )
+    }
+}
+
+/// Reads a ledger, whose records replace the first of the lent ones. Any lengths may be lent, any text and any records.
+#[allow(unsafe_code)]
+pub fn read_ledger(text: &[u8], book: &mut [Record]) -> LedgerReply {
+    // SAFETY: as for `scan`.
+    unsafe { floor_read_ledger(text.as_ptr(), text.len(), book.as_mut_ptr(), book.len()) }
 }
 
 /// Reads the next token of a script from `offset` on, and answers in numbers.

@@ -14,11 +14,16 @@
 //! assert!(matches!(runner.scan(late, b"shelf A", 100, &mut book), Scan::Late(_)));
 //! assert_eq!(book.find(417).unwrap().place_bytes(), b"tester 3");
 //! ```
+//!
+//! [`Book::to_ledger`] and [`Book::read_ledger`] take the book to the buying office and back.
+
+mod ledger;
 
 use std::fmt;
 
 use crate::exported;
 use crate::{Refusal, Report, Runner};
+pub use ledger::{ledger_bytes, LedgerError};
 
 /// Bytes of a label at most.
 pub const LABEL_BYTES_MAX: usize = 512;

@@ -43,8 +43,9 @@ mod refusal;
 mod report;
 mod token;
 
+pub use exported::{read_ledger as read_ledger_lent, write_ledger as write_ledger_lent};
 pub use exported::{run as run_lent, scan as scan_lent, token as token_reply};
-pub use exported::{Reply, ScanReply, TokenReply};
+pub use exported::{LedgerReply, Reply, ScanReply, TokenReply};
 pub use position::{position, Position};
 pub use refusal::Refusal;
 pub use report::Report;

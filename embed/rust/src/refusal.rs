@@ -61,7 +61,9 @@ impl fmt::Display for Refusal {
             Refusal::TooMuchFuel => "the fuel is over 1000000",
             Refusal::StackSlots => "the stack slots are not 8 to 256",
             Refusal::ExecutionSlots => "the execution slots are not 4 to 128",
-            Refusal::DictionarySlots => "the dictionary slots are fewer than the predefined names, or over 512",
+            Refusal::DictionarySlots => {
+                "the dictionary slots are fewer than the predefined names, or over 512"
+            }
             Refusal::Cells => "the cells are not 1 to 32768",
             Refusal::LogTooLong => "the log is over 65536 bytes",
             Refusal::OutcomeTooShort => "the outcome is under 256 + 136 x stack slots bytes",

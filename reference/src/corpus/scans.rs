@@ -20,7 +20,7 @@ pub struct ScanCase {
 }
 
 /// A record that no case names.
-const UNNAMED: Record = Record {
+pub(super) const UNNAMED: Record = Record {
     number: u32::MAX,
     place: [u8::MAX; LONGEST_PLACE],
     length: u32::MAX,
@@ -87,7 +87,7 @@ fn is_own(word: &str) -> bool {
 }
 
 /// The records under a heading, and none where it is not there.
-fn records(lines: &mut Lines, heading: &str) -> Result<Vec<Record>, String> {
+pub(super) fn records(lines: &mut Lines, heading: &str) -> Result<Vec<Record>, String> {
     let mut records = Vec::new();
     if lines.peek() == Some(heading.as_bytes()) {
         lines.next += 1;

@@ -1,0 +1,5 @@
+mod Emits
+mod Places
+mod Lines
+mod Turns
+mod Answers
