@@ -13,7 +13,7 @@ use Rattle.semantics.specs.Sizes.{operatorCount, nameMost, dictionaryWordsMost}
 use Rattle.semantics.specs.Values.{Value}
 use Rattle.semantics.specs.Machine as Floo
 use Rattle.semantics.specs.Machine.{Slot, withDictionary, intern}
-use Rattle.semantics.specs.ListLaws.{All, nil, cons, some-one, none-some}
+use Rattle.semantics.specs.ListLaws.{some-one, none-some, all-of}
 use Rattle.store.specs.Rep as Store
 use Rattle.store.specs.Rep.{Names, Stands, byteOf}
 use Rattle.store.proofs.Fresh.{rep-keys}
@@ -122,10 +122,6 @@ roots-same μ d h r = by (r % 4)
     by (suc (suc zero)) = h (r / 4)
     by (suc (suc (suc k))) = refl
 
-all-any : {A : Type 0} {P : A → Type 0} → ((a : A) → P a) → (l : List A) → All P l
-all-any f [] = nil
-all-any f (a ∷ l) = cons (f a) (all-any f l)
-
 anything : (v : Value) → Reached (λ i. Unit {0}) v
 anything v = record { reach = λ i n. tt }
 
@@ -162,7 +158,7 @@ module _ {m : Machine} {s e d c l : List ℕ} {μ : Floo.Machine} (R : Rep m s e
   slots-new : Slots Now d′ 0 dictionary
   slots-new =
       slots-more
-      (slots-frame (λ j x. W .below j (omega (arith, R .naming .many))) (slots-map carry (all-any (λ (t : Slot). anything (bound (t .binding))) (μ .dictionary)) (R .slots)))
+      (slots-frame (λ j x. W .below j (omega (arith, R .naming .many))) (slots-map carry (all-of (λ (t : Slot). anything (bound (t .binding))) (μ .dictionary)) (R .slots)))
       slot-new
 
   stored-new : Stored (R .world) (m .lists) c (keysOf dictionary) (μ .store) (roots (withDictionary dictionary μ))
@@ -182,8 +178,8 @@ module _ {m : Machine} {s e d c l : List ℕ} {μ : Floo.Machine} (R : Rep m s e
       record {
         world = R .world;
         stored = stored-new;
-        items = items-map carry (all-any anything (μ .stack)) (R .items);
-        frames = frames-map carry (λ i t p w. refl) (λ i t p a r q h o. o) (all-any (λ f. anything (frameValue f)) (μ .exec)) (R .frames);
+        items = items-map carry (all-of anything (μ .stack)) (R .items);
+        frames = frames-map carry (λ i t p w. refl) (λ i t p a r q h o. o) (all-of (λ f. anything (frameValue f)) (μ .exec)) (R .frames);
         slots = slots-new;
         naming = record {
           many = omega (arith, R .naming .many, length-append (μ .dictionary) (unbound ∷ []));

@@ -1,10 +1,6 @@
-pub mod Kept
+pub mod Kinding
 pub mod Logs
-pub mod Naming
-pub mod Objects
-pub mod Operands
-pub mod OperatorsKeep
+pub mod OutcomeFits
 pub mod RunStore
 pub mod StepGrowth
 pub mod StepStore
-pub mod StepsKeep

@@ -15,6 +15,10 @@ pub extends-more : {before after : List ℕ} → Extends before after → (t : L
 extends-more {before} h t =
     record { added = h .added ++ t; whole = ap (λ (l : List ℕ). l ++ t) (h .whole) ∙ append-assoc before (h .added) t }
 
+pub extends-then : {a b c : List ℕ} → Extends a b → Extends b c → Extends a c
+extends-then {a} f g =
+    record { added = f .added ++ g .added; whole = g .whole ∙ ap (λ (l : List ℕ). l ++ g .added) (f .whole) ∙ append-assoc a (f .added) (g .added) }
+
 pub extends-length : {before after : List ℕ} → Extends before after → length before ≤ length after
 extends-length {before} h = omega (arith, ap length (h .whole) ∙ length-append before (h .added))
 

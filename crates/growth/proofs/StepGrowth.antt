@@ -6,17 +6,23 @@ use Prim.Native.Nat.{ℕ, _≤_}
 use native.Mathlib.Omega.{arith}
 use lib.ListN.{length}
 use Rattle.semantics.specs.Machine.{Machine, machinery}
-use Rattle.semantics.specs.Steps.{Limits, State, goes, step}
+use Rattle.semantics.specs.Steps.{Limits, State, goes, step, run}
+use Rattle.semantics.specs.ListLaws.{all-any}
 use Rattle.growth.specs.Growth.{Extends}
-use Rattle.growth.proofs.Logs.{extends-itself, extends-more, extends-length}
-use Rattle.growth.proofs.Kept.{Kept}
-use Rattle.growth.proofs.StepsKeep.{step-keeps}
+use Rattle.growth.proofs.Logs.{extends-itself, extends-more, extends-then, extends-length}
+use Rattle.walk.proofs.Parts.{nothing-asked, asked-nowhere}
+use Rattle.walk.proofs.Property.{Property}
+use Rattle.walk.proofs.StepsKeep.{step-goes}
+use Rattle.walk.proofs.RunsLater.{run-later}
 
--- L: the log before the step. Nothing need be known of kinds.
-log-kept : (L : List ℕ) → Kept ⊥ 0 (λ (m : Machine). Extends L (m .log))
+-- L: the log before the step. Nothing is asked of the parts.
+unfoldable log-grows : List ℕ → Property
 unfolding machinery
-log-kept L =
+log-grows L =
     record {
+      parts = nothing-asked;
+      base = 0;
+      Whole = λ m. Extends L (m .log);
       since = λ m h. omega arith;
       other-stack = λ s m h. h;
       other-dictionary = λ d m h. h;
@@ -29,13 +35,26 @@ log-kept L =
     }
 
 pub step-log : (l : Limits) (script : List ℕ) (σ τ : State) → step l script σ ≡ goes τ → Extends (σ .machine .log) (τ .machine .log)
+unfolding log-grows nothing-asked
 step-log l script σ τ e =
-    let log = σ .machine .log in
-    step-keeps ⊥ 0 (λ (m : Machine). Extends log (m .log)) l script σ τ e
-    (record { laws = log-kept log; kinded = λ q. absurd q; holds = extends-itself log })
-    .holds
+    step-goes (log-grows (σ .machine .log)) l script σ τ (all-any script) tt tt e (record { parts = asked-nowhere (σ .machine); whole = extends-itself (σ .machine .log) })
+    .whole
 
 pub step-log-length : (l : Limits) (script : List ℕ) (σ τ : State)
     → step l script σ ≡ goes τ
     → length (σ .machine .log) ≤ length (τ .machine .log)
 step-log-length l script σ τ e = extends-length (step-log l script σ τ e)
+
+-- Each later state of a run has the log of each earlier one, and perhaps more after it.
+pub run-log : (l : Limits) (script : List ℕ) (early late : ℕ)
+    → early ≤ late
+    → (σ : State)
+    → Extends (run l script early σ .final .machine .log) (run l script late σ .final .machine .log)
+run-log l script early late h σ =
+    run-later (λ (m : Machine). Unit {0}) (λ (a b : Machine). Extends (a .log) (b .log)) l script (λ m. extends-itself (m .log)) (λ a b c. extends-then)
+    (λ σ τ k e. (tt, step-log l script σ τ e))
+    early
+    late
+    h
+    σ
+    tt

@@ -10,13 +10,13 @@ use lib.Seq.{getD-set-same, getD-set-other}
 use Rattle.semantics.specs.Values.{Object, elements}
 use Rattle.semantics.specs.Machine.{Machine, object, make, made, change, withStore, machinery}
 use Rattle.semantics.specs.ObjectOperators.{size}
-use Rattle.semantics.specs.Steps.{Limits, State, Step, goes, fails, misreads, step}
-use Rattle.semantics.specs.RunLaws.{Stepped, went, stuck, unread, step-stepped}
-use Rattle.semantics.specs.declared.Error.{Error}
-use Rattle.semantics.specs.declared.Fault.{Fault}
-use Rattle.growth.specs.Stores.{isString, Alike, Remains, Kinded}
-use Rattle.growth.proofs.Kept.{Kept, Fine}
-use Rattle.growth.proofs.StepsKeep.{step-keeps}
+use Rattle.semantics.specs.Steps.{Limits, State, goes, step}
+use Rattle.semantics.specs.ListLaws.{all-any}
+use Rattle.walk.specs.Objects.{isString, Alike}
+use Rattle.walk.proofs.Property.{Property, Fit}
+use Rattle.walk.proofs.StepsKeep.{step-goes}
+use Rattle.growth.specs.Stores.{Remains}
+use Rattle.growth.proofs.Kinding.{kinds, Kinded}
 
 -- ---- objects and stores that remain
 
@@ -79,10 +79,13 @@ module _ {before : Machine} where
         each = λ j l. alike-equal (h .each j l) (getD-set-other (m .store) i j o (elements []) (λ e. absurd (omega (arith, e, l, b))));
       }
 
-store-kept : (before : Machine) → Kept (Unit {0}) (made before) (Remains before)
-unfolding machinery
-store-kept before =
+unfoldable store-remains : Machine → Property
+unfolding machinery kinds
+store-remains before =
     record {
+      parts = kinds;
+      base = made before;
+      Whole = Remains before;
       since = λ m h. h .long;
       other-stack = λ s m h. same-store refl h;
       other-dictionary = λ d m h. same-store refl h;
@@ -96,36 +99,18 @@ store-kept before =
 
 -- ---- a step
 
-step-fine : (l : Limits) (script : List ℕ) (σ τ : State)
-    → Kinded (σ .machine)
-    → step l script σ ≡ goes τ
-    → Fine (Unit {0}) (made (σ .machine)) (Remains (σ .machine)) (τ .machine)
-step-fine l script σ τ k e =
+step-fit : (l : Limits) (script : List ℕ) (σ τ : State) → Kinded (σ .machine) → step l script σ ≡ goes τ → Fit (store-remains (σ .machine)) (τ .machine)
+unfolding store-remains kinds
+step-fit l script σ τ k e =
     let m = σ .machine in
-    step-keeps (Unit {0}) (made m) (Remains m) l script σ τ e (record { laws = store-kept m; kinded = λ q. k; holds = remains-itself m })
+    step-goes (store-remains m) l script σ τ (all-any script) tt tt e (record { parts = k; whole = remains-itself m })
 
 -- A step that goes on loses no object.
 pub step-store : (l : Limits) (script : List ℕ) (σ τ : State) → Kinded (σ .machine) → step l script σ ≡ goes τ → Remains (σ .machine) (τ .machine)
-step-store l script σ τ k e = step-fine l script σ τ k e .holds
+unfolding store-remains
+step-store l script σ τ k e = step-fit l script σ τ k e .whole
 
 -- Values go on naming objects of their own kind.
 pub step-kinded : (l : Limits) (script : List ℕ) (σ τ : State) → Kinded (σ .machine) → step l script σ ≡ goes τ → Kinded (τ .machine)
-step-kinded l script σ τ k e = step-fine l script σ τ k e .kinded tt
-
-abbrev Unmoved : State → Step → Type 0
-Unmoved σ (goes τ) = Unit {0}
-Unmoved σ (fails e c τ) = τ .machine ≡ σ .machine
-Unmoved σ (misreads f τ) = τ .machine ≡ σ .machine
-
-unmoved : {σ : State} {s : Step} → Stepped σ s → Unmoved σ s
-unmoved (went h) = tt
-unmoved (stuck h k n) = h
-unmoved (unread h k n) = h
-
--- A step that fails leaves the machine as it was.
-pub step-store-failed : (l : Limits) (script : List ℕ) (σ τ : State) (x : Error) (c : List ℕ) → step l script σ ≡ fails x c τ → τ .machine ≡ σ .machine
-step-store-failed l script σ τ x c e = subst (Unmoved σ) e (unmoved (step-stepped l script σ))
-
--- So does one that cannot read its token.
-pub step-store-misread : (l : Limits) (script : List ℕ) (σ τ : State) (f : Fault) → step l script σ ≡ misreads f τ → τ .machine ≡ σ .machine
-step-store-misread l script σ τ f e = subst (Unmoved σ) e (unmoved (step-stepped l script σ))
+unfolding store-remains
+step-kinded l script σ τ k e = step-fit l script σ τ k e .parts

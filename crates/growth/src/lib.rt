@@ -1,2 +1,2 @@
-// Two laws of the definition: its log only grows, and its store loses no object. Nothing runs here. One walk over operators and steps
-// (proofs/Kept, OperatorsKeep, StepsKeep) serves both; proofs/StepGrowth has the first, StepStore and RunStore the second.
+// Three laws of the definition, by the one walk over operators and steps (crates/walk): its log only grows (proofs/StepGrowth), its store loses no object
+// (StepStore, RunStore), and its names are short, so that its outcome fits (OutcomeFits). Nothing runs here.

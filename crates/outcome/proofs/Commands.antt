@@ -15,8 +15,7 @@ use Rattle.semantics.specs.Printing.{nameText, shown, echoedTo}
 use Rattle.semantics.specs.Steps as Steps
 use Rattle.semantics.specs.Errors.{errorText, faultText, whereText}
 use Rattle.semantics.specs.Outcome.{line, endingLines, whereOf}
-use Rattle.semantics.specs.OutcomeLaws.{error-length, fault-length, ending-length}
-use Rattle.semantics.specs.ShortSteps.{nameText-length}
+use Rattle.semantics.specs.OutcomeLaws.{nameText-length, error-length, fault-length, ending-length}
 use Rattle.semantics.specs.declared.Error.{Error}
 use Rattle.semantics.specs.declared.Fault.{Fault}
 use Rattle.semantics.specs.ListLaws.{an-element}

@@ -13,8 +13,7 @@ use Rattle.semantics.specs.Values.{Value, null, operator, name, string, array}
 use Rattle.semantics.specs.Machine as Floo
 use Rattle.semantics.specs.Machine.{object, bytesOf, elementsOf}
 use Rattle.semantics.specs.Printing.{item, echoedTo}
-use Rattle.semantics.specs.ShortLaws.{Short, plain}
-use Rattle.semantics.specs.OutcomeLaws.{item-length}
+use Rattle.semantics.specs.OutcomeLaws.{Short, plain, item-length}
 use Rattle.store.specs.Rep.{Stands, a-null, an-integer, a-boolean, a-mark, an-operator, a-literal, an-executable, a-string, an-array, a-procedure, titles}
 use Rattle.store.proofs.Standing.{is-mark, is-operator}
 use Rattle.text.specs.Writing.{Written}

@@ -1,13 +1,13 @@
 -- The outcome is ASCII where the names that it shows are made of bytes: its words and digits are, and escapes write every other byte in octal digits.
 -- Assumes nothing.
 use mathlib.Core.Bool.{Bool, true, false, not, _&&_}
-use mathlib.Core.List.{List, [], _∷_, _++_}
-use Prim.Native.Nat.{ℕ, zero, suc, _+_, _/_, _%_, _<_}
+use mathlib.Core.List.{List, [], _∷_}
+use Prim.Native.Nat.{ℕ, suc, _+_, _/_, _%_, _<_}
 use native.Mathlib.Omega.{arith}
 use lib.IntN.{ℤ, pos, negsuc}
 use lib.ListN.{length}
 use lib.Dec.{T, leb, ltb, ltb→lt, leb→le, eqb}
-use Rattle.semantics.specs.Text.{bytes, decimalOnto, decimal, octal}
+use Rattle.semantics.specs.Text.{bytes, decimal, octal}
 use Rattle.semantics.specs.Words.{signed, decimalZ}
 use Rattle.semantics.specs.Tokens.{within}
 use Rattle.semantics.specs.Values.{Value, integer, boolean, null, mark, operator, name, string, array, current}
@@ -17,7 +17,8 @@ use Rattle.semantics.specs.Held.{heldCells}
 use Rattle.semantics.specs.Steps.{Ending, finished, stopped, outOfFuel, failed, misread, Run}
 use Rattle.semantics.specs.Errors.{errorText, faultText, whereText}
 use Rattle.semantics.specs.Outcome.{line, endingLines, whereOf, items, outcome}
-use Rattle.semantics.specs.ResultLaws.{choose, choose-cond}
+use Rattle.semantics.specs.TextLaws.{decimal-all}
+use Rattle.semantics.specs.ResultLaws.{choose-cond}
 use Rattle.semantics.specs.ListLaws.{All, nil, cons, every, both, all-append, all-reverse}
 use Rattle.semantics.specs.declared.Error.{Error}
 use Rattle.semantics.specs.declared.Fault.{Fault}
@@ -37,24 +38,15 @@ words-ascii (b ∷ t) h = let q = both (ltb b 128) (every (λ c. ltb c 128) t) h
 
 -- ---- numbers
 
-onto-ascii : (places n : ℕ) {rest : List ℕ} → Ascii rest → Ascii (decimalOnto places n rest)
-unfolding decimalOnto
-onto-ascii zero n h = h
-onto-ascii (suc places) n {rest} h =
-    let low : 48 + n % 10 < 128 = omega arith in
-    let more : Ascii ((48 + n % 10) ∷ rest) = cons low h in
-    choose Ascii (ltb n 10) ((48 + n % 10) ∷ rest) (decimalOnto places (n / 10) ((48 + n % 10) ∷ rest)) (λ t. more) (λ t. onto-ascii places (n / 10) more)
-
 decimal-ascii : (n : ℕ) → Ascii (decimal n)
-unfolding decimal
-decimal-ascii n = onto-ascii 10 n nil
+decimal-ascii n = decimal-all (λ d h. omega arith) n
 
-decimalZ-ascii : (z : ℤ) → Ascii (decimalZ z)
+pub decimalZ-ascii : (z : ℤ) → Ascii (decimalZ z)
 unfolding decimalZ
 decimalZ-ascii (pos n) = decimal-ascii n
 decimalZ-ascii (negsuc n) = cons {a = 45} (omega arith) (decimal-ascii (suc n))
 
-truth-ascii : (b : Bool) → Ascii (truth b)
+pub truth-ascii : (b : Bool) → Ascii (truth b)
 unfolding truth bytes
 truth-ascii true = words-ascii _ tt
 truth-ascii false = words-ascii _ tt

@@ -28,9 +28,6 @@ pub mod GroupLaws
 pub mod RunLaws
 pub mod TextLaws
 pub mod SameLaws
-pub mod ShortLaws
-pub mod ShortOperators
-pub mod ShortSteps
 pub mod OutcomeLaws
 pub mod AsciiLaws
 pub mod NameLaws

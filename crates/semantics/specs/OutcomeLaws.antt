@@ -1,29 +1,79 @@
--- The outcome of a run is never longer than 256 + 136 × stack slots bytes (01, Setup 9; R12): its head has at most 256, and an item at most 136.
+-- How long an outcome is: where names are short its head has at most 256 bytes, and an item at most 136 (01, Setup 9; R12).
 -- Assumes nothing.
-use mathlib.Core.Bool.{Bool, true, false}
-use mathlib.Core.List.{List}
+use mathlib.Core.Bool.{Bool, true, false, not, _&&_}
+use mathlib.Core.List.{List, [], _∷_}
 use Prim.Native.Nat.{ℕ, suc, _+_, _*_, _≤_}
 use native.Mathlib.Omega.{arith}
 use lib.IntN.{ℤ, pos, negsuc}
 use lib.ListN.{length, length-append, length-reverse}
-use Rattle.semantics.specs.Sizes.{headRoom, itemRoom}
-use Rattle.semantics.specs.Text.{bytes, decimal}
+use lib.Dec.{T, leb, leb→le, eqb}
+use Rattle.semantics.specs.Sizes.{nameMost, headRoom, itemRoom}
+use Rattle.semantics.specs.Text.{bytes, decimal, octal}
 use Rattle.semantics.specs.Words.{signed, decimalZ}
 use Rattle.semantics.specs.Values.{Value, integer, boolean, null, mark, operator, name, string, array, current}
 use Rattle.semantics.specs.Machine.{Machine, object, elementsOf, bytesOf}
-use Rattle.semantics.specs.Printing.{truth, item}
+use Rattle.semantics.specs.Printing.{truth, escaped, nameByte, nameText, item}
 use Rattle.semantics.specs.Held.{heldCells}
-use Rattle.semantics.specs.Steps.{Limits, Ending, finished, stopped, outOfFuel, failed, misread, Run, run, initial}
+use Rattle.semantics.specs.Tokens.{within}
+use Rattle.semantics.specs.Steps.{commandOf, Ending, finished, stopped, outOfFuel, failed, misread, Run}
 use Rattle.semantics.specs.Errors.{errorText, faultText, whereText}
 use Rattle.semantics.specs.Outcome.{line, endingLines, whereOf, items, outcome}
 use Rattle.semantics.specs.TextLaws.{decimal-length}
 use Rattle.semantics.specs.ListLaws.{All, nil, cons, all-reverse}
-use Rattle.semantics.specs.ShortLaws.{Short}
-use Rattle.semantics.specs.ShortSteps.{nameText-length, commandIn, SoundRun, run-sound, initial-sound}
+use Rattle.semantics.specs.ResultLaws.{choose-cond}
 use Rattle.semantics.specs.declared.Error.{Error}
 use Rattle.semantics.specs.declared.Fault.{Fault}
 use Rattle.semantics.specs.declared.Fault.the-variants.{BadNumber, BadEscape, OpenString, BadBrace, BadByte, OverLimit}
 use Rattle.semantics.specs.declared.Error.the-variants.{LimitCheck, Undefined, StackUnderflow, TypeCheck, RangeCheck, UndefinedResult, UnmatchedMark, ExecStackOverflow, StackOverflow, VmError, IoError}
+
+-- ---- names
+
+-- The bytes of a name or an operator.
+abbrev pub spelling : Value → List ℕ
+spelling (integer w) = []
+spelling (boolean b) = []
+spelling null = []
+spelling mark = []
+spelling (operator o) = o
+spelling (name x n) = n
+spelling (string i) = []
+spelling (array x i) = []
+
+-- A name of at most 31 bytes, or a value without a name.
+pub record Short (v : Value) : Type 0 where
+  pub brief : length (spelling v) ≤ nameMost
+
+pub plain : {v : Value} → T (leb (length (spelling v)) nameMost) → Short v
+plain t = record { brief = leb→le _ nameMost t }
+
+nameByte-length : (b : ℕ) → length (nameByte b) ≤ 4
+unfolding nameByte octal
+nameByte-length b = choose-cond (λ t. length t ≤ 4) (within 33 126 b && not (eqb b 92)) (b ∷ []) (octal b) (λ t. omega arith) (λ t. omega arith)
+
+escaped-length : (n : List ℕ) → length (escaped nameByte n) ≤ 4 * length n
+unfolding escaped
+escaped-length [] = omega arith
+escaped-length (b ∷ n) =
+    omega (arith, length-append (nameByte b) (escaped nameByte n), nameByte-length b, escaped-length n)
+
+pub nameText-length : (x : Bool) (n : List ℕ) → length (nameText x n) ≤ 1 + 4 * length n
+unfolding nameText bytes
+nameText-length true n = omega (arith, escaped-length n)
+nameText-length false n = omega (arith, escaped-length n)
+
+pub command-length : (v : Value) → Short v → length (commandOf v) ≤ 124
+unfolding commandOf nameText
+command-length (integer w) h = omega arith
+command-length (boolean b) h = omega arith
+command-length null h = omega arith
+command-length mark h = omega arith
+command-length (operator o) h = omega arith
+command-length (name true n) h = omega (arith, escaped-length n)
+command-length (name false n) h = omega arith
+command-length (string i) h = omega arith
+command-length (array x i) h = omega arith
+
+-- ---- items and lines
 
 pub decimalZ-length : (z : ℤ) → length (decimalZ z) ≤ 11
 unfolding decimalZ
@@ -91,6 +141,14 @@ where-length (BadBrace at) = decimal-length at
 where-length (BadByte at) = decimal-length at
 where-length OverLimit = omega arith
 
+-- The command of an ending.
+abbrev pub commandIn : Ending → List ℕ
+commandIn finished = []
+commandIn stopped = []
+commandIn outOfFuel = []
+commandIn (failed e c) = c
+commandIn (misread f) = []
+
 -- How the run ended, and where its token is wrong: a token fault has no command.
 pub ending-length : (e : Ending) → length (commandIn e) ≤ 124 → length (endingLines e) + length (whereOf e) ≤ 170
 unfolding endingLines whereOf bytes
@@ -101,15 +159,20 @@ ending-length (failed e c) h =
     simp length-append (omega (arith, line-length (bytes "error") (errorText e), line-length (bytes "command") c, error-length e))
 ending-length (misread f) h = simp length-append (omega (arith, line-length (bytes "error") (faultText f), fault-length f, where-length f))
 
-outcome-length : (l : Limits) (r : Run) → SoundRun l r → length (outcome r) ≤ headRoom + itemRoom * l .stackSlots
+-- What a run whose names are short comes to.
+pub outcome-length : (slots : ℕ) (r : Run)
+    → length (commandIn (r .ending)) ≤ 124
+    → All Short (r .final .machine .stack)
+    → length (r .final .machine .stack) ≤ slots
+    → length (outcome r) ≤ headRoom + itemRoom * slots
 unfolding outcome bytes
-outcome-length l r h =
+outcome-length slots r command short fits =
     let σ = r .final in
     let m = σ .machine in
     simp (outcome, length-append)
     (omega (
       arith,
-      ending-length (r .ending) (h .command),
+      ending-length (r .ending) command,
       line-length (bytes "at") (decimal (σ .at)),
       decimal-length (σ .at),
       line-length (bytes "where") (whereOf (r .ending)),
@@ -121,12 +184,7 @@ outcome-length l r h =
       decimal-length (heldCells m),
       line-length (bytes "log") (decimal (length (m .log))),
       decimal-length (length (m .log)),
-      items-length m (all-reverse (h .final .tame .stack)),
+      items-length m (all-reverse short),
       length-reverse (m .stack),
-      h .final .fits,
+      fits,
     ))
-
--- ---- the theorem
-
-pub outcome-fits : (l : Limits) (script : List ℕ) (fuel : ℕ) → length (outcome (run l script fuel initial)) ≤ headRoom + itemRoom * l .stackSlots
-outcome-fits l script fuel = outcome-length l (run l script fuel initial) (run-sound l script fuel initial (initial-sound l))

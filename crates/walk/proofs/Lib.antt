@@ -1,0 +1,9 @@
+pub mod Objects
+pub mod Operands
+pub mod OperatorsKeep
+pub mod Parts
+pub mod Property
+pub mod RunsKeep
+pub mod RunsLater
+pub mod StepsKeep
+pub mod TokensKeep
