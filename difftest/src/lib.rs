@@ -1,6 +1,7 @@
 //! Random scripts, fuel and room, run by the proved runner and by the reference interpreter: the answers, every lent byte outside what is promised to
-//! change, and the objects that the runner's words show. The tokens of these scripts and of rows of bytes, read by both at every offset. And random scans by the
-//! exported floor rule and the reference's, with their books; and books written as ledgers, and texts good and damaged read as such, by both.
+//! change, and the objects that the runner's words show. The tokens of these scripts and of rows of bytes, read by both at every offset. Random scans by the
+//! exported floor rule and the reference's, with their books; books written as ledgers, and texts good and damaged read as such, by both. And echo lines that are read
+//! back.
 
 #![forbid(unsafe_code)]
 
@@ -11,6 +12,7 @@ pub mod scripts;
 
 mod asked;
 mod circles;
+mod echoes;
 mod ledgers;
 mod lent;
 mod readings;
@@ -24,6 +26,7 @@ use floo_reference::{run, Answer, Ending, Fault, Machine, Ran, Sizes};
 use lent::Lent;
 use random::Random;
 use shown::Shown;
+pub use echoes::Echoes;
 pub use ledgers::Ledgers;
 pub use readings::Readings;
 pub use scans::{answer_of, from_reference, to_reference, Scans};
@@ -47,6 +50,7 @@ pub struct Tally {
     pub readings: Readings,
     pub scans: Scans,
     pub ledgers: Ledgers,
+    pub echoes: Echoes,
 }
 
 /// One case, or how the two differ.
@@ -155,21 +159,26 @@ fn fuel(random: &mut Random) -> u32 {
     }
 }
 
-/// Cases for each scan, and for each ledger.
+/// Cases for each scan and ledger, and for each echo line.
 const SCAN_EVERY: usize = 4;
+const ECHO_EVERY: usize = 4;
 
-/// As many cases as asked, from a seed; stops at the first difference. Every fourth has a scan and a ledger. These have numbers of their own, so that the cases are the
-/// same with and without them.
+/// As many cases as asked, from a seed; stops at the first difference. Of four one has a scan and a ledger, and one an echo line. These have numbers of their own, so that
+/// the cases are the same with and without them.
 pub fn compare_all(count: usize, seed: u64) -> Result<Tally, String> {
     let mut random = Random::new(seed);
     let mut scanning = Random::new(seed.rotate_left(32) | 1);
     let mut writing = Random::new(seed.rotate_left(16) | 1);
+    let mut echoing = Random::new(seed.rotate_left(48) | 1);
     let mut tally = Tally::default();
     for case in 0..count {
         let mut compared = compare(&mut random, &mut tally);
         if case % SCAN_EVERY == 0 {
             compared = compared.and_then(|()| scans::compare(case / SCAN_EVERY, &mut scanning, &mut tally.scans));
             compared = compared.and_then(|()| ledgers::compare(case / SCAN_EVERY, &mut writing, &mut tally.ledgers));
+        }
+        if case % ECHO_EVERY == 1 {
+            compared = compared.and_then(|()| echoes::compare(case / ECHO_EVERY, &mut echoing, &mut tally.echoes));
         }
         compared.map_err(|what| format!("case {case}, seed {seed}: {what}"))?;
     }

@@ -1,8 +1,8 @@
-//! `floo-difftest N SEED`: N random cases, runs and token readings, a scan and a ledger for every fourth, and what was compared.
+//! `floo-difftest N SEED`: N random cases, runs and token readings, a scan, a ledger and an echo line for every fourth, and what was compared.
 
 use std::process::ExitCode;
 
-use floo_difftest::{compare_all, Ledgers, Readings, Scans, DAMAGES};
+use floo_difftest::{compare_all, Echoes, Ledgers, Readings, Scans, DAMAGES};
 
 fn main() -> ExitCode {
     let numbers: Vec<u64> = std::env::args().skip(1).filter_map(|word| word.parse().ok()).collect();
@@ -24,6 +24,7 @@ fn main() -> ExitCode {
             print_readings(&tally.readings);
             print_scans(&tally.scans);
             print_ledgers(&tally.ledgers);
+            print_echoes(&tally.echoes);
             ExitCode::SUCCESS
         }
         Err(what) => {
@@ -92,4 +93,22 @@ fn print_ledgers(ledgers: &Ledgers) {
     for ((name, made), refused) in DAMAGES.iter().zip(ledgers.damaged).zip(ledgers.refused) {
         println!("  {name}: {made}, {refused} refused");
     }
+}
+
+fn print_echoes(echoes: &Echoes) {
+    let [tokens, puts, labels] = echoes.strings;
+    let [equal, other] = echoes.pairs;
+    let limits = [echoes.log, echoes.cells, echoes.stack].map(|[enough, short]| format!("{enough} and {short}"));
+    println!(
+        "{} strings and integers echoed, and read back where the line fits: {tokens} tokens, {puts} strings by put, {labels} labels ({} with bytes after a zero; each byte from 1 at least {} times), {} integers; \
+         {equal} pairs alike, {other} different; just enough and one too little: log {}, cells {}, stack {}; {} scripts of 32,768 bytes: no difference",
+        echoes.total(),
+        echoes.cut,
+        echoes.bytes[1..].iter().min().unwrap_or(&0),
+        echoes.integers,
+        limits[0],
+        limits[1],
+        limits[2],
+        echoes.longest
+    );
 }

@@ -3,7 +3,7 @@
 use floo_difftest::{compare_all, Ledgers, DAMAGES};
 
 #[test]
-fn runs_readings_scans_and_ledgers_agree_with_the_reference() {
+fn runs_readings_scans_ledgers_and_echo_lines_agree_with_the_reference() {
     let tally = compare_all(20_000, 0x0F10_0F10_0F10_0F10).unwrap();
     assert!(tally.refused > 1_000 && tally.refused < 10_000, "{} refused", tally.refused);
     assert!(tally.steps > 200_000, "{} steps", tally.steps);
@@ -28,6 +28,14 @@ fn runs_readings_scans_and_ledgers_agree_with_the_reference() {
     assert!(scans.past_64 > 300, "{} runs with records past the 64th", scans.past_64);
     assert!(scans.steps > 100_000 && scans.objects > 3_000, "{} steps, {} objects in scans", scans.steps, scans.objects);
     check_ledgers(&tally.ledgers);
+    let echoes = &tally.echoes;
+    assert!(echoes.strings.iter().all(|&count| count > 2_000), "{:?} strings echoed, by the way they were made", echoes.strings);
+    assert!(echoes.cut > 1_000 && echoes.integers > 1_000, "{} with bytes after a zero, {} integers", echoes.cut, echoes.integers);
+    assert!(echoes.bytes[0] == 0 && echoes.bytes[1..].iter().all(|&count| count > 50), "{:?} of each byte", echoes.bytes);
+    assert!(echoes.pairs.iter().all(|&count| count > 700), "{:?} pairs alike and different", echoes.pairs);
+    let limits = [echoes.log, echoes.cells, echoes.stack];
+    assert!(limits.iter().flatten().all(|&count| count > 500), "{limits:?} logs, cells and stacks just enough and one too little");
+    assert!(echoes.longest >= 10, "{} scripts of 32,768 bytes", echoes.longest);
     let read = tally.readings;
     assert!(read.total() > 2_000_000, "{} tokens", read.total());
     assert!(read.kinds.iter().all(|&count| count > 20_000), "{:?} of each kind", read.kinds);

@@ -52,6 +52,7 @@ passes false x y q = (refl, q)
 pub record Passed (a : Asked) (sound : Bool) : Type 0 where
   pub setup : refusal (a .script) (a .fuel) (a .lent) ≡ 0
   pub book : sound ≡ true
+  pub label : length (a .label) ≤ labelMost
   pub slot : nameCount + 1 ≤ a .lent .dictionaryWords / 12
   pub cells : (length (a .label) + 7) / 8 + 1 ≤ a .lent .cellWords / 4
 
@@ -66,6 +67,7 @@ passed a sound q =
     record {
       setup = omega (arith, ltb-false 0 (refusal (a .script) (a .fuel) (a .lent)) (t₁ .0));
       book = not-false sound (t₂ .0);
+      label = ltb-false labelMost (length (a .label)) (t₃ .0);
       slot = ltb-false (a .lent .dictionaryWords / 12) (nameCount + 1) (t₄ .0);
       cells = omega (arith, ltb-false (a .lent .cellWords / 4) (1 + (length (a .label) + 7) / 8) (t₅ .0));
     }

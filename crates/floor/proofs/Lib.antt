@@ -5,3 +5,4 @@ pub mod Carrying
 pub mod Labelling
 pub mod Scanning
 pub mod Orders
+pub mod ScanLines

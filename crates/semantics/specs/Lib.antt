@@ -26,10 +26,12 @@ pub mod ListLaws
 pub mod TokenLaws
 pub mod GroupLaws
 pub mod RunLaws
+pub mod WordLaws
 pub mod TextLaws
 pub mod SameLaws
 pub mod OutcomeLaws
 pub mod AsciiLaws
+pub mod EchoLaws
 pub mod NameLaws
 pub mod HeldLaws
 pub mod WhereLaws

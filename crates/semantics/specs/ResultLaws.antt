@@ -52,3 +52,6 @@ pub then-same : {E A B : Type 0} {P : A → Type 0} {r : Attempt E A} {f g : A �
 unfolding _>>=_
 then-same (gives {a = a} p) e = e a p
 then-same fails e = refl
+
+pub ok-one : {E A : Type 0} {a b : A} → _≡_ {A = Attempt E A} (ok a) (ok b) → a ≡ b
+ok-one e = cc

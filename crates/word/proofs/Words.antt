@@ -1,6 +1,6 @@
 -- Laws of 32-bit words: what the machine's unsigned operations give is what the definition asks. By cases on the operands' signs; the rest is arithmetic.
 -- Assumes nothing.
-use mathlib.Core.Path.{_≡_, sym, ap, _∙_, subst}
+use mathlib.Core.Path.{_≡_, sym, ap, _∙_}
 use mathlib.Core.Bool.{Bool, true, false, not, cond}
 use Prim.Native.Nat.{ℕ, zero, suc, _+_, _-_, _*_, _/_, _%_, _^_, _≤_, _<_}
 use native.Mathlib.Nat.{mod-eq-of-lt, mul-add, add-mul, mul-comm, mul-le-mul-left, le-of-lt, lt-of-le-of-lt}
@@ -9,36 +9,10 @@ use lib.IntN.{ℤ, pos, negsuc, negℤ, natAbs, subℕ, _+ℤ_, _-ℤ_, _*ℤ_, 
 use lib.Dec.{T, ltb, ltb→lt, nltb→le}
 use lib.Pow.{shl-lt}
 use borrow.Author.Tests.{lt-ltb, le-ltb, ltb-true}
-use mir.Syntax.{w32}
-use mir.Val.{toZ}
-use mir.ValLaws.{toZ-pos, toZ-neg}
 use Rattle.semantics.specs.Words.{signed, word, inRange, shift}
+pub use Rattle.semantics.specs.WordLaws.{signed-low, signed-high, Sign, low, high, sign}
 
 -- ---- signs
-
-pub signed-low : (w : ℕ) → w < 2 ^ 31 → signed w ≡ pos w
-unfolding signed
-signed-low w h = toZ-pos w32 w h
-
-pub signed-high : (w : ℕ) → 2 ^ 31 ≤ w → w < 2 ^ 32 → signed w ≡ negsuc (2 ^ 32 - suc w)
-unfolding signed
-signed-high w l h =
-    let e : 2 ^ 32 - suc (2 ^ 32 - suc w) ≡ w = omega arith in
-    subst (λ x. toZ w32 x ≡ negsuc (2 ^ 32 - suc w)) e (toZ-neg w32 (2 ^ 32 - suc w) (omega arith))
-
--- A word is nonnegative, and then it is its number; or it is -(k + 1), and then it is 2 ^ 32 - (k + 1).
-pub data Sign (w : ℕ) : Type 0 where
-  low : w < 2 ^ 31 → signed w ≡ pos w → Sign w
-  high : (k : ℕ) → k < 2 ^ 31 → w + suc k ≡ 2 ^ 32 → signed w ≡ negsuc k → Sign w
-
-pub sign : (w : ℕ) → w < 2 ^ 32 → Sign w
-sign w h = by (ltb w (2 ^ 31)) (ltb→lt w (2 ^ 31)) (nltb→le w (2 ^ 31))
-  where
-    by : (b : Bool) → (T b → w < 2 ^ 31) → (T (not b) → 2 ^ 31 ≤ w) → Sign w
-    by true f g = low (f tt) (signed-low w (f tt))
-    by false f g =
-        let l : 2 ^ 31 ≤ w = g tt in
-        high (2 ^ 32 - suc w) (omega arith) (omega arith) (signed-high w l h)
 
 -- What an operator gets that reads a word and writes it back, as the definition's bitshift does.
 pub word-signed : (w : ℕ) → w < 2 ^ 32 → word (signed w) ≡ w
