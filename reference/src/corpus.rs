@@ -1,6 +1,7 @@
 //! Reads the corpus, in the format of ../corpus/README.md.
 
 mod ledgers;
+mod pages;
 mod scans;
 
 use std::fs;
@@ -8,6 +9,7 @@ use std::path::{Path, PathBuf};
 
 use crate::Sizes;
 pub use ledgers::{read_ledgers, LedgerCase, LedgerQuestion};
+pub use pages::{read_pages, read_scripts, spans, Page, Row, Shown};
 pub use scans::{read_scans, ScanCase};
 
 /// What a case asks for.
@@ -39,19 +41,19 @@ pub fn repository() -> PathBuf {
 /// All cases of all files, in the order of the files' names, or what is malformed.
 pub fn read_all() -> Result<Vec<Case>, String> {
     let mut cases = Vec::new();
-    for (file, text) in texts(&repository().join("corpus"))? {
+    for (file, text) in texts(&repository().join("corpus"), "txt")? {
         cases.extend(read_cases(&file, &text)?);
     }
     Ok(cases)
 }
 
-/// The files of a folder, in the order of their names.
-fn texts(folder: &Path) -> Result<Vec<(PathBuf, Vec<u8>)>, String> {
+/// The files of a folder with this extension, in the order of their names.
+fn texts(folder: &Path, extension: &str) -> Result<Vec<(PathBuf, Vec<u8>)>, String> {
     let unread = |error: std::io::Error| format!("the corpus cannot be read: {error}");
     let mut texts = Vec::new();
     for entry in fs::read_dir(folder).map_err(unread)? {
         let path = entry.map_err(unread)?.path();
-        if path.extension().is_some_and(|extension| extension == "txt") {
+        if path.extension().is_some_and(|found| found == extension) {
             let text = fs::read(&path).map_err(unread)?;
             texts.push((path, text));
         }

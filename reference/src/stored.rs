@@ -2,7 +2,7 @@
 
 use std::path::PathBuf;
 
-use crate::corpus::{read_all, repository, Case, Question};
+use crate::corpus::{read_all, read_pages, read_scripts, repository, Case, Question};
 use crate::print::token_line;
 use crate::printed;
 use crate::setup::LONGEST_SCRIPT;
@@ -17,7 +17,9 @@ const ROOM: [usize; 7] = [514, 1_032, 6_156, 131_076, 65_537, 35_072, 32_769];
 
 /// Each file with its contents.
 pub fn files() -> Result<Vec<(PathBuf, Vec<u8>)>, String> {
-    let cases = read_all()?;
+    let mut cases = read_all()?;
+    cases.extend(read_pages()?.into_iter().flat_map(|page| page.cases));
+    cases.extend(read_scripts()?);
     let (heads, answers) = runs(&cases);
     let mut scripts: Vec<Vec<u8>> = cases.into_iter().map(|case| case.script).collect();
     scripts.retain(|script| script.len() <= LONGEST_LISTED || script.len() > LONGEST_SCRIPT);

@@ -33,7 +33,7 @@ const ROOMY: usize = 8192;
 /// All ledgers of all files, in the order of the files' names, or what is malformed.
 pub fn read_ledgers() -> Result<Vec<LedgerCase>, String> {
     let mut cases = Vec::new();
-    for (file, text) in texts(&repository().join("corpus/ledger"))? {
+    for (file, text) in texts(&repository().join("corpus/ledger"), "txt")? {
         cases.extend(read_file(&file, &text)?);
     }
     Ok(cases)

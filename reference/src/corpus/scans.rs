@@ -30,7 +30,7 @@ pub(super) const UNNAMED: Record = Record {
 /// All scans of all files, in the order of the files' names, or what is malformed.
 pub fn read_scans() -> Result<Vec<ScanCase>, String> {
     let mut cases = Vec::new();
-    for (file, text) in texts(&repository().join("corpus/floor"))? {
+    for (file, text) in texts(&repository().join("corpus/floor"), "txt")? {
         cases.extend(read_file(&file, &text)?);
     }
     Ok(cases)
