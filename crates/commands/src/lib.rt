@@ -16,7 +16,7 @@ use machine::TAG_OPERATOR;
 use semantics::EXEC_WIDTH;
 
 // The command of the topmost slot: what is pending, or a procedure's next element.
-// Rules out: the element before or after the next one; a command of a loop or of a literal name.
+// Ruled out: the element before or after the next one; a command of a loop or of a literal name.
 pub fn command(m: Machine, exec: &[u32], cells: &[u32]) -> Command
     requires { ⌜ (1 ≤ m .frames) × Somewhere m (now exec) (now cells) ⌝ }
     ensures { λ r. ⌜ Commands m (now (exec .entry)) (now (cells .entry)) r ⌝ }

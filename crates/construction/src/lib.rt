@@ -18,7 +18,7 @@ pub struct Placed {
 }
 
 // The element that cell c is, null so far, becomes the value of these words, which names no object.
-// Rules out: another element changed; the payload left as it was.
+// Ruled out: another element changed; the payload left as it was.
 pub fn set_plain(cells: &mut [u32], c: u32, tag: u32, pay: u32)
     requires { ⌜ (tag < 8) × (c * 4 + 4 ≤ length (now cells)) ⌝ }
     ensures { λ _. ⌜ SetsPlain c tag pay (now (cells .entry)) (now (cells .exit)) ⌝ }
@@ -28,7 +28,7 @@ pub fn set_plain(cells: &mut [u32], c: u32, tag: u32, pay: u32)
 }
 
 // The element that cell c is, null so far, becomes a new procedure of n nulls.
-// Rules out: a procedure that no place names; a literal array; one of another length.
+// Ruled out: a procedure that no place names; a literal array; one of another length.
 pub fn set_array(mut m: Machine, cells: &mut [u32], c: u32, n: u32) -> Placed
     requires { ⌜ (n + 1 ≤ freeCells m (now cells)) × (c * 4 + 4 ≤ length (now cells)) × ((s : List ℕ) × Somewhere m s (now cells)) ⌝ }
     ensures { λ r. ⌜ SetsArray c n m (now (cells .entry)) (r .machine) (r .header) (now (cells .exit)) ⌝ }
@@ -48,7 +48,7 @@ pub fn set_array(mut m: Machine, cells: &mut [u32], c: u32, n: u32) -> Placed
 }
 
 // The element that cell c is, null so far, becomes a new string of maximum n, all zeros.
-// Rules out: a last cell that is missing where n is no multiple of 8; bytes left from before.
+// Ruled out: a last cell that is missing where n is no multiple of 8; bytes left from before.
 pub fn set_string(mut m: Machine, cells: &mut [u32], c: u32, n: u32) -> Placed
     requires { ⌜ ((n + 7) / 8 + 1 ≤ freeCells m (now cells)) × (c * 4 + 4 ≤ length (now cells)) × ((s : List ℕ) × Somewhere m s (now cells)) ⌝ }
     ensures { λ r. ⌜ SetsString c n m (now (cells .entry)) (r .machine) (r .header) (now (cells .exit)) ⌝ }

@@ -46,7 +46,7 @@ pub fn loop_(m: Machine, stack: &[u32], exec: &mut [u32]) -> Did
     Did::Ok(frames::enter_loop(m, stack, exec, LOOP, 0, 0, 0))
 }
 
-// Rules out: a negative count that repeats; a count that stays on the stack.
+// Ruled out: a negative count that repeats; a count that stays on the stack.
 pub fn repeat_(m: Machine, stack: &[u32], exec: &mut [u32]) -> Did
     requires { ⌜ Represented m (now stack) (now exec) ⌝ }
     ensures { λ r. ⌜ DoesSlots (perform (bytes "repeat")) m (now (stack .entry)) (now (exec .entry)) (now (exec .exit)) r ⌝ }
@@ -103,7 +103,7 @@ pub fn for_(m: Machine, stack: &[u32], exec: &mut [u32]) -> Did
     Did::Ok(forget(r, 3))
 }
 
-// Rules out: a body that is kept where the test is false; execstackoverflow where nothing becomes pending.
+// Ruled out: a body that is kept where the test is false; execstackoverflow where nothing becomes pending.
 pub fn if_(m: Machine, stack: &[u32], exec: &mut [u32], cells: &mut [u32]) -> Did
     requires { ⌜ SomewhereAll m (now stack) (now exec) (now cells) ⌝ }
     ensures { λ r. ⌜ DoesFrames (perform (bytes "if")) m (now (stack .entry)) (now (stack .entry)) (now (exec .entry)) (now (exec .exit)) (now (cells .entry)) (now (cells .exit)) r ⌝ }
@@ -150,7 +150,7 @@ pub fn ifelse(m: Machine, stack: &[u32], exec: &mut [u32], cells: &mut [u32]) ->
     Did::Ok(forget(r, 1))
 }
 
-// Rules out: slots that go where there is no loop; a loop that stays.
+// Ruled out: slots that go where there is no loop; a loop that stays.
 pub fn exit(m: Machine, exec: &[u32], cells: &mut [u32]) -> Did
     requires { ⌜ Somewhere m (now exec) (now cells) ⌝ }
     ensures { λ r. ⌜ DoesCells (perform (bytes "exit")) m (now (exec .entry)) (now (cells .entry)) (now (cells .exit)) r ⌝ }

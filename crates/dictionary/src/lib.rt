@@ -24,7 +24,7 @@ use semantics::EXEC_WIDTH;
 use semantics::STACK_WIDTH;
 
 // The slot of a name; the number of slots where it has none. The name is packed once, so that a slot takes a comparison of words and none of bytes.
-// Rules out: a name taken for a longer one that starts like it; a slot past the last one.
+// Ruled out: a name taken for a longer one that starts like it; a slot past the last one.
 pub fn find(m: Machine, dict: &[u32], name: &[u8]) -> usize
     requires { ⌜ (length (now name) ≤ nameMost) × (12 * m .names ≤ length (now dict)) × (length (now dict) ≤ dictionaryWordsMost) ⌝ }
     ensures { λ r. ⌜ Finds m (now (dict .entry)) (now (name .entry)) r ⌝ }
@@ -37,7 +37,7 @@ pub fn find(m: Machine, dict: &[u32], name: &[u8]) -> usize
 }
 
 // A name that has no slot takes the next one, unbound.
-// Rules out: a slot over that of another name; bytes of an earlier name left after the new one.
+// Ruled out: a slot over that of another name; bytes of an earlier name left after the new one.
 pub fn add(m: Machine, dict: &mut [u32], name: &[u8]) -> Machine
     requires { ⌜ (length (now name) ≤ nameMost) × (12 * m .names + 12 ≤ length (now dict)) × (length (now dict) ≤ dictionaryWordsMost) ⌝ }
     ensures { λ r. ⌜ Adds m r (now (dict .entry)) (now (dict .exit)) (now (name .entry)) ⌝ }
@@ -52,7 +52,7 @@ pub fn add(m: Machine, dict: &mut [u32], name: &[u8]) -> Machine
 }
 
 // A name's length and bytes go into a slot.
-// Rules out: bytes of an earlier name left after the new one; a binding changed.
+// Ruled out: bytes of an earlier name left after the new one; a binding changed.
 pub fn spell(dict: &mut [u32], slot: usize, name: &[u8])
     requires { ⌜ (length (now name) ≤ nameMost) × (12 * slot + 12 ≤ length (now dict)) × (length (now dict) ≤ dictionaryWordsMost) ⌝ }
     ensures { λ _. ⌜ Spells slot (now (name .entry)) (now (dict .entry)) (now (dict .exit)) ⌝ }
@@ -62,7 +62,7 @@ pub fn spell(dict: &mut [u32], slot: usize, name: &[u8])
 }
 
 // Item i gives way to a copy of the slot's binding.
-// Rules out: a copy whose object is not counted; the item let go before the binding is counted.
+// Ruled out: a copy whose object is not counted; the item let go before the binding is counted.
 pub fn load_binding(
     m: Machine,
     stack: &mut [u32],
@@ -91,7 +91,7 @@ pub fn load_binding(
 }
 
 // A copy of the slot's binding becomes pending.
-// Rules out: a procedure that is freed while a slot still runs it; the slot below written over.
+// Ruled out: a procedure that is freed while a slot still runs it; the slot below written over.
 pub fn pend_binding(
     m: Machine,
     exec: &mut [u32],
@@ -119,7 +119,7 @@ pub fn pend_binding(
 }
 
 // The slot's binding becomes a copy of item i.
-// Rules out: the old binding let go before the new one is counted; another slot's binding changed.
+// Ruled out: the old binding let go before the new one is counted; another slot's binding changed.
 pub fn bind_item(
     m: Machine,
     stack: &[u32],
@@ -148,7 +148,7 @@ pub fn bind_item(
 }
 
 // Item i gives way to the literal name that has this slot.
-// Rules out: the item's object left counted; an executable name.
+// Ruled out: the item's object left counted; an executable name.
 pub fn put_name(m: Machine, stack: &mut [u32], cells: &mut [u32], slot: u32, i: usize) -> Machine
     requires { ⌜ (i < m .depth) × NamedStack slot m (now stack) (now cells) ⌝ }
     ensures { λ r. ⌜ PutsName slot i m r (now (stack .entry)) (now (stack .exit)) (now (cells .entry)) (now (cells .exit)) ⌝ }

@@ -15,7 +15,7 @@ use machine::TAG_STRING;
 use semantics::STACK_WIDTH;
 
 // The tag of item i.
-// Rules out: an item counted from the bottom; the payload read for the tag.
+// Ruled out: an item counted from the bottom; the payload read for the tag.
 pub fn tag_of(m: Machine, stack: &[u32], i: usize) -> u32
     requires { ⌜ (i < m .depth) × (2 * m .depth ≤ length (now stack)) ⌝ }
     ensures { λ r. ⌜ ItemTag i m (now (stack .entry)) r ⌝ }
@@ -25,7 +25,7 @@ pub fn tag_of(m: Machine, stack: &[u32], i: usize) -> u32
 }
 
 // How many cells are free.
-// Rules out: the cells that were given back left out; the words counted for cells.
+// Ruled out: the cells that were given back left out; the words counted for cells.
 pub fn free_cells(m: Machine, cells: &[u32]) -> u32
     requires { ⌜ ((s : List ℕ) × Somewhere m s (now cells)) ⌝ }
     ensures { λ r. ⌜ r ≡ freeCells m (now (cells .entry)) ⌝ }
@@ -35,7 +35,7 @@ pub fn free_cells(m: Machine, cells: &[u32]) -> u32
 }
 
 // The number of elements of the array that is item i.
-// Rules out: the count of its names read for its size; another item's size.
+// Ruled out: the count of its names read for its size; another item's size.
 pub fn size_of(m: Machine, stack: &[u32], cells: &[u32], i: usize) -> u32
     requires { ⌜ (i < m .depth) × SomewhereThat (HasArray i) m (now stack) (now cells) ⌝ }
     ensures { λ r. ⌜ ArraySize i m (now (stack .entry)) (now (cells .entry)) r ⌝ }
@@ -46,7 +46,7 @@ pub fn size_of(m: Machine, stack: &[u32], cells: &[u32], i: usize) -> u32
 }
 
 // Item j gives way to a copy of element q of the array that is item i. The element is counted before the item is let go: the item may be the array itself.
-// Rules out: the array let go before its element is counted; an element of another place.
+// Ruled out: the array let go before its element is counted; an element of another place.
 pub fn copy_element(
     mut m: Machine,
     stack: &mut [u32],
@@ -77,7 +77,7 @@ pub fn copy_element(
 }
 
 // Element q of the array that is item i becomes a copy of item j.
-// Rules out: what the element named left counted; another element changed.
+// Ruled out: what the element named left counted; another element changed.
 pub fn put_element(
     mut m: Machine,
     stack: &[u32],
@@ -104,7 +104,7 @@ pub fn put_element(
 }
 
 // How many bytes the string that is item i has room for.
-// Rules out: the number of its cells for its bytes; a maximum one too large.
+// Ruled out: the number of its cells for its bytes; a maximum one too large.
 pub fn maximum(m: Machine, stack: &[u32], cells: &[u32], i: usize) -> u32
     requires { ⌜ (i < m .depth) × SomewhereThat (HasString i) m (now stack) (now cells) ⌝ }
     ensures { λ r. ⌜ StringSize i m (now (stack .entry)) (now (cells .entry)) r ⌝ }
@@ -115,7 +115,7 @@ pub fn maximum(m: Machine, stack: &[u32], cells: &[u32], i: usize) -> u32
 }
 
 // Byte q of the string that is item i.
-// Rules out: bytes in the other order in a word; the first word read for both.
+// Ruled out: bytes in the other order in a word; the first word read for both.
 pub fn get_byte(m: Machine, stack: &[u32], cells: &[u32], i: usize, q: u32) -> u8
     requires { ⌜ (i < m .depth) × SomewhereThat (HasByte i q) m (now stack) (now cells) ⌝ }
     ensures { λ r. ⌜ ByteOf i q m (now (stack .entry)) (now (cells .entry)) r ⌝ }
@@ -128,7 +128,7 @@ pub fn get_byte(m: Machine, stack: &[u32], cells: &[u32], i: usize, q: u32) -> u
 }
 
 // Byte q of the string that is item i becomes b.
-// Rules out: the other bytes of the word lost; a byte added to the old one.
+// Ruled out: the other bytes of the word lost; a byte added to the old one.
 pub fn put_byte(m: Machine, stack: &[u32], cells: &mut [u32], i: usize, q: u32, b: u8)
     requires { ⌜ (i < m .depth) × SomewhereThat (HasByte i q) m (now stack) (now cells) ⌝ }
     ensures { λ _. ⌜ MovesHeap (bytePut i q b) m m (now (stack .entry)) (now (stack .entry)) (now (cells .entry)) (now (cells .exit)) ⌝ }
@@ -139,7 +139,7 @@ pub fn put_byte(m: Machine, stack: &[u32], cells: &mut [u32], i: usize, q: u32, 
 }
 
 // Byte q of the string with header h becomes b.
-// Rules out: the other bytes of the word lost; another string's byte.
+// Ruled out: the other bytes of the word lost; another string's byte.
 pub fn put_byte_at(cells: &mut [u32], h: u32, q: u32, b: u8)
     requires { ⌜ HasCell (now cells) h (q / 8) ⌝ }
     ensures { λ _. ⌜ PutsByte h q b (now (cells .entry)) (now (cells .exit)) ⌝ }
@@ -159,7 +159,7 @@ pub fn byte_of(w: u32, j: u32) -> u8
 }
 
 // Item i, which names no object, gives way to a new array of n nulls.
-// Rules out: an array that no place names; one of another length; a cell taken that is not its own.
+// Ruled out: an array that no place names; one of another length; a cell taken that is not its own.
 pub fn new_array(mut m: Machine, stack: &mut [u32], cells: &mut [u32], i: usize, n: u32) -> Machine
     requires { ⌜ (i < m .depth) × (n + 1 ≤ freeCells m (now cells)) × SomewhereThat (HasPlain i) m (now stack) (now cells) ⌝ }
     ensures { λ r. ⌜ MovesHeap (arrayMade i n) m r (now (stack .entry)) (now (stack .exit)) (now (cells .entry)) (now (cells .exit)) ⌝ }
@@ -177,7 +177,7 @@ pub fn new_array(mut m: Machine, stack: &mut [u32], cells: &mut [u32], i: usize,
 }
 
 // Item i, which names no object, gives way to a new string of maximum n, all zeros.
-// Rules out: a last cell that is missing where n is no multiple of 8; bytes left from before.
+// Ruled out: a last cell that is missing where n is no multiple of 8; bytes left from before.
 pub fn new_string(mut m: Machine, stack: &mut [u32], cells: &mut [u32], i: usize, n: u32) -> Machine
     requires { ⌜ (i < m .depth) × ((n + 7) / 8 + 1 ≤ freeCells m (now cells)) × SomewhereThat (HasPlain i) m (now stack) (now cells) ⌝ }
     ensures { λ r. ⌜ MovesHeap (stringMade i n) m r (now (stack .entry)) (now (stack .exit)) (now (cells .entry)) (now (cells .exit)) ⌝ }

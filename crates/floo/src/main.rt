@@ -47,7 +47,7 @@ fn main() {
 }
 
 // What is printed of a script.
-// Rules out: the outcome before the log; a refusal without its line's end; a run with other sizes.
+// Ruled out: the outcome before the log; a refusal without its line's end; a run with other sizes.
 fn write_page(script: &[u8], page: &mut [u8; PAGE]) -> usize
     ensures { λ r. ⌜ Written 0 (printed (now (script .entry)) fuel sizes) (now (page .entry)) (now (page .exit)) r ⌝ }
 {

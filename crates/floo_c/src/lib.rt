@@ -33,7 +33,7 @@ pub struct TokenReply {
 }
 
 // A script is run with what is lent, or refused.
-// Rules out: a refusal told as a run of no steps; the two counts exchanged.
+// Ruled out: a refusal told as a run of no steps; the two counts exchanged.
 #[no_mangle]
 pub extern "C" fn floo_run(
     script: &[u8],
@@ -73,7 +73,7 @@ pub extern "C" fn floo_run(
 }
 
 // The next token of a script from `offset` on.
-// Rules out: start and size exchanged; a fault or a refusal that moves the offset on.
+// Ruled out: start and size exchanged; a fault or a refusal that moves the offset on.
 #[no_mangle]
 pub extern "C" fn floo_token(script: &[u8], offset: usize) -> TokenReply
     ensures { λ r. ⌜ r ≡ tokenReplyOf offset (setup.reading (now (script .entry)) offset) ⌝ }

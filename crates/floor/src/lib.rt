@@ -76,7 +76,7 @@ struct Read {
 }
 
 // A scan: the label is lent, the script is run, and its entry goes into the book.
-// Rules out: a late scan that replaces; a record changed that is not this socket's; a lent byte changed by a refusal before the run.
+// Ruled out: a late scan that replaces; a record changed that is not this socket's; a lent byte changed by a refusal before the run.
 pub fn scan(
     script: &[u8],
     fuel: u32,
@@ -110,7 +110,7 @@ pub fn scan(
 }
 
 // The run with the label lent, unless something is refused before it.
-// Rules out: a bad book looked at before setup; a run without room for the label; a word past whole slots written.
+// Ruled out: a bad book looked at before setup; a run without room for the label; a word past whole slots written.
 pub fn run_labelled(
     script: &[u8],
     fuel: u32,
@@ -157,7 +157,7 @@ pub fn run_labelled(
 }
 
 // What is refused before the run, in the paper's order.
-// Rules out: the label judged before the book; a label of 513 bytes; a label without a slot of its own.
+// Ruled out: the label judged before the book; a label of 513 bytes; a label without a slot of its own.
 fn check(script: &[u8], fuel: u32, label: &[u8], sound: bool, lent: Lent) -> Before
     ensures { λ r. ⌜ beforeOf r ≡ before (record { script = now (script .entry); fuel = fuel; label = now (label .entry); lent = lentOf lent }) sound ⌝ }
 {
@@ -230,7 +230,7 @@ fn carry_label(
 }
 
 // The entry that the stack's items are: a socket number, a place and a scan time, from the bottom, and no more.
-// Rules out: a number below 0; an empty place; a place of 32 bytes; bytes after its length that are not 0.
+// Ruled out: a number below 0; an empty place; a place of 32 bytes; bytes after its length that are not 0.
 fn read_entry(m: Machine, stack: &[u32], cells: &[u32]) -> Read
     requires { ⌜ Somewhere m (now stack) (now cells) ⌝ }
     ensures { λ r. ⌜ ReadsEntry m (now (stack .entry)) (now (cells .entry)) r ⌝ }

@@ -20,7 +20,7 @@ pub struct Reply {
 }
 
 // A scan: the label is lent, the script is run, and its entry goes into the book.
-// Rules out: one answer told as another; the counts exchanged.
+// Ruled out: one answer told as another; the counts exchanged.
 #[no_mangle]
 pub extern "C" fn floor_scan(
     script: &[u8],

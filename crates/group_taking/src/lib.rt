@@ -20,7 +20,7 @@ pub enum Grouped {
 }
 
 // The group whose opening brace is before `from` is pushed. Braces nest at most 16 deep, so 15 levels are left inside.
-// Rules out: VMerror where the dictionary is full too; the cells of inner groups and strings left out of the test of room.
+// Ruled out: VMerror where the dictionary is full too; the cells of inner groups and strings left out of the test of room.
 pub fn take_group(
     m: Machine,
     stack: &mut [u32],

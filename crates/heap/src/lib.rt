@@ -47,7 +47,7 @@ pub struct Taken {
 }
 
 // The lists of a heap with no object, whatever the words hold.
-// Rules out: a first cell passed over; words that would have to be cleared.
+// Ruled out: a first cell passed over; words that would have to be cleared.
 pub fn fresh() -> Lists
     ensures { λ r. ⌜ Empty r ⌝ }
 {
@@ -101,7 +101,7 @@ pub fn size(m: &[u32], h: u32) -> u32
 }
 
 // Cell i of the body of the header h: at once where the cells stand side by side.
-// Rules out: a link that is not followed; an element counted from the wrong end.
+// Ruled out: a link that is not followed; an element counted from the wrong end.
 pub fn seek(m: &[u32], h: u32, i: u32) -> u32
     requires { ⌜ ((g : Ghost) × (e : ℕ) × Shape g e (now m) × (g .own h ≡ live) × (i < g .size (h + 2))) ⌝ }
     ensures { λ r. ⌜ ((g : Ghost) (e : ℕ) → Shape g e (now (m .entry)) → g .own h ≡ live → (k : ℕ) → g .size (h + 2) ≡ i + suc k → g .own r ≡ on (h + 2) k) ⌝ }
@@ -135,7 +135,7 @@ fn walk(m: &[u32], h: u32, i: u32) -> u32
 }
 
 // An object of n body cells, each a null, in hand: one place names it, the caller's.
-// Rules out: a cell lost on the way; a count that is not 1.
+// Ruled out: a cell lost on the way; a count that is not 1.
 pub fn allocate(s: Lists, m: &mut [u32], kind: u32, n: u32) -> Taken
     requires { ⌜ ((p : ℕ) × (g : Ghost) × Full g p 0 s (now m)) ⌝ }
     requires { ⌜ n + 1 + s .edge ≤ cells (now m) + s .listed ⌝ }
@@ -153,7 +153,7 @@ pub fn allocate(s: Lists, m: &mut [u32], kind: u32, n: u32) -> Taken
 }
 
 // If the value is an object, one place more names it.
-// Rules out: a payload taken for a header where the tag is a plain value's; another object counted.
+// Ruled out: a payload taken for a header where the tag is a plain value's; another object counted.
 pub fn increment(m: &mut [u32], tag: u32, pay: u32)
     requires { ⌜ ((p : ℕ) × (g : Ghost) × (s : Lists) × Full g p 0 s (now m) × Alives g tag pay) ⌝ }
     ensures { λ _. ⌜ Risen tag pay (now (m .entry)) (now (m .exit)) × ((x u : ℕ) → u < 4 → (u ≡ 2 → ⊥) → word (now (m .exit)) x u ≡ word (now (m .entry)) x u) ⌝ }
@@ -165,7 +165,7 @@ pub fn increment(m: &mut [u32], tag: u32, pay: u32)
 }
 
 // The cell c of a live array holds the value, and what it held before is let go.
-// Rules out: the old value let go and the new one not counted; the new one let go in place of the old.
+// Ruled out: the old value let go and the new one not counted; the new one let go in place of the old.
 pub fn assign(s: Lists, m: &mut [u32], c: u32, tag: u32, pay: u32) -> Lists
     requires { ⌜ Target c tag pay s (now m) × (s .dead ≡ 0) ⌝ }
     ensures { λ r. ⌜ (r .dead ≡ 0) × Assigned c tag pay s (now (m .entry)) r (now (m .exit)) ⌝ }
@@ -183,7 +183,7 @@ pub fn assign(s: Lists, m: &mut [u32], c: u32, tag: u32, pay: u32) -> Lists
 }
 
 // What names o lets go of it; all that only dead objects name is freed, and nothing else.
-// Rules out: an object freed that a place still names; an object kept that nothing names.
+// Ruled out: an object freed that a place still names; an object kept that nothing names.
 pub fn release(s: Lists, m: &mut [u32], o: u32) -> Lists
     requires { ⌜ Sound (suc o) s (now m) ⌝ }
     ensures { λ r. ⌜ (r .dead ≡ 0) × Goes (suc o) s (now (m .entry)) r (now (m .exit)) ⌝ }

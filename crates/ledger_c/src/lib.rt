@@ -13,7 +13,7 @@ pub struct Reply {
 }
 
 // The book is written into the lent text.
-// Rules out: one refusal told as another; records told for bytes.
+// Ruled out: one refusal told as another; records told for bytes.
 #[no_mangle]
 pub extern "C" fn floor_write_ledger(book: &[Record], count: usize, text: &mut [u8]) -> Reply
     ensures { λ r. ⌜ WriteReplies (now (book .entry)) count (now (text .entry)) (now (text .exit)) r ⌝ }
@@ -23,7 +23,7 @@ pub extern "C" fn floor_write_ledger(book: &[Record], count: usize, text: &mut [
 }
 
 // The book is read from the text.
-// Rules out: one refusal told as another; a refused text that changes the book.
+// Ruled out: one refusal told as another; a refused text that changes the book.
 #[no_mangle]
 pub extern "C" fn floor_read_ledger(text: &[u8], book: &mut [Record]) -> Reply
     ensures { λ r. ⌜ ReadReplies (now (text .entry)) (now (book .entry)) (now (book .exit)) r ⌝ }

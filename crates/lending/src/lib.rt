@@ -10,7 +10,7 @@ use semantics::STACK_WIDTH;
 use step::State;
 
 // A string of these bytes is made and bound to a name that has no slot. It is made in the lowest slot of an empty stack, and let go there.
-// Rules out: a string that two places name; a byte left out; another name's binding changed.
+// Ruled out: a string that two places name; a byte left out; another name's binding changed.
 pub fn lend(
     m: Machine,
     stack: &mut [u32],
@@ -33,7 +33,7 @@ pub fn lend(
 }
 
 // The run with a string lent, where setup accepts and there is room for its slot and its cells.
-// Rules out: a string that is made after step 1; words past its slot changed before it.
+// Ruled out: a string that is made after step 1; words past its slot changed before it.
 pub fn carry_out(
     script: &[u8],
     fuel: u32,

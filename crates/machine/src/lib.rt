@@ -300,7 +300,7 @@ impl Machine {
     }
 
     // The topmost execution slot goes, and what it names is let go.
-    // Rules out: a procedure that is freed while a slot still runs it; a finished one that is kept.
+    // Ruled out: a procedure that is freed while a slot still runs it; a finished one that is kept.
     pub fn drop_frame(mut self, exec: &[u32], cells: &mut [u32]) -> Machine
         requires { ⌜ (1 ≤ self .frames) × SlotsSomewhere self (now exec) (now cells) ⌝ }
         ensures { λ r. ⌜ MovesFrames frameDropped self r (now (exec .entry)) (now (exec .entry)) (now (cells .entry)) (now (cells .exit)) ⌝ }
@@ -342,7 +342,7 @@ impl Machine {
     }
 
     // The same state, made anew field by field: the compiler then keeps the fields of a loop's state apart.
-    // Rules out: two fields exchanged; a list of the heap that starts anew.
+    // Ruled out: two fields exchanged; a list of the heap that starts anew.
     pub fn fields(self) -> Machine
         ensures { λ r. ⌜ r ≡ self ⌝ }
     {

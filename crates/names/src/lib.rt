@@ -6,7 +6,7 @@ use machine::SPELLING;
 use semantics::DICTIONARY_WIDTH;
 
 // The number of bytes of the name in a slot.
-// Rules out: another slot's length; a length in words.
+// Ruled out: another slot's length; a length in words.
 pub fn name_size(dict: &[u32], slot: usize) -> usize
     requires { ⌜ 12 * slot + 12 ≤ length (now dict) ⌝ }
     ensures { λ r. ⌜ NameSize slot (now (dict .entry)) r ⌝ }
@@ -16,7 +16,7 @@ pub fn name_size(dict: &[u32], slot: usize) -> usize
 }
 
 // Byte j of the name in a slot.
-// Rules out: the length read for bytes; the bytes of a word in the other order.
+// Ruled out: the length read for bytes; the bytes of a word in the other order.
 pub fn name_byte(dict: &[u32], slot: usize, j: usize) -> u8
     requires { ⌜ (12 * slot + 12 ≤ length (now dict)) × (j < 32) ⌝ }
     ensures { λ r. ⌜ NameByte slot j (now (dict .entry)) r ⌝ }

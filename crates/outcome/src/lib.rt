@@ -29,7 +29,7 @@ use semantics::Fault;
 use semantics::STACK_WIDTH;
 
 // The outcome at the front of `out`.
-// Rules out: the items with the topmost first; the free cells counted for the held ones.
+// Ruled out: the items with the topmost first; the free cells counted for the held ones.
 pub fn write(
     m: Machine,
     ending: Ending,

@@ -19,7 +19,7 @@ use machine::TAG_STRING;
 
 // The length of the text of a value, with `depth` levels of arrays written out, or `limit` where it is more. An array's elements are left as soon as that
 // is known: there may be 32,767 of them on each level.
-// Rules out: no blank between two elements; the last elements left out of a text that fits.
+// Ruled out: no blank between two elements; the last elements left out of a text that fits.
 pub fn measure(dict: &[u32], cells: &[u32], tag: u32, pay: u32, depth: u32, limit: usize) -> usize
     requires { ⌜ Known (now dict) (now cells) tag pay ⌝ }
     ensures { λ r. ⌜ Measures (now (dict .entry)) (now (cells .entry)) tag pay depth limit r ⌝ }
@@ -56,7 +56,7 @@ pub fn measure(dict: &[u32], cells: &[u32], tag: u32, pay: u32, depth: u32, limi
 }
 
 // The text of a value, with `depth` levels of arrays written out, for which there is room.
-// Rules out: a bracket of the other kind; a blank after the last element.
+// Ruled out: a bracket of the other kind; a blank after the last element.
 pub fn write(
     dict: &[u32],
     cells: &[u32],

@@ -12,7 +12,7 @@ pub struct Ended {
 }
 
 // All steps from a state on, at most `fuel` of them; the count of steps goes on from the state's.
-// Rules out: a step more than there is fuel; a script that is finished at no fuel called out of fuel; a step after `stop`.
+// Ruled out: a step more than there is fuel; a script that is finished at no fuel called out of fuel; a step after `stop`.
 pub fn advance(
     start: State,
     script: &[u8],

@@ -25,7 +25,7 @@ pub struct Report {
 }
 
 // A script is run with what is lent, or refused.
-// Rules out: a refusal that has touched a buffer; a word past whole slots written; a run that answers without its steps.
+// Ruled out: a refusal that has touched a buffer; a word past whole slots written; a run that answers without its steps.
 pub fn run(
     script: &[u8],
     fuel: u32,
@@ -101,7 +101,7 @@ pub struct Proceeded {
 }
 
 // The run from any state on, with whole slots whose words stand for a machine: its steps, then its outcome.
-// Rules out: steps that are counted from none; the outcome of another state than the one reached.
+// Ruled out: steps that are counted from none; the outcome of another state than the one reached.
 pub fn proceed(
     start: State,
     script: &[u8],

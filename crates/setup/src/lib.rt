@@ -36,7 +36,7 @@ pub struct Lent {
 }
 
 // The number of the refusal, or 0 where the run is made. The tests stand in the table's order, with its numbers.
-// Rules out: 257 stack slots let through; 4 for a script without `#FLOO` that is lent too small a stack as well.
+// Ruled out: 257 stack slots let through; 4 for a script without `#FLOO` that is lent too small a stack as well.
 pub fn refusal(script: &[u8], fuel: u32, lent: Lent) -> u32
     ensures { λ r. ⌜ r ≡ setup.refusal (now (script .entry)) fuel (lentOf lent) ⌝ }
 {

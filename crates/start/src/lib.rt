@@ -20,7 +20,7 @@ use semantics::OPERATOR_COUNT;
 // The number of mark, which [ is bound to.
 const MARK: u32 = 37;
 
-// Rules out: a name at another number than its operator's; a heap that takes old words for objects.
+// Ruled out: a name at another number than its operator's; a heap that takes old words for objects.
 pub fn begin(dict: &mut [u32], cells: &[u32]) -> Machine
     requires { ⌜ (nameWords ≤ length (now dict)) × (length (now dict) ≤ dictionaryWordsMost) × (Heap.cells (now cells) ≤ cellsMost) ⌝ }
     ensures { λ r. ⌜ Begins (now (dict .entry)) (now (dict .exit)) (now (cells .entry)) r ⌝ }

@@ -31,7 +31,7 @@ pub enum Stepped {
 
 impl State {
     // The topmost execution slot acts.
-    // Rules out: a failing step that is not counted; the offset moved.
+    // Ruled out: a failing step that is not counted; the offset moved.
     pub fn resume(
         self,
         stack: &mut [u32],
@@ -55,7 +55,7 @@ impl State {
     }
 
     // With no execution slot the next token is taken.
-    // Rules out: a token that is taken twice; the offset moved past a token that failed.
+    // Ruled out: a token that is taken twice; the offset moved past a token that failed.
     pub fn take(
         self,
         script: &[u8],
@@ -102,7 +102,7 @@ impl State {
     }
 
     // Whether only space and comment are left, and no execution slot.
-    // Rules out: a run that is finished while a slot waits; a last comment taken for a token.
+    // Ruled out: a run that is finished while a slot waits; a last comment taken for a token.
     pub fn is_finished(self, script: &[u8]) -> bool
         requires { ⌜ self .next ≤ length (now script) ⌝ }
         ensures { λ r. ⌜ Finished (now (script .entry)) self r ⌝ }
@@ -115,7 +115,7 @@ impl State {
     }
 
     // A finished run is at the script's end.
-    // Rules out: an `at` that stays at the last token; a step counted for the end.
+    // Ruled out: an `at` that stays at the last token; a step counted for the end.
     pub fn finish(self, at: usize) -> State
         ensures { λ r. ⌜ r ≡ record { machine = self .machine; next = self .next; at = at; steps = self .steps } ⌝ }
     {
@@ -129,7 +129,7 @@ impl State {
     }
 
     // The same state, made anew field by field: the compiler then keeps the fields of the loop's state apart.
-    // Rules out: two fields exchanged; a step counted.
+    // Ruled out: two fields exchanged; a step counted.
     pub fn by_fields(self) -> State
         ensures { λ r. ⌜ r ≡ self ⌝ }
     {

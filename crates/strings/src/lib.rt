@@ -10,7 +10,7 @@ use semantics::STACK_WIDTH;
 use token::Unescaped;
 
 // The current length of the string that is item i: its bytes before the first zero, or all of them.
-// Rules out: the maximum for the length; a byte read past the maximum.
+// Ruled out: the maximum for the length; a byte read past the maximum.
 pub fn current_length(m: Machine, stack: &[u32], cells: &[u32], i: usize) -> u32
     requires { ⌜ (i < m .depth) × SomewhereThat (HasString i) m (now stack) (now cells) ⌝ }
     ensures { λ r. ⌜ CurrentSize i m (now (stack .entry)) (now (cells .entry)) r ⌝ }
@@ -27,7 +27,7 @@ pub fn current_length(m: Machine, stack: &[u32], cells: &[u32], i: usize) -> u32
 }
 
 // The first n bytes of the string that is item i go to the front of out; the bytes after them stay.
-// Rules out: a byte left out at the end; another item's bytes; bytes after them changed.
+// Ruled out: a byte left out at the end; another item's bytes; bytes after them changed.
 pub fn read_bytes(m: Machine, stack: &[u32], cells: &[u32], i: usize, n: u32, out: &mut [u8])
     requires { ⌜ (i < m .depth) × (n ≤ length (now out)) × SomewhereThat (HasBytes i 0 n) m (now stack) (now cells) ⌝ }
     ensures { λ _. ⌜ ReadsBytes i n m (now (stack .entry)) (now (cells .entry)) (now (out .entry)) (now (out .exit)) ⌝ }
@@ -40,7 +40,7 @@ pub fn read_bytes(m: Machine, stack: &[u32], cells: &[u32], i: usize, n: u32, ou
 }
 
 // The string with header h gets these bytes; its bytes after them stay.
-// Rules out: the last byte left out; another string written to.
+// Ruled out: the last byte left out; another string written to.
 pub fn write_at(cells: &mut [u32], h: u32, contents: &[u8])
     requires { ⌜ HasRoom h (length (now contents)) (now cells) ⌝ }
     ensures { λ _. ⌜ FillsString h (now (contents .entry)) (now (cells .entry)) (now (cells .exit)) ⌝ }
@@ -54,7 +54,7 @@ pub fn write_at(cells: &mut [u32], h: u32, contents: &[u8])
 
 // n bytes of the string that is item `from`, from byte start on, go to byte `at` and the ones after it of the string that is item `to`. Both may be one
 // string: the bytes are written in the order in which none is overwritten before it is read.
-// Rules out: bytes that overlap and are written before they are read; the bytes before or after them changed.
+// Ruled out: bytes that overlap and are written before they are read; the bytes before or after them changed.
 pub fn copy_bytes(
     m: Machine,
     stack: &[u32],
@@ -76,7 +76,7 @@ pub fn copy_bytes(
 }
 
 // The string that is item i gets the bytes of the string token whose text is at `start`, after the opening quote; its bytes after them stay.
-// Rules out: an escape's bytes written unread; the closing quote written; a byte left out at the end.
+// Ruled out: an escape's bytes written unread; the closing quote written; a byte left out at the end.
 pub fn fill(m: Machine, stack: &[u32], cells: &mut [u32], i: usize, script: &[u8], start: usize)
     requires { ⌜ (i < m .depth) × Fills i m (now stack) (now cells) (now script) start ⌝ }
     ensures { λ _. ⌜ Filled i m (now (stack .entry)) (now (cells .entry)) (now (cells .exit)) (now (script .entry)) start ⌝ }
@@ -87,7 +87,7 @@ pub fn fill(m: Machine, stack: &[u32], cells: &mut [u32], i: usize, script: &[u8
 }
 
 // The string with header h gets the bytes of the string token whose text is at `start`; its bytes after them stay.
-// Rules out: an escape's bytes written unread; another string filled.
+// Ruled out: an escape's bytes written unread; another string filled.
 pub fn fill_at(cells: &mut [u32], h: u32, script: &[u8], start: usize)
     requires { ⌜ FillsAt h (now cells) (now script) start ⌝ }
     ensures { λ _. ⌜ FilledAt h (now (cells .entry)) (now (cells .exit)) (now (script .entry)) start ⌝ }

@@ -43,7 +43,7 @@ enum Found {
 }
 
 // An integer is pushed.
-// Rules out: a push where the stack is full; another word than the token's.
+// Ruled out: a push where the stack is full; another word than the token's.
 pub fn take_integer(m: Machine, stack: &mut [u32], w: u32) -> Did
     requires { ⌜ (2 * m .depth ≤ length (now stack)) × (length (now stack) ≤ stackWordsMost) ⌝ }
     ensures { λ r. ⌜ DoesStack (integerTaken w) m (now (stack .entry)) (now (stack .exit)) r ⌝ }
@@ -55,7 +55,7 @@ pub fn take_integer(m: Machine, stack: &mut [u32], w: u32) -> Did
 }
 
 // A string is made of the `size` bytes that the token writes, whose text is at `at`, and pushed.
-// Rules out: VMerror where the stack is full; a string that is one cell short.
+// Ruled out: VMerror where the stack is full; a string that is one cell short.
 pub fn take_string(
     m: Machine,
     stack: &mut [u32],
@@ -81,7 +81,7 @@ pub fn take_string(
 }
 
 // A literal name takes a slot, if it has none, and is pushed.
-// Rules out: stackoverflow where the dictionary is full too; a second slot for a name that has one.
+// Ruled out: stackoverflow where the dictionary is full too; a second slot for a name that has one.
 pub fn take_literal(m: Machine, stack: &mut [u32], dict: &mut [u32], name: &[u8]) -> Did
     requires { ⌜ (length (now name) ≤ nameMost) × Names m (now stack) (now dict) ⌝ }
     ensures { λ r. ⌜ DoesNames (literalTaken (now (name .entry))) m (now (stack .entry)) (now (stack .exit)) (now (dict .entry)) (now (dict .exit)) r ⌝ }
@@ -104,7 +104,7 @@ pub fn take_literal(m: Machine, stack: &mut [u32], dict: &mut [u32], name: &[u8]
 }
 
 // An executable name's binding becomes pending.
-// Rules out: a name that has a slot and no binding taken for bound; execstackoverflow where the name is undefined.
+// Ruled out: a name that has a slot and no binding taken for bound; execstackoverflow where the name is undefined.
 pub fn take_executable(
     m: Machine,
     exec: &mut [u32],
@@ -138,7 +138,7 @@ pub fn take_name(m: Machine, exec: &mut [u32], dict: &[u32], cells: &mut [u32], 
 
 // The names of the brace group whose tokens are from `from` to `end` take slots, in reading order, those of inner groups too. Words past the names that
 // there were may have changed, where there is no room for all: the machine still stands.
-// Rules out: an inner group's names left out; limitcheck where the last name has a slot already.
+// Ruled out: an inner group's names left out; limitcheck where the last name has a slot already.
 pub fn add_names(m: Machine, dict: &mut [u32], script: &[u8], from: usize, end: usize) -> Named
     requires { ⌜ (length (now script) ≤ scriptMost) × Group (now script) from end × Dictionary m (now dict) ⌝ }
     ensures { λ r. ⌜ AddsNames (now (script .entry)) from end m (now (dict .entry)) (now (dict .exit)) r ⌝ }
@@ -168,7 +168,7 @@ pub fn add_names(m: Machine, dict: &mut [u32], script: &[u8], from: usize, end: 
 }
 
 // The error of an answer that has one, for the branch of a `let .. else` that returns with its name.
-// Rules out: an error that giving slots did not meet.
+// Ruled out: an error that giving slots did not meet.
 pub fn fault_of(named: Named) -> Error
     ensures { λ r. ⌜ r ≡ faultOf named ⌝ }
 {
@@ -179,7 +179,7 @@ pub fn fault_of(named: Named) -> Error
 }
 
 // The literal name with this slot is pushed.
-// Rules out: an executable name; the slot of another name.
+// Ruled out: an executable name; the slot of another name.
 pub fn push_name(m: Machine, stack: &mut [u32], slot: usize) -> Machine
     requires { ⌜ (slot < dictionaryMost) × (2 * m .depth + 2 ≤ length (now stack)) × (length (now stack) ≤ stackWordsMost) ⌝ }
     ensures { λ r. ⌜ PushesName slot m r (now (stack .entry)) (now (stack .exit)) ⌝ }
@@ -189,7 +189,7 @@ pub fn push_name(m: Machine, stack: &mut [u32], slot: usize) -> Machine
 }
 
 // Two words go above the topmost item.
-// Rules out: the payload below the tag; a cell counted for them.
+// Ruled out: the payload below the tag; a cell counted for them.
 pub fn push_words(m: Machine, stack: &mut [u32], tag: u32, payload: u32) -> Machine
     requires { ⌜ (2 * m .depth + 2 ≤ length (now stack)) × (length (now stack) ≤ stackWordsMost) ⌝ }
     ensures { λ r. ⌜ PushesWords tag payload m r (now (stack .entry)) (now (stack .exit)) ⌝ }
