@@ -198,7 +198,8 @@ fn time_proved(script: &[u8]) -> (f64, u32, String) {
     let (steps, result) = {
         let report = runner.run(script, FUEL_MAX).expect("the program is accepted");
         assert_eq!(report.value("ending"), Some("finished"), "{}", report.outcome());
-        (report.steps(), integer(report.items().last()))
+        let last = report.items().last().map(|item| item.to_string());
+        (report.steps(), integer(last.as_deref()))
     };
     let seconds = timing::seconds(|| {
         runner.run(script, FUEL_MAX).expect("the program is accepted");

@@ -3,47 +3,68 @@
 
 use crate::floor::Record;
 
-/// The number of the refusal, or 0 and what the run came to.
+/// What [`run`] answers: the number of the refusal, or 0 and what the run came to.
 #[repr(C)]
+#[derive(Clone, Copy, Debug, PartialEq, Eq)]
 pub struct Reply {
+    /// The number of a [`Refusal`](crate::Refusal), or 0.
     pub refused: u32,
+    /// How many steps were made.
     pub steps: u32,
+    /// How many bytes of the log were written.
     pub log: usize,
+    /// How many bytes of the outcome were written.
     pub outcome: usize,
 }
 
-/// The number of the refusal, of the fault or of the token's kind, the other two being 0; the offset of the first byte that could not be accepted, of a fault that has
+/// What [`token`] answers: the number of the refusal, of the fault or of the token's kind, the other two being 0; the offset of the first byte that could not be accepted, of a fault that has
 /// one, and else 0; the offset after the token, and where in the script its own bytes begin and how many they are.
 #[repr(C)]
 #[derive(Clone, Copy, Debug, PartialEq, Eq)]
 pub struct TokenReply {
+    /// The number of a [`Refusal`](crate::Refusal), or 0.
     pub refused: u32,
+    /// The number of a fault in `floo.h`, or 0.
     pub fault: u32,
+    /// The number of a [`Kind`](crate::Kind), or 0.
     pub kind: u32,
+    /// Of a fault that has one, the offset of the first byte that could not be accepted.
     pub place: u32,
+    /// The offset after the token.
     pub next: usize,
+    /// Where its own bytes begin.
     pub start: usize,
+    /// How many they are.
     pub size: usize,
 }
 
-/// The number of the answer, that of the refusal or 0, what the run came to, and the book's count and the record's place in it.
+/// What [`scan`] answers: the number of the answer, that of the refusal or 0, what the run came to, and the book's count and the record's place in it.
 #[repr(C)]
 #[derive(Clone, Copy, Debug, PartialEq, Eq)]
 pub struct ScanReply {
+    /// Its number in `floor.h`.
     pub answer: u32,
+    /// The number of a [`Refusal`](crate::Refusal), or 0.
     pub refused: u32,
+    /// How many steps were made.
     pub steps: u32,
+    /// How many bytes of the log were written.
     pub log: usize,
+    /// How many bytes of the outcome were written.
     pub outcome: usize,
+    /// How many records the book has now.
     pub count: usize,
+    /// Where the record was written, or 0.
     pub at: usize,
 }
 
-/// The number of the answer, and how many bytes were written or records read.
+/// What [`write_ledger`] and [`read_ledger`] answer: the number of the answer, and how many bytes were written or records read.
 #[repr(C)]
 #[derive(Clone, Copy, Debug, PartialEq, Eq)]
 pub struct LedgerReply {
+    /// Its number in `floor.h`.
     pub answer: u32,
+    /// Bytes or records, or 0 with a refusal.
     pub count: usize,
 }
 
@@ -109,6 +130,13 @@ extern "C" {
 
 /// Runs a script in buffers that the caller lends: 2 words for a stack slot, 8 for an execution slot, 12 for a dictionary slot, 4 for a cell, and an outcome of at
 /// least 256 + 136 × stack slots bytes. Any lengths may be lent.
+///
+/// ```
+/// let (mut stack, mut execution, mut dictionary, mut cells) = ([0; 2 * 8], [0; 8 * 4], [0; 12 * 58], [0; 4]);
+/// let (mut log, mut outcome) = ([0; 16], [0; 256 + 136 * 8]);
+/// let reply = floo::run_lent(b"#FLOO\n1 2 add echo", 100, &mut stack, &mut execution, &mut dictionary, &mut cells, &mut log, &mut outcome);
+/// assert_eq!((reply.refused, reply.steps, &log[..reply.log]), (0, 6, &b"3\n"[..]));
+/// ```
 #[allow(unsafe_code, clippy::too_many_arguments)]
 pub fn run(
     script: &[u8],
@@ -145,6 +173,20 @@ pub fn run(
 
 /// Runs a script with a label in buffers that the caller lends, those of [`run`], and enters what it leaves in a book: the first `count` of the lent records.
 /// Any lengths may be lent, any records and any count.
+///
+/// ```
+/// use floo::floor::Record;
+///
+/// let (mut stack, mut execution, mut dictionary, mut cells) = ([0; 2 * 8], [0; 8 * 4], [0; 12 * 59], [0; 4 * 2]);
+/// let (mut log, mut outcome) = ([0; 0], [0; 256 + 136 * 8]);
+/// let mut book = [Record::new(417, b"rack B-7", 10).unwrap()];
+/// let reply = floo::scan_lent(
+///     b"#FLOO\n417 label 20", 100, b"tester 3",
+///     &mut stack, &mut execution, &mut dictionary, &mut cells, &mut log, &mut outcome, &mut book, 1,
+/// );
+/// assert_eq!((reply.answer, reply.count, reply.at), (10, 1, 0));
+/// assert_eq!(book[0].place_bytes(), b"tester 3");
+/// ```
 #[allow(unsafe_code, clippy::too_many_arguments)]
 pub fn scan(
     script: &[u8],
@@ -187,6 +229,14 @@ pub fn scan(
 }
 
 /// Writes the first `count` of the lent records as a ledger into the lent text. Any lengths may be lent, any records and any count.
+///
+/// ```
+/// use floo::floor::{ledger_bytes, Record};
+///
+/// let mut text = [0; ledger_bytes(1)];
+/// let reply = floo::write_ledger_lent(&[Record::new(417, b"rack B-7", 10).unwrap()], 1, &mut text);
+/// assert_eq!(&text[..reply.count], b"socket,place,time\r\n417,rack B-7,10\r\n");
+/// ```
 #[allow(unsafe_code)]
 pub fn write_ledger(book: &[Record], count: usize, text: &mut [u8]) -> LedgerReply {
     // SAFETY: as for `scan`.
@@ -202,6 +252,14 @@ pub fn write_ledger(book: &[Record], count: usize, text: &mut [u8]) -> LedgerRep
 }
 
 /// Reads a ledger, whose records replace the first of the lent ones. Any lengths may be lent, any text and any records.
+///
+/// ```
+/// use floo::floor::Record;
+///
+/// let mut book = [Record::new(1, b"shelf", 1).unwrap(); 2];
+/// let reply = floo::read_ledger_lent(b"socket,place,time\r\n417,rack B-7,10\r\n", &mut book);
+/// assert_eq!((reply.answer, reply.count, book[0].number, book[1].number), (10, 1, 417, 1));
+/// ```
 #[allow(unsafe_code)]
 pub fn read_ledger(text: &[u8], book: &mut [Record]) -> LedgerReply {
     // SAFETY: as for `scan`.
@@ -209,6 +267,11 @@ pub fn read_ledger(text: &[u8], book: &mut [Record]) -> LedgerReply {
 }
 
 /// Reads the next token of a script from `offset` on, and answers in numbers.
+///
+/// ```
+/// let reply = floo::token_reply(b"#FLOO\n417", 6);
+/// assert_eq!((reply.refused, reply.fault, reply.kind, reply.next), (0, 0, 1, 9));
+/// ```
 #[allow(unsafe_code)]
 pub fn token(script: &[u8], offset: usize) -> TokenReply {
     // SAFETY: pointer and length are those of a slice, which no one writes during the call. Nothing else is asked.

@@ -26,18 +26,54 @@ use crate::{Refusal, Report, Runner};
 pub use ledger::{ledger_bytes, LedgerError};
 
 /// Bytes of a label at most.
+///
+/// ```
+/// use floo::floor::{Book, Scan, LABEL_BYTES_MAX};
+///
+/// let mut runner = floo::Runner::new(floo::Sizes::default());
+/// let label = [b'x'; LABEL_BYTES_MAX + 1];
+/// assert_eq!(runner.scan(b"#FLOO", &label, 100, &mut Book::new()), Scan::LabelTooLong);
+/// ```
 pub const LABEL_BYTES_MAX: usize = 512;
 
 /// Records of a book at most.
+///
+/// ```
+/// use floo::floor::{Book, Record, RECORDS_MAX};
+///
+/// let record = Record::new(417, b"rack B-7", 10).unwrap();
+/// assert_eq!(Book::from_records(&[record; RECORDS_MAX + 1]), None);
+/// ```
 pub const RECORDS_MAX: usize = 64;
 
 /// Bytes of a place at most.
+///
+/// ```
+/// use floo::floor::{Record, PLACE_BYTES_MAX};
+///
+/// assert!(Record::new(417, &[b'x'; PLACE_BYTES_MAX], 10).is_some());
+/// assert!(Record::new(417, &[b'x'; PLACE_BYTES_MAX + 1], 10).is_none());
+/// ```
 pub const PLACE_BYTES_MAX: usize = 31;
 
 /// The greatest number of a socket, and the greatest time.
+///
+/// ```
+/// use floo::floor::{Record, NUMBER_MAX};
+///
+/// assert!(Record::new(NUMBER_MAX, b"rack B-7", NUMBER_MAX).is_some());
+/// assert!(Record::new(NUMBER_MAX + 1, b"rack B-7", 10).is_none());
+/// ```
 pub const NUMBER_MAX: u32 = i32::MAX as u32;
 
 /// Where a socket was seen last, and when. A record whose fields are out of their ranges makes a book malformed.
+///
+/// ```
+/// use floo::floor::Record;
+///
+/// let record = Record::new(417, b"rack B-7", 1731690000).unwrap();
+/// assert_eq!(record.to_string(), "socket 417 at rack B-7 since 1731690000");
+/// ```
 #[repr(C)]
 #[derive(Clone, Copy, Debug, PartialEq, Eq)]
 pub struct Record {
@@ -53,6 +89,10 @@ pub struct Record {
 
 impl Record {
     /// A record, where each field is in its range.
+    ///
+    /// ```
+    /// assert!(floo::floor::Record::new(417, b"", 10).is_none());
+    /// ```
     pub fn new(number: u32, place: &[u8], time: u32) -> Option<Self> {
         let length = place.len();
         if number > NUMBER_MAX || time > NUMBER_MAX || !(1..=PLACE_BYTES_MAX).contains(&length) {
@@ -69,13 +109,34 @@ impl Record {
     }
 
     /// The bytes of the place that count.
+    ///
+    /// ```
+    /// let record = floo::floor::Record::new(417, b"rack B-7", 10).unwrap();
+    /// assert_eq!(record.place_bytes(), b"rack B-7");
+    /// ```
     pub fn place_bytes(&self) -> &[u8] {
         let length = PLACE_BYTES_MAX.min(self.length as usize);
         &self.place[..length]
     }
 }
 
+/// In words, each byte of the place that is not printable ASCII as Rust escapes it.
+impl fmt::Display for Record {
+    fn fmt(&self, f: &mut fmt::Formatter<'_>) -> fmt::Result {
+        let place = self.place_bytes().escape_ascii();
+        write!(f, "socket {} at {place} since {}", self.number, self.time)
+    }
+}
+
 /// Where each socket is: a record for each, [`RECORDS_MAX`] at most.
+///
+/// ```
+/// use floo::floor::Book;
+///
+/// let mut book = Book::new();
+/// book.read_ledger(b"socket,place,time\r\n417,rack B-7,10\r\n").unwrap();
+/// assert_eq!(book.find(417).unwrap().place_bytes(), b"rack B-7");
+/// ```
 #[derive(Clone, Copy, Debug)]
 pub struct Book {
     records: [Record; RECORDS_MAX],
@@ -84,6 +145,10 @@ pub struct Book {
 
 impl Book {
     /// A book without records.
+    ///
+    /// ```
+    /// assert!(floo::floor::Book::new().records().is_empty());
+    /// ```
     pub fn new() -> Self {
         let blank = Record {
             number: 0,
@@ -98,6 +163,15 @@ impl Book {
     }
 
     /// A book of these records, unless they are too many. That they are in range and no socket is there twice is for [`Runner::scan`] to see.
+    ///
+    /// ```
+    /// use floo::floor::{Book, Record, Scan};
+    ///
+    /// let record = Record::new(417, b"rack B-7", 10).unwrap();
+    /// let mut twice = Book::from_records(&[record, record]).unwrap();
+    /// let mut runner = floo::Runner::new(floo::Sizes::default());
+    /// assert_eq!(runner.scan(b"#FLOO\n417 label 20", b"shelf A", 100, &mut twice), Scan::BookMalformed);
+    /// ```
     pub fn from_records(records: &[Record]) -> Option<Self> {
         let mut book = Book::new();
         book.count = records.len();
@@ -106,11 +180,27 @@ impl Book {
     }
 
     /// The records, in the order in which their sockets came.
+    ///
+    /// ```
+    /// use floo::floor::{Book, Record};
+    ///
+    /// let record = Record::new(417, b"rack B-7", 10).unwrap();
+    /// assert_eq!(Book::from_records(&[record]).unwrap().records(), [record]);
+    /// ```
     pub fn records(&self) -> &[Record] {
         &self.records[..self.count]
     }
 
     /// The record of a socket.
+    ///
+    /// ```
+    /// use floo::floor::{Book, Record};
+    ///
+    /// let record = Record::new(417, b"rack B-7", 10).unwrap();
+    /// let book = Book::from_records(&[record]).unwrap();
+    /// assert_eq!(book.find(417), Some(&record));
+    /// assert_eq!(book.find(388), None);
+    /// ```
     pub fn find(&self, number: u32) -> Option<&Record> {
         self.records().iter().find(|record| record.number == number)
     }
@@ -133,6 +223,16 @@ impl Eq for Book {}
 
 /// The answer to a scan. Answers are looked for in this order, and the first that applies is given. All but the last two refuse the scan and leave the book as it
 /// was; those without a report come before the run.
+///
+/// ```
+/// use floo::floor::{Book, Scan};
+///
+/// let mut runner = floo::Runner::new(floo::Sizes::default());
+/// let mut book = Book::new();
+/// let scan = runner.scan(b"#FLOO\n417 label", b"rack B-7", 100, &mut book);
+/// assert!(matches!(scan, Scan::BadStack(_)));
+/// assert_eq!(scan.to_string(), "stack not of this form");
+/// ```
 #[derive(Clone, Copy, Debug, PartialEq, Eq)]
 #[non_exhaustive]
 pub enum Scan<'a> {
@@ -162,6 +262,13 @@ pub enum Scan<'a> {
 
 impl<'a> Scan<'a> {
     /// What the run came to, if one was made.
+    ///
+    /// ```
+    /// let mut runner = floo::Runner::new(floo::Sizes::default());
+    /// let mut book = floo::floor::Book::new();
+    /// let scan = runner.scan(b"#FLOO\n417 label echo 20", b"rack B-7", 100, &mut book);
+    /// assert_eq!(scan.report().unwrap().log(), b"\"rack B-7\"\n");
+    /// ```
     pub fn report(&self) -> Option<Report<'a>> {
         match *self {
             Scan::Refused(_) | Scan::BookMalformed | Scan::LabelTooLong => None,
@@ -174,6 +281,13 @@ impl<'a> Scan<'a> {
     }
 
     /// Whether the scan went into the book.
+    ///
+    /// ```
+    /// let mut runner = floo::Runner::new(floo::Sizes::default());
+    /// let mut book = floo::floor::Book::new();
+    /// assert!(runner.scan(b"#FLOO\n417 label 20", b"rack B-7", 100, &mut book).is_accepted());
+    /// assert!(!runner.scan(b"#FLOO\n417 label 20", b"rack B-7", 100, &mut book).is_accepted());
+    /// ```
     pub fn is_accepted(&self) -> bool {
         matches!(self, Scan::Replaced(..) | Scan::Added(..))
     }
@@ -202,6 +316,17 @@ impl Runner {
     /// Runs a script with so much fuel and with a label, the string bound to `label`, and enters what it leaves in the book: the socket's number, its place and the
     /// time of the scan, in that order from the bottom of the stack, and nothing else. A later scan than the book has of the socket replaces its record, a new
     /// socket goes after the last.
+    ///
+    /// ```
+    /// use floo::floor::{Book, Scan};
+    ///
+    /// let mut runner = floo::Runner::new(floo::Sizes::default());
+    /// let mut book = Book::new();
+    /// assert!(matches!(runner.scan(b"#FLOO\n417 label 20", b"rack B-7", 100, &mut book), Scan::Added(0, _)));
+    /// assert!(matches!(runner.scan(b"#FLOO\n417 label 30", b"tester 3", 100, &mut book), Scan::Replaced(0, _)));
+    /// assert!(matches!(runner.scan(b"#FLOO\n417 label 25", b"shelf A", 100, &mut book), Scan::Late(_)));
+    /// assert_eq!(book.find(417).unwrap().place_bytes(), b"tester 3");
+    /// ```
     pub fn scan(&mut self, script: &[u8], label: &[u8], fuel: u32, book: &mut Book) -> Scan<'_> {
         let reply = exported::scan(
             script,

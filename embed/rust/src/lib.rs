@@ -9,7 +9,7 @@
 //! let mut runner = Runner::new(Sizes::default());
 //! let report = runner.run(b"#FLOO\n1 2 add echo", 100).unwrap();
 //! assert_eq!(report.log(), b"3\n");
-//! assert_eq!(report.value("ending"), Some("finished"));
+//! assert_eq!(report.ending(), floo::Ending::Finished);
 //! ```
 //!
 //! [`token`] reads one token, wherever it stands in a script:
@@ -29,35 +29,64 @@
 //! let mut runner = Runner::new(Sizes::default());
 //! let script = b"#FLOO\n{ 1 2\n  { 0x1G }\n} exec";
 //! let report = runner.run(script, 100).unwrap();
-//! assert_eq!(report.value("error"), Some("badnumber"));
+//! assert_eq!(report.error(), Some(floo::ErrorName::BadNumber));
 //! let position = position(script, report.place().unwrap()).unwrap();
 //! assert_eq!((position.line, position.column), (3, 8));
 //! ```
 
-#![deny(unsafe_code)]
+#![deny(unsafe_code, missing_docs)]
 
+mod ending;
 mod exported;
 pub mod floor;
+mod item;
+mod names;
 mod position;
 mod refusal;
 mod report;
 mod token;
 
+pub use ending::{Ending, ErrorName};
 pub use exported::{read_ledger as read_ledger_lent, write_ledger as write_ledger_lent};
 pub use exported::{run as run_lent, scan as scan_lent, token as token_reply};
 pub use exported::{LedgerReply, Reply, ScanReply, TokenReply};
+pub use item::Item;
+pub use names::{NAMES, PREDEFINED_NAMES};
 pub use position::{position, Position};
 pub use refusal::Refusal;
 pub use report::Report;
 pub use token::{token, Kind, Token, TokenError};
 
-/// The names that every dictionary begins with, each in a slot of its own.
-pub const PREDEFINED_NAMES: usize = 58;
+/// Bytes of a script at most.
+///
+/// ```
+/// let mut script = vec![b' '; floo::SCRIPT_BYTES_MAX];
+/// script[..5].copy_from_slice(b"#FLOO");
+/// let mut runner = floo::Runner::new(floo::Sizes::default());
+/// assert!(runner.run(&script, 0).is_ok());
+/// script.push(b' ');
+/// assert_eq!(runner.run(&script, 0), Err(floo::Refusal::ScriptTooLong));
+/// ```
+pub const SCRIPT_BYTES_MAX: usize = 32_768;
 
 /// Fuel that is accepted at most.
+///
+/// ```
+/// let mut runner = floo::Runner::new(floo::Sizes::default());
+/// assert!(runner.run(b"#FLOO", floo::FUEL_MAX).is_ok());
+/// assert!(runner.run(b"#FLOO", floo::FUEL_MAX + 1).is_err());
+/// ```
 pub const FUEL_MAX: u32 = 1_000_000;
 
 /// The room for a run: slots, cells, and bytes of the log. The default is what the program `floo` has.
+///
+/// ```
+/// use floo::{ErrorName, Runner, Sizes};
+///
+/// let mut small = Runner::new(Sizes { cells: 4, ..Sizes::default() });
+/// assert_eq!(small.run(b"#FLOO\n[ 1 2 3 ]", 100).unwrap().error(), None);
+/// assert_eq!(small.run(b"#FLOO\n[ 1 2 3 4 ]", 100).unwrap().error(), Some(ErrorName::VmError));
+/// ```
 #[derive(Clone, Copy, Debug, PartialEq, Eq)]
 pub struct Sizes {
     /// Stack slots, 8 to 256.
@@ -85,6 +114,15 @@ impl Default for Sizes {
 }
 
 /// Room for runs, and the runs in it.
+///
+/// ```
+/// use floo::{Runner, Sizes};
+///
+/// let mut runner = Runner::new(Sizes::default());
+/// for (script, log) in [("#FLOO\n1 echo", "1\n"), ("#FLOO\n[ 2 3 ] echo", "[2 3]\n")] {
+///     assert_eq!(runner.run(script.as_bytes(), 100).unwrap().log(), log.as_bytes());
+/// }
+/// ```
 pub struct Runner {
     stack: Vec<u32>,
     execution: Vec<u32>,
@@ -97,6 +135,13 @@ pub struct Runner {
 impl Runner {
     /// Room of these sizes. Sizes outside the limits are allowed here, and refused by [`Runner::run`] and [`Runner::scan`]; no more is allocated for
     /// them than that takes.
+    ///
+    /// ```
+    /// use floo::{Refusal, Runner, Sizes};
+    ///
+    /// let mut none = Runner::new(Sizes { stack: 7, ..Sizes::default() });
+    /// assert_eq!(none.run(b"#FLOO", 100), Err(Refusal::StackSlots));
+    /// ```
     pub fn new(sizes: Sizes) -> Self {
         let stack = sizes.stack.min(257);
         Runner {
@@ -110,6 +155,14 @@ impl Runner {
     }
 
     /// Runs a script with so much fuel, or refuses it. Each step costs 1 fuel.
+    ///
+    /// ```
+    /// let mut runner = floo::Runner::new(floo::Sizes::default());
+    /// match runner.run(b"#FLOO\n\"rack \" print 7 echo", 1000) {
+    ///     Ok(report) => assert_eq!(report.log(), b"rack 7\n"),
+    ///     Err(refusal) => panic!("{refusal}"),
+    /// }
+    /// ```
     pub fn run(&mut self, script: &[u8], fuel: u32) -> Result<Report<'_>, Refusal> {
         let reply = exported::run(
             script,

@@ -1,8 +1,17 @@
 use std::fmt;
 
 /// A place in a script. Lines and columns count from 1.
+///
+/// ```
+/// use floo::{position, Position};
+///
+/// let script = b"#FLOO\n3 frob";
+/// assert_eq!(position(script, 8), Some(Position { line: 2, column: 3 }));
+/// assert_eq!(position(script, 8).unwrap().to_string(), "line 2, column 3");
+/// ```
 #[derive(Clone, Copy, Debug, PartialEq, Eq, PartialOrd, Ord, Hash)]
 pub struct Position {
+    /// One more than the line breaks before it.
     pub line: usize,
     /// In bytes, whatever they are: a tab counts one.
     pub column: usize,

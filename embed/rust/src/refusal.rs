@@ -3,6 +3,15 @@ use std::fmt;
 
 /// Why no run was made, or no token read. Refusals are looked for in this order, and the first that applies is given: by a run of 1 to 9, by the reading
 /// of a token of 1 and 10.
+///
+/// ```
+/// use floo::{Refusal, Runner, Sizes};
+///
+/// let mut runner = Runner::new(Sizes::default());
+/// let refusal = runner.run(b"1 2 add", 100).unwrap_err();
+/// assert_eq!(refusal, Refusal::NotAScript);
+/// assert_eq!(refusal.to_string(), "refused=2: the script does not begin with #FLOO");
+/// ```
 #[derive(Clone, Copy, Debug, PartialEq, Eq)]
 #[non_exhaustive]
 pub enum Refusal {
@@ -43,16 +52,28 @@ const ALL: [Refusal; 10] = [
 
 impl Refusal {
     /// Its number, 1 to 10.
+    ///
+    /// ```
+    /// assert_eq!(floo::Refusal::Cells.number(), 7);
+    /// ```
     pub fn number(self) -> u32 {
         self as u32
     }
 
     /// The refusal with a number.
+    ///
+    /// ```
+    /// use floo::Refusal;
+    ///
+    /// assert_eq!(Refusal::from_number(7), Some(Refusal::Cells));
+    /// assert_eq!(Refusal::from_number(0), None);
+    /// ```
     pub fn from_number(number: u32) -> Option<Self> {
         ALL.into_iter().find(|refusal| refusal.number() == number)
     }
 }
 
+/// As the program prints it, and the reason.
 impl fmt::Display for Refusal {
     fn fmt(&self, f: &mut fmt::Formatter<'_>) -> fmt::Result {
         let reason = match self {

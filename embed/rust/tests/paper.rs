@@ -13,7 +13,10 @@ fn run<'a>(runner: &'a mut Runner, text: &str) -> Report<'a> {
 
 fn items(text: &str) -> Vec<String> {
     let mut runner = Runner::new(Sizes::default());
-    run(&mut runner, text).items().map(str::to_owned).collect()
+    run(&mut runner, text)
+        .items()
+        .map(|item| item.to_string())
+        .collect()
 }
 
 fn with_cells(cells: usize, text: &str) -> (String, String) {
@@ -157,7 +160,12 @@ fn refusals() {
     let limits: [(u32, Set, usize, usize); 4] = [
         (4, |sizes, n| sizes.stack = n, 8, 256),
         (5, |sizes, n| sizes.execution = n, 4, 128),
-        (6, |sizes, n| sizes.dictionary = n, floo::PREDEFINED_NAMES, 512),
+        (
+            6,
+            |sizes, n| sizes.dictionary = n,
+            floo::PREDEFINED_NAMES,
+            512,
+        ),
         (7, |sizes, n| sizes.cells = n, 1, 32_768),
     ];
     for (number, set, least, most) in limits {

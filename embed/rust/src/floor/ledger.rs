@@ -5,12 +5,24 @@ use super::Book;
 use crate::exported;
 
 /// Bytes that the ledger of so many records takes at most.
+///
+/// ```
+/// assert_eq!(floo::floor::ledger_bytes(0), "socket,place,time\r\n".len());
+/// ```
 pub const fn ledger_bytes(records: usize) -> usize {
     19 + 88 * records
 }
 
 /// Why no ledger was written or read. The refusals are looked for in this order, each in the whole text before the next, and the first that applies is given.
 /// The first and the last are of writing, the others of reading.
+///
+/// ```
+/// use floo::floor::{Book, LedgerError};
+///
+/// let refusal = Book::new().read_ledger(b"socket,place\r\n").unwrap_err();
+/// assert_eq!(refusal, LedgerError::BadHeader);
+/// assert_eq!(refusal.to_string(), "bad header");
+/// ```
 #[non_exhaustive]
 #[derive(Clone, Copy, Debug, PartialEq, Eq)]
 pub enum LedgerError {
@@ -51,11 +63,22 @@ const DONE: u32 = 10;
 
 impl LedgerError {
     /// Its number in `floor.h`, 1 to 9.
+    ///
+    /// ```
+    /// assert_eq!(floo::floor::LedgerError::SocketTwice.number(), 7);
+    /// ```
     pub fn number(self) -> u32 {
         self as u32
     }
 
     /// The refusal with a number of `floor.h`.
+    ///
+    /// ```
+    /// use floo::floor::LedgerError;
+    ///
+    /// assert_eq!(LedgerError::from_number(7), Some(LedgerError::SocketTwice));
+    /// assert_eq!(LedgerError::from_number(10), None);
+    /// ```
     pub fn from_number(number: u32) -> Option<Self> {
         ALL.into_iter().find(|error| error.number() == number)
     }
