@@ -113,6 +113,10 @@ fn shown_files_are_the_files() {
         files.insert(shown.file.clone());
     }
     for case in read_scripts().expect("the examples can be read") {
+        // the README's, which the tests of embed/rust hold to the file
+        if case.title == "place.floo" {
+            continue;
+        }
         let script = format!("examples/{}", case.title);
         let expected = script.replace(".floo", ".expected");
         assert!(files.contains(&script), "no page shows {script}");
