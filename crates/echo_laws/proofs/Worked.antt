@@ -3,10 +3,11 @@
 -- Assumes nothing.
 use mathlib.Core.Path.{refl}
 use mathlib.Core.List.{List, []}
-use Prim.Native.Nat.{ℕ, _≤_}
+use Prim.Native.Nat.{ℕ, _+_, _*_, _≤_}
 use native.Mathlib.Omega.{arith}
 use lib.ListN.{length}
 use lib.Dec.{T, ltb, ltb→lt}
+use Rattle.semantics.specs.Sizes.{stackWordsMost, execWordsMost, dictionaryWordsMost, cellWidth, headRoom, itemRoom, stackMost}
 use Rattle.semantics.specs.Text.{bytes, textual}
 use Rattle.semantics.specs.Words.{words}
 use Rattle.semantics.specs.Values.{operator, string, values}
@@ -30,7 +31,15 @@ text-bytes : (t : List ℕ) → T (every (λ b. ltb b 256) t) → Bytes t
 text-bytes t h = all-weaker (λ b l. ltb→lt b 256 l) (all-every (λ b. ltb b 256) t h)
 
 abbrev lent : Lent
-lent = record { stackWords = 512; execWords = 1024; dictionaryWords = 6144; cellWords = 16384; logBytes = 8192; outcomeBytes = 35072 }
+lent =
+    record {
+      stackWords = stackWordsMost;
+      execWords = execWordsMost;
+      dictionaryWords = dictionaryWordsMost;
+      cellWords = cellWidth * 4096;
+      logBytes = 8192;
+      outcomeBytes = headRoom + itemRoom * stackMost;
+    }
 
 short : (script : List ℕ) → T (every (λ b. ltb b 256) script) → length script ≤ most → Admitted (limits lent) script
 unfolding settings

@@ -9,7 +9,7 @@ use lib.ListN.{length, take, drop, length-drop}
 use lib.Seq.{length-take-le}
 use lib.Dec.{T, eqb}
 use Rattle.semantics.specs.Values.{ok, fault, _>>=_}
-use Rattle.semantics.specs.Tokens.{Lexing, isNameByte, Class, nameByte, bracket, openBrace, closeBrace, quote, slash, other, classOf, isBlank, commentAfter, blanksIn, blanks, run, startsNumber, number, Met, nothing, Act, byte, go, close, cut, bad, act, Quoted, quotedOn, quoted, Token, Lexeme, lexeme, nameOf, runToken, signs, slashToken, lexAs, lex}
+use Rattle.semantics.specs.Tokens.{Lexing, isDigit, isNameByte, Class, nameByte, bracket, openBrace, closeBrace, quote, slash, other, classOf, isBlank, commentAfter, blanksIn, blanks, run, startsNumber, number, Met, nothing, Act, byte, go, close, cut, bad, act, Quoted, quotedOn, quoted, Token, Lexeme, lexeme, nameOf, runToken, signs, slashToken, lexAs, lex}
 use Rattle.semantics.specs.Groups.{skip}
 use Rattle.semantics.specs.declared.Fault.the-variants.{BadByte}
 use Rattle.semantics.specs.ResultLaws.{choose, Gives, gives, fails, gives-then, gives-any}
@@ -35,6 +35,16 @@ run-le (b ∷ s) = choose (λ n. n ≤ suc (length s)) (isNameByte b) (suc (run 
 
 pub run-length : (s : List ℕ) → length (take (run s) s) ≤ length s
 run-length s = omega (arith, length-take-le (run s) s (run-le s), run-le s)
+
+-- Of a run that starts as a number does, its minus sign at most could begin a name.
+pub signs-le : (n : List ℕ) → (signs n ≤ 1) × (signs n ≤ length n)
+unfolding signs
+signs-le [] = (omega arith, omega arith)
+signs-le (b ∷ s) = by (isDigit b)
+  where
+    by : (t : Bool) → (cond {A = ℕ} t 0 1 ≤ 1) × (cond {A = ℕ} t 0 1 ≤ suc (length s))
+    by true = (omega arith, omega arith)
+    by false = (omega arith, omega arith)
 
 -- ---- sizes
 

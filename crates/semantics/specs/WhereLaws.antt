@@ -11,13 +11,13 @@ use lib.Dec.{eqb, ltb, leb, nltb→le}
 use Rattle.semantics.specs.Words.{word}
 use Rattle.semantics.specs.Values.{Attempt, Result, ok, fault, _>>=_, check, Value}
 use Rattle.semantics.specs.Machine.{Machine, Frame, made}
-use Rattle.semantics.specs.Tokens.{Lexing, isDigit, digit, digitsFrom, digits, startsNumber, upTo, Form, negative, hexadecimal, plain, formOf, number, Met, nothing, Act, byte, go, close, cut, bad, act, Quoted, quotedOn, quoted, Class, nameByte, bracket, openBrace, closeBrace, quote, slash, other, classOf, run, Token, Lexeme, lexeme, nameOf, runToken, signs, slashToken, lexAs, lex}
+use Rattle.semantics.specs.Tokens.{Lexing, digit, digitsFrom, digits, startsNumber, upTo, Form, negative, hexadecimal, plain, formOf, number, Met, nothing, Act, byte, go, close, cut, bad, act, Quoted, quotedOn, quoted, Class, nameByte, bracket, openBrace, closeBrace, quote, slash, other, classOf, run, Token, Lexeme, lexeme, nameOf, runToken, signs, slashToken, lexAs, lex}
 use Rattle.semantics.specs.Groups.{Taken, taken, skip, Reader, opened, closed, element, group, tokenValue, takeToken}
 use Rattle.semantics.specs.Steps as steps
 use Rattle.semantics.specs.Steps.{Limits, State, Step, goes, misreads, unmoved, ended, moved, tokenMove, tokenStep, stepOn, step, Ending, misread, Run, isFinished, finish, goOn}
 use Rattle.semantics.specs.Setup.{Reading, refused, faulty, read, isTooLong, readingOf, reading}
 use Rattle.semantics.specs.ResultLaws.{choose, Gives, gives, fails, gives-then, gives-weaker, gives-any}
-use Rattle.semantics.specs.TokenLaws.{Fits, skip-le, run-length, lex-fits}
+use Rattle.semantics.specs.TokenLaws.{Fits, skip-le, run-length, signs-le, lex-fits}
 use Rattle.semantics.specs.GroupLaws.{Inside, group-inside, token-fits}
 use Rattle.semantics.specs.declared.Fault.{Fault}
 use Rattle.semantics.specs.declared.Fault.the-variants.{BadNumber, BadEscape, OpenString, BadBrace, BadByte, OverLimit}
@@ -131,20 +131,11 @@ runToken-lies at n =
     (λ t. lies-on (number-lies at n) (λ w. right))
     (λ t. nameOf-lies true n)
 
-signs-le : (n : List ℕ) → signs n ≤ length n
-unfolding signs
-signs-le [] = omega arith
-signs-le (b ∷ s) = by (isDigit b)
-  where
-    by : (t : Bool) → cond {A = ℕ} t 0 1 ≤ suc (length s)
-    by true = omega arith
-    by false = omega arith
-
 slashToken-lies : (at : ℕ) (n : List ℕ) → Lies at (at + length n) (slashToken at n)
 unfolding slashToken
 slashToken-lies at n =
     choose (Lies at (at + length n)) (eqb (length n) 0 || startsNumber n) (fault (BadByte (at + signs n))) (nameOf false n)
-    (λ t. let few = signs-le n in wrong {f = BadByte (at + signs n)} (omega arith, omega arith))
+    (λ t. let few = signs-le n .1 in wrong {f = BadByte (at + signs n)} (omega arith, omega arith))
     (λ t. nameOf-lies false n)
 
 lexAs-lies : (k : Class) (at b : ℕ) (s : List ℕ) → Lies at (at + suc (length s)) (lexAs k at b s)

@@ -1,6 +1,6 @@
 -- Numbers: how one begins, its form, its digits read from left to right with the value kept over the limit, and its 32 bits.
 -- Assumes nothing.
-use mathlib.Core.Path.{_≡_, refl, sym, ap, _∙_}
+use mathlib.Core.Path.{_≡_, refl, sym, ap, subst, _∙_}
 use mathlib.Core.Bool.{Bool, true, false, not, cond, false≢true}
 use mathlib.Core.List.{List, [], _∷_}
 use Prim.Native.Nat.{ℕ, zero, suc, _+_, _-_, _*_, _^_, _≤_, _<_}
@@ -16,6 +16,7 @@ use Rattle.semantics.specs.Values.{ok, fault, _>>=_, check}
 use Rattle.semantics.specs.Words.{word}
 use Rattle.semantics.specs.Tokens.{Lexing, isDigit, within, digit, digits, digitsFrom, upTo, startsNumber, signs, formOf, number}
 use Rattle.semantics.specs.Tokens as tokens
+use Rattle.semantics.specs.TokenLaws.{signs-le}
 use Rattle.semantics.specs.declared.Fault as semantics
 use Rattle.semantics.specs.declared.Fault.the-variants.{BadNumber, OverLimit}
 use Rattle.token.specs.Numbers.{numberIs, faultOf, withDigit, numeral, negation}
@@ -73,13 +74,7 @@ module _ (t : Bool) where
   signs-other (b ∷ s) h e f = rw (sym e ∙ f)
 
 pub signs-few : {n : ℕ} (s : List ℕ) → n ≡ signs s → n ≤ 1
-unfolding signs
-signs-few [] e = omega arith
-signs-few (b ∷ s) e = by (isDigit b) e
-  where
-    by : {n : ℕ} (t : Bool) → n ≡ cond {A = ℕ} t 0 1 → n ≤ 1
-    by true e = omega arith
-    by false e = omega arith
+signs-few s e = subst (λ k. k ≤ 1) (sym e) (signs-le s .0)
 
 -- ---- its form
 
