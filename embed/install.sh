@@ -16,6 +16,7 @@ if [ -z "${FLOO_LIB_DIR:-}" ]; then
     rt staticlib floo_c
     rt staticlib floor_c
     rt staticlib ledger_c
+    rt staticlib forf_c
     FLOO_LIB_DIR=$PWD/target/staticlib
 fi
 export FLOO_LIB_DIR
@@ -35,9 +36,10 @@ END
 }
 
 install -d "$prefix/include" "$prefix/lib/pkgconfig"
-install -m 644 include/floo.h include/floor.h "$prefix/include"
+install -m 644 include/floo.h include/floor.h include/forf.h "$prefix/include"
 package floo floo_c "Runs Floo 0.5 scripts in lent room, and reads their tokens (floo.h)"
 package floor floor_c "The floor rule for late scans (floor.h)"
+package forf forf_c "Runs Forf scripts in lent room, and reads their tokens (forf.h)"
 package floor-ledger ledger_c "The ledger of a book of sockets (floor.h)"
 if command -v cargo > /dev/null; then
     cargo build --quiet --release --manifest-path embed/rust/Cargo.toml

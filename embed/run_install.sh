@@ -37,11 +37,13 @@ build first_scan floor
 build scan floor
 build embed floo
 build ledger floor-ledger
+build display forf
 said=$("$folder/first_scan" examples/scan.floo "0417:rack B-7:1731690000" "0417:shelf A-2:1731600000")
 [ "$said" = "$(printf 'socket 417 at rack B-7 since 1731690000\nnot entered: answer 8')" ] || fails "first_scan says $said"
 "$folder/scan" examples/scan.floo | cmp - examples/scan.expected
 "$folder/embed" | cmp - embed/embed.expected
 "$folder/ledger" examples/ledger.csv | cmp - examples/ledger.expected
+"$folder/display" examples/display.forf | cmp - examples/display.expected
 "$folder/installed/bin/floo" --outcome examples/label.floo | cmp - examples/label.expected
 [ -s "$folder/installed/share/man/man1/floo.1" ] || fails "no manual page"
 if embed/install.sh 2> "$folder/usage"; then

@@ -6,5 +6,6 @@ if [ -z "${FLOO_LIB_DIR:-}" ]; then
     rt staticlib floo_c
     rt staticlib floor_c
     rt staticlib ledger_c
+    rt staticlib forf_c
 fi
 exec cargo test --manifest-path embed/rust/Cargo.toml

@@ -1,7 +1,7 @@
 //! Random scripts, fuel and room, run by the proved runner and by the reference interpreter: the answers, every lent byte outside what is promised to
 //! change, and the objects that the runner's words show. The tokens of these scripts and of rows of bytes, read by both at every offset. Random scans by the
-//! exported floor rule and the reference's, with their books; books written as ledgers, and texts good and damaged read as such, by both. And echo lines that are read
-//! back.
+//! exported floor rule and the reference's, with their books; books written as ledgers, and texts good and damaged read as such, by both. Echo lines that are read
+//! back. And random Forf scripts.
 
 #![forbid(unsafe_code)]
 
@@ -13,6 +13,7 @@ pub mod scripts;
 mod asked;
 mod circles;
 mod echoes;
+pub mod forf;
 mod ledgers;
 mod lent;
 mod readings;

@@ -2,7 +2,7 @@
 
 use std::process::ExitCode;
 
-use floo_difftest::{compare_all, Echoes, Ledgers, Readings, Scans, DAMAGES};
+use floo_difftest::{compare_all, forf, Echoes, Ledgers, Readings, Scans, DAMAGES};
 
 fn main() -> ExitCode {
     let numbers: Vec<u64> = std::env::args().skip(1).filter_map(|word| word.parse().ok()).collect();
@@ -25,7 +25,7 @@ fn main() -> ExitCode {
             print_scans(&tally.scans);
             print_ledgers(&tally.ledgers);
             print_echoes(&tally.echoes);
-            ExitCode::SUCCESS
+            print_forf(count as usize / 4, seed)
         }
         Err(what) => {
             println!("{what}");
@@ -111,4 +111,22 @@ fn print_echoes(echoes: &Echoes) {
         limits[2],
         echoes.longest
     );
+}
+
+/// A Forf script for every fourth case.
+fn print_forf(count: usize, seed: u64) -> ExitCode {
+    match forf::compare_all(count, seed) {
+        Ok(tally) => {
+            println!(
+                "{} Forf scripts, {} steps: {:?} refused by 1, 3, 4, 5, 9 and for their memory, {} finished, {} out of fuel, {:?} failed by each error, {} left another memory, {} of them failed; \
+                 tokens {:?} by kind, {} faults, {} past the end: no difference",
+                tally.scripts, tally.steps, tally.refused, tally.finished, tally.spent, tally.failed, tally.stored, tally.stored_then_failed, tally.tokens, tally.faults, tally.past_end
+            );
+            ExitCode::SUCCESS
+        }
+        Err(what) => {
+            println!("{what}");
+            ExitCode::FAILURE
+        }
+    }
 }

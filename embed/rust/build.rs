@@ -1,4 +1,4 @@
-//! Links `libfloo_c.a`, `libfloor_c.a` and `libledger_c.a`: from the folder that `FLOO_LIB_DIR` names, or from `target/staticlib` of this repository, where `rt staticlib` puts them.
+//! Links `libfloo_c.a`, `libfloor_c.a`, `libledger_c.a` and `libforf_c.a`: from the folder that `FLOO_LIB_DIR` names, or from `target/staticlib` of this repository, where `rt staticlib` puts them.
 
 use std::env;
 use std::path::PathBuf;
@@ -10,7 +10,7 @@ fn main() {
         None => PathBuf::from(env!("CARGO_MANIFEST_DIR")).join("../../target/staticlib"),
     };
     println!("cargo:rustc-link-search=native={}", folder.display());
-    for name in ["floo_c", "floor_c", "ledger_c"] {
+    for name in ["floo_c", "floor_c", "ledger_c", "forf_c"] {
         let library = folder.join(format!("lib{name}.a"));
         if !library.is_file() {
             panic!(

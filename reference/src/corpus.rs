@@ -1,5 +1,6 @@
 //! Reads the corpus, in the format of ../corpus/README.md.
 
+mod forf;
 mod ledgers;
 mod pages;
 mod scans;
@@ -8,6 +9,7 @@ use std::fs;
 use std::path::{Path, PathBuf};
 
 use crate::Sizes;
+pub use forf::{read_forf, ForfCase, ForfGives};
 pub use ledgers::{read_ledgers, LedgerCase, LedgerQuestion};
 pub use pages::{read_pages, read_scripts, spans, Page, Row, Shown};
 pub use scans::{read_scans, ScanCase};

@@ -3,7 +3,7 @@
 //! readings. A step is worked out as a `Change` (change.rs) by the rules of run.rs and operators/,
 //! tested for fit in the paper's order, and then applied to the `Machine` (machine.rs). The floor
 //! rule of the change requests ("02") is a library on top of the run (floor.rs), and the ledger
-//! writes and reads its book (ledger.rs).
+//! writes and reads its book (ledger.rs). Forf is a language of its own (forf.rs).
 
 #![forbid(unsafe_code)]
 
@@ -11,6 +11,7 @@ pub mod change;
 pub mod corpus;
 pub mod error;
 pub mod floor;
+pub mod forf;
 pub mod ledger;
 pub mod machine;
 pub mod operators;

@@ -76,7 +76,7 @@ fn write_answer(answer: Answer, log: &[u8], outcome: &[u8], page: &mut [u8; PAGE
     ensures { λ r. ⌜ Written 0 (told answer (now (log .entry)) (now (outcome .entry))) (now (page .entry)) (now (page .exit)) r ⌝ }
 {
     match answer {
-        Answer::Refused(number) => outcome::write_number(page, 0, b"refused", number),
+        Answer::Refused(number) => text::write_number(page, 0, b"refused", number),
         Answer::Ran(report) => {
             let logged = report.log;
             let written = report.outcome;

@@ -1,20 +1,19 @@
--- The lines of numbers: a key, a number of 10 digits at most, and what the counts are in every machine that the words stand for.
+-- The lines of numbers: what the counts are in every machine that the words stand for.
 -- Assumes nothing.
 use mathlib.Core.Path.{_≡_, ap, _∙_}
 use mathlib.Core.List.{List, []}
-use Prim.Native.Nat.{ℕ, _+_, _-_, _≤_, _<_}
+use Prim.Native.Nat.{ℕ, _+_, _-_, _≤_}
 use native.Mathlib.Omega.{arith}
-use lib.ListN.{length, set, length-set}
+use lib.ListN.{length}
 use Rattle.semantics.specs.Text.{bytes, decimal}
-use Rattle.semantics.specs.TextLaws.{decimal-length}
 use Rattle.semantics.specs.Machine as Floo
 use Rattle.semantics.specs.Held.{heldCells}
 use Rattle.semantics.specs.Outcome.{line}
-use Rattle.semantics.specs.OutcomeLaws.{line-length}
 use Rattle.heap.specs.Shape.{cells}
 use Rattle.store.proofs.Rooming.{lists-room}
 use Rattle.text.specs.Writing.{Written}
-use Rattle.text.proofs.Pasting.{then, last, respelt}
+use Rattle.text.proofs.Pasting.{then, respelt}
+use Rattle.text.proofs.NumberLines.{after-line}
 use Rattle.machine.specs.Rep.{Rep, Somewhere}
 use Rattle.machine.specs.declared.Machine.{Machine}
 use Rattle.machine.proofs.Rooted.{rooted}
@@ -22,23 +21,6 @@ use Rattle.machine.proofs.Outcomes.{stack-depth}
 use Rattle.machine.proofs.Rooms.{logged-length}
 use Rattle.elements.specs.Elements.{freeCells}
 use Rattle.outcome.specs.Reports.{CountsRoom, WritesCounts, countLines}
-
--- ---- a line
-
-module _ {at next : ℕ} {key out mid : List ℕ} (n : ℕ) (room : at + length key + 12 ≤ length out) (K : Written at key out mid next) (same : length mid ≡ length out) where
-  pub sign-room : next < length mid
-  sign-room = omega (arith, room, K .end, same)
-
-  pub digits-room : next + 1 + length (decimal n) ≤ length (set mid next 61)
-  digits-room = omega (arith, room, K .end, same, length-set mid next 61, decimal-length n)
-
-  module _ {new : List ℕ} {after : ℕ} (D : Written (next + 1) (decimal n) (set mid next 61) new after) (kept : length new ≡ length (set mid next 61)) where
-    pub feed-room : after < length new
-    feed-room = omega (arith, room, K .end, D .end, same, kept, length-set mid next 61, decimal-length n)
-
-    pub number-line : Written at (line key (decimal n)) out (set new after 10) (after + 1)
-    unfolding line bytes
-    number-line = let low : at ≤ length out = omega (arith, room) in last 10 low feed-room (then low (last 61 low sign-room K) D)
 
 -- ---- the counts
 
@@ -55,18 +37,6 @@ module _ {m : Machine} {c : List ℕ} {next : ℕ} {out : List ℕ} (N : CountsR
 
   pub depth-few : m .depth ≤ 256
   depth-few = omega (arith, N .rep .rooms .stack-fits, N .rep .rooms .stack-few)
-
--- A line of a number is short.
-pub count-length : (key : List ℕ) (n : ℕ) → length (line key (decimal n)) ≤ length key + 12
-count-length key n = omega (arith, line-length key (decimal n), decimal-length n)
-
--- What is left after one.
-pub after-line : {at r : ℕ} {out mid : List ℕ} (key : List ℕ) (n left : ℕ)
-    → at + (length key + 12 + left) ≤ length out
-    → Written at (line key (decimal n)) out mid r
-    → length mid ≡ length out
-    → r + left ≤ length mid
-after-line key n left h W same = omega (arith, h, W .end, same, count-length key n)
 
 -- After each of the first three lines there is room for the others.
 module _ {m : Machine} {c : List ℕ} {next : ℕ} {out : List ℕ} (N : CountsRoom m c next out)

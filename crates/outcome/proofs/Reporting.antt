@@ -23,7 +23,7 @@ use Rattle.machine.specs.Places.{keys}
 use Rattle.machine.specs.Rep.{Rep}
 use Rattle.machine.specs.declared.Machine.{Machine}
 use Rattle.outcome.specs.Reports.{Ready, WritesOutcome, EndingRoom, WritesEnding, WritesWhere, CountsRoom, WritesCounts, countLines, ItemsRoom, WritesItems}
-use Rattle.outcome.proofs.Numbers.{count-length}
+use Rattle.text.proofs.NumberLines.{count-length}
 use Rattle.outcome.proofs.Commands.{ending-few}
 
 -- ---- the ending is one in every machine that the words stand for: as many names have slots in each

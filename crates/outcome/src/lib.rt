@@ -3,7 +3,7 @@
 ghost use Prim.Native.Nat.{_+_, _*_, _≤_, _<_};
 ghost use lib.ListN.{length};
 ghost use Rattle.semantics.specs.Sizes.{itemRoom};
-ghost use Rattle.semantics.specs.Text.{bytes, decimal};
+ghost use Rattle.semantics.specs.Text.{bytes};
 ghost use Rattle.semantics.specs.Errors.{errorText, faultText, whereText};
 ghost use Rattle.semantics.specs.Steps.{misread};
 ghost use Rattle.semantics.specs.Outcome.{line, endingLines};
@@ -45,7 +45,7 @@ pub fn write(
     ensures { λ r. ⌜ WritesOutcome (now (script .entry)) m ending at steps (now (stack .entry)) (now (dict .entry)) (now (cells .entry)) (now (out .entry)) (now (out .exit)) r ⌝ }
 {
     let head = write_ending(ending, script, dict, cells, out);
-    let token = write_number(out, head, b"at", at as u32);
+    let token = text::write_number(out, head, b"at", at as u32);
     let place = write_where(out, token, ending);
     let next = write_counts(m, steps, cells, out, place);
     write_items(m, stack, dict, cells, out, next)
@@ -173,11 +173,11 @@ fn write_place(out: &mut [u8], at: usize, fault: Fault) -> usize
     ensures { λ r. ⌜ Written at (line (bytes "where") (whereText fault)) (now (out .entry)) (now (out .exit)) r ⌝ }
 {
     match fault {
-        Fault::BadNumber(place) => write_number(out, at, b"where", place),
-        Fault::BadEscape(place) => write_number(out, at, b"where", place),
-        Fault::OpenString(place) => write_number(out, at, b"where", place),
-        Fault::BadBrace(place) => write_number(out, at, b"where", place),
-        Fault::BadByte(place) => write_number(out, at, b"where", place),
+        Fault::BadNumber(place) => text::write_number(out, at, b"where", place),
+        Fault::BadEscape(place) => text::write_number(out, at, b"where", place),
+        Fault::OpenString(place) => text::write_number(out, at, b"where", place),
+        Fault::BadBrace(place) => text::write_number(out, at, b"where", place),
+        Fault::BadByte(place) => text::write_number(out, at, b"where", place),
         Fault::OverLimit => text::copy(out, at, b"where=\n"),
     }
 }
@@ -188,22 +188,10 @@ fn write_counts(m: Machine, steps: u32, cells: &[u32], out: &mut [u8], next: usi
     ensures { λ r. ⌜ WritesCounts m steps (now (cells .entry)) next (now (out .entry)) (now (out .exit)) r ⌝ }
 {
     let held = (cells.len() / 4) as u32 - elements::free_cells(m, cells);
-    let b = write_number(out, next, b"steps", steps);
-    let c = write_number(out, b, b"depth", m.depth as u32);
-    let d = write_number(out, c, b"held", held);
-    write_number(out, d, b"log", m.written as u32)
-}
-
-// A line of a key and a number, which has 10 digits at most.
-pub fn write_number(out: &mut [u8], at: usize, key: &[u8], n: u32) -> usize
-    requires { ⌜ at + length (now key) + 12 ≤ length (now out) ⌝ }
-    ensures { λ r. ⌜ Written at (line (now (key .entry)) (decimal n)) (now (out .entry)) (now (out .exit)) r ⌝ }
-{
-    let next = text::copy(out, at, key);
-    out[next] = b'=';
-    let after = text::write_decimal(out, next + 1, n);
-    out[after] = b'\n';
-    after + 1
+    let b = text::write_number(out, next, b"steps", steps);
+    let c = text::write_number(out, b, b"depth", m.depth as u32);
+    let d = text::write_number(out, c, b"held", held);
+    text::write_number(out, d, b"log", m.written as u32)
 }
 
 // ---- the items

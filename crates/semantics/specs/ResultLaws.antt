@@ -1,7 +1,9 @@
 -- Reasoning by cases: on a test, and on a result that is there or an error.
 -- Assumes nothing.
-use mathlib.Core.Path.{_≡_, refl}
+use mathlib.Core.Path.{_≡_, refl, ap, subst}
 use mathlib.Core.Bool.{Bool, true, false, not, cond}
+use Prim.Native.Nat.{ℕ}
+use native.Mathlib.Omega.{arith}
 use lib.Dec.{T}
 use Rattle.semantics.specs.Values.{Attempt, ok, fault, _>>=_, check}
 
@@ -55,3 +57,25 @@ then-same fails e = refl
 
 pub ok-one : {E A : Type 0} {a b : A} → _≡_ {A = Attempt E A} (ok a) (ok b) → a ≡ b
 ok-one e = cc
+
+pub fault-ok : {E A : Type 0} {e : E} {a : A} → _≡_ {A = Attempt E A} (fault e) (ok a) → ⊥
+fault-ok q = let z : _≡_ {A = ℕ} 0 1 = cc in absurd (omega arith)
+
+-- One fault is one fault whatever would have been there.
+pub fault-one : {E A B : Type 0} {d e : E} → _≡_ {A = Attempt E A} (fault d) (fault e) → _≡_ {A = Attempt E B} (fault d) (fault e)
+fault-one {d = d} {e = e} q = let z : d ≡ e = cc in ap fault z
+
+pub gives-ok : {E A : Type 0} {P : A → Type 0} {r : Attempt E A} {a : A} → Gives P r → r ≡ ok a → P a
+gives-ok {P = P} (gives p) e = subst P (ok-one e) p
+gives-ok fails e = absurd (fault-ok e)
+
+-- What is there was made from something that is there.
+pub then-ok : {E A B : Type 0} (r : Attempt E A) (f : A → Attempt E B) {b : B} → (r >>= f) ≡ ok b → (a : A) × (r ≡ ok a) × (f a ≡ ok b)
+unfolding _>>=_
+then-ok (ok a) f e = (a, refl, e)
+then-ok (fault x) f e = absurd (fault-ok e)
+
+-- Something that is there is handed on.
+pub ok-then : {E A B : Type 0} {r : Attempt E A} {a : A} (f : A → Attempt E B) {s : Attempt E B} → r ≡ ok a → f a ≡ s → (r >>= f) ≡ s
+unfolding _>>=_
+ok-then f p q = rw p q

@@ -90,7 +90,7 @@ fn begins(script: &[u8]) -> bool
     true
 }
 
-fn outside(low: usize, high: usize, n: usize) -> bool
+pub fn outside(low: usize, high: usize, n: usize) -> bool
     ensures { λ r. ⌜ r ≡ not (within low high n) ⌝ }
 {
     if n < low { true } else { high < n }

@@ -6,6 +6,7 @@ ghost use Prim.Native.Nat.{_+_, _≤_, _^_};
 ghost use lib.ListN.{length};
 ghost use Rattle.semantics.specs.Text.{decimal, octal};
 ghost use Rattle.semantics.specs.Words.{signed, decimalZ};
+ghost use Rattle.semantics.specs.Outcome.{line};
 ghost use Rattle.semantics.specs.Printing.{escaped, stringByte, nameByte, nameText};
 ghost use Rattle.text.specs.Writing.{Written, isPlain, visible, byteText, quoted};
 
@@ -74,6 +75,18 @@ pub fn write_integer(out: &mut [u8], at: usize, w: u32) -> usize
     let size = magnitude(w);
     out[at] = b'-';
     write_decimal(out, at + 1, size)
+}
+
+// A line of a key and a number, which has 10 digits at most.
+pub fn write_number(out: &mut [u8], at: usize, key: &[u8], n: u32) -> usize
+    requires { ⌜ at + length (now key) + 12 ≤ length (now out) ⌝ }
+    ensures { λ r. ⌜ Written at (line (now (key .entry)) (decimal n)) (now (out .entry)) (now (out .exit)) r ⌝ }
+{
+    let next = copy(out, at, key);
+    out[next] = b'=';
+    let after = write_decimal(out, next + 1, n);
+    out[after] = b'\n';
+    after + 1
 }
 
 // ---- a byte, for who has no slice to lend

@@ -120,7 +120,7 @@ fn with_digit(limit: u64, base: u64, n: u64, d: u64) -> u64
 
 // The number that the digits from `at` on write, at most the limit, in a run whose first byte is at `start` in the script. Any number of digits is read, and all
 // are judged.
-fn numeral_at(s: &[u8], start: usize, at: usize, base: u64, limit: u64) -> Number
+pub fn numeral_at(s: &[u8], start: usize, at: usize, base: u64, limit: u64) -> Number
     requires { ⌜ (limit < 2 ^ 32) × (0 < base) × (base ≤ 16) × (at ≤ length (now s)) × (start + length (now s) < 2 ^ 32) ⌝ }
     ensures { λ r. ⌜ numberIs r ≡ numeral base limit (start + at) (drop at (now (s .entry))) ⌝ }
 {
@@ -144,7 +144,7 @@ fn numeral_at(s: &[u8], start: usize, at: usize, base: u64, limit: u64) -> Numbe
 }
 
 // The 32 bits of a number's negation.
-fn negated(n: Number) -> Number
+pub fn negated(n: Number) -> Number
     ensures { λ r. ⌜ numberIs r ≡ negation (numberIs n) ⌝ }
 {
     let Number::Word(w) = n else {

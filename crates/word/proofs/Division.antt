@@ -39,7 +39,7 @@ off-corner a b t e h p q = true≢false (sym (e ∙ rw (p, q)) ∙ h)
 
 -- ---- elsewhere
 
-nonzero : (w : ℕ) → Fits w32 w → w ≢ 0 → natAbs (signed w) ≢ 0
+pub nonzero : (w : ℕ) → Fits w32 w → w ≢ 0 → natAbs (signed w) ≢ 0
 nonzero w h n = by (sign w (h .fits))
   where
     by : Sign w → natAbs (signed w) ≢ 0

@@ -3,4 +3,5 @@ pub mod Words
 pub mod Signed
 pub mod Division
 pub mod Counts
+pub mod Shifts
 pub mod Ranges

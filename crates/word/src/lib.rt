@@ -1,12 +1,12 @@
 // Integers of 32 bits, each as an unsigned word: arithmetic, shifts, bits and comparisons. Every function promises its exact answer
 // on all words, by the definition (semantics, specs/Words): a word is read in two's complement, and a result is written modulo 2^32.
 ghost use mathlib.Core.Path.{_≡_};
-ghost use mathlib.Core.Bool.{not};
+ghost use mathlib.Core.Bool.{not, cond};
 ghost use Prim.Native.Nat.{_-_, _*_, _%_, _^_};
 ghost use lib.IntN.{pos, negℤ, natAbs, _+ℤ_, _-ℤ_, _*ℤ_};
-ghost use lib.Signed.{ltZ, leZ, quotZ, remZ};
+ghost use lib.Signed.{ltZ, leZ, quotZ, remZ, shrZ};
 ghost use lib.Bits.{bitAnd, bitOr, bitXor};
-ghost use lib.Dec.{eqb};
+ghost use lib.Dec.{eqb, ltb};
 ghost use Rattle.semantics.specs.Words.{signed, word, inRange, shift};
 ghost use Rattle.word.specs.Answers.{quotientOf, dividedWords, isCorner};
 
@@ -17,6 +17,9 @@ pub const SIGN: u32 = 0x8000_0000;
 pub const ALL_ONES: u32 = 0xFFFF_FFFF;
 
 const WIDTH: u32 = 32;
+
+// The sign bit's place.
+const TOP: u32 = 31;
 
 // The greatest and the least integer of 32 bits, among those of 64.
 const GREATEST: i64 = 0x7FFF_FFFF;
@@ -112,6 +115,26 @@ pub fn bitshift(a: u32, s: u32) -> u32
         return a >> right;
     }
     0
+}
+
+// Forf's shift to the left, by 0 to 31; a count outside gives 0. Ruled out: a negative count that shifts to the right, and one modulo 32.
+pub fn shift_left(a: u32, s: u32) -> u32
+    ensures { λ r. ⌜ r ≡ shift a (pos s) ⌝ }
+{
+    if TOP < s {
+        return 0;
+    }
+    a << s
+}
+
+// Forf's shift to the right, which spreads the sign; a count outside 0 to 31 gives the sign in all bits. Ruled out: zeros for the sign, and 0 for -1 by 32.
+pub fn shift_right(a: u32, s: u32) -> u32
+    ensures { λ r. ⌜ r ≡ word (shrZ (signed a) (2 ^ cond (ltb s 32) s 31)) ⌝ }
+{
+    if TOP < s {
+        return to_word(to_signed(a) >> TOP);
+    }
+    to_word(to_signed(a) >> s)
 }
 
 pub fn bit_and(a: u32, b: u32) -> u32

@@ -1,4 +1,4 @@
-//! The exported functions of `libfloo_c.a`, `libfloor_c.a` and `libledger_c.a`, as `include/floo.h` and `include/floor.h` have them: the one place here that is not
+//! The exported functions of `libfloo_c.a`, `libfloor_c.a`, `libledger_c.a` and `libforf_c.a`, as `include/floo.h`, `floor.h` and `forf.h` have them: the one place here that is not
 //! safe Rust.
 
 use crate::floor::Record;
@@ -68,7 +68,56 @@ pub struct LedgerReply {
     pub count: usize,
 }
 
+/// What [`forf_lent`] answers: the number of the refusal or 0, whether the memory is not of 32 slots, and what the run came to.
+#[repr(C)]
+#[derive(Clone, Copy, Debug, PartialEq, Eq)]
+pub struct ForfReply {
+    /// The number of the refusal, or 0.
+    pub refused: u32,
+    /// 1 where the memory is not of 32 slots, else 0.
+    pub memory: u32,
+    /// How many steps were made.
+    pub steps: u32,
+    /// How many bytes of the outcome were written.
+    pub outcome: usize,
+}
+
+/// What [`forf_token_reply`] answers: the number of the refusal, 1 for a syntaxerror or the number of the token's kind, the other two being 0; the offset after the
+/// token, and where in the script its own bytes begin and how many they are.
+#[repr(C)]
+#[derive(Clone, Copy, Debug, PartialEq, Eq)]
+pub struct ForfTokenReply {
+    /// The number of the refusal, 1 or 10, or 0.
+    pub refused: u32,
+    /// 1 for a syntaxerror, or 0.
+    pub fault: u32,
+    /// The number of a kind in `forf.h`, or 0.
+    pub kind: u32,
+    /// The offset after the token.
+    pub next: usize,
+    /// Where its own bytes begin.
+    pub start: usize,
+    /// How many they are.
+    pub size: usize,
+}
+
 extern "C" {
+    fn forf_run(
+        script: *const u8,
+        script_bytes: usize,
+        fuel: u32,
+        stack: *mut u32,
+        stack_words: usize,
+        execution: *mut u32,
+        execution_words: usize,
+        memory: *mut u32,
+        memory_words: usize,
+        outcome: *mut u8,
+        outcome_bytes: usize,
+    ) -> ForfReply;
+
+    fn forf_token(script: *const u8, script_bytes: usize, offset: usize) -> ForfTokenReply;
+
     fn floo_run(
         script: *const u8,
         script_bytes: usize,
@@ -276,4 +325,52 @@ pub fn read_ledger(text: &[u8], book: &mut [Record]) -> LedgerReply {
 pub fn token(script: &[u8], offset: usize) -> TokenReply {
     // SAFETY: pointer and length are those of a slice, which no one writes during the call. Nothing else is asked.
     unsafe { floo_token(script.as_ptr(), script.len(), offset) }
+}
+
+/// Runs a Forf script in buffers that the caller lends: 2 words for a stack slot, 8 for an execution slot, 32 words of memory, and an outcome of at least
+/// 256 + 136 × stack slots bytes. Any lengths may be lent.
+///
+/// ```
+/// let (mut stack, mut execution, mut memory) = ([0; 2 * 8], [0; 8 * 4], [0; 32]);
+/// let mut outcome = [0; 256 + 136 * 8];
+/// let reply = floo::forf_lent(b"5 3 + 0 mset", 100, &mut stack, &mut execution, &mut memory, &mut outcome);
+/// assert_eq!((reply.refused, reply.memory, reply.steps, memory[0]), (0, 0, 5, 8));
+/// ```
+#[allow(unsafe_code)]
+pub fn forf_lent(
+    script: &[u8],
+    fuel: u32,
+    stack: &mut [u32],
+    execution: &mut [u32],
+    memory: &mut [u32],
+    outcome: &mut [u8],
+) -> ForfReply {
+    // SAFETY: as for `run`: pointers and lengths of slices, of which those that are written overlap nothing.
+    unsafe {
+        forf_run(
+            script.as_ptr(),
+            script.len(),
+            fuel,
+            stack.as_mut_ptr(),
+            stack.len(),
+            execution.as_mut_ptr(),
+            execution.len(),
+            memory.as_mut_ptr(),
+            memory.len(),
+            outcome.as_mut_ptr(),
+            outcome.len(),
+        )
+    }
+}
+
+/// Reads the next token of a Forf script from an offset on.
+///
+/// ```
+/// let reply = floo::forf_token_reply(b"(x) abs", 0);
+/// assert_eq!((reply.kind, reply.start, reply.size, reply.next), (2, 4, 3, 7));
+/// ```
+#[allow(unsafe_code)]
+pub fn forf_token_reply(script: &[u8], offset: usize) -> ForfTokenReply {
+    // SAFETY: pointer and length of a slice that is only read.
+    unsafe { forf_token(script.as_ptr(), script.len(), offset) }
 }

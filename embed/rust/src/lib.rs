@@ -1,4 +1,5 @@
-//! Runs Floo 0.5 scripts by the proved runner of this repository, and reads their tokens; [`floor`] is the rule for late scans on top of it.
+//! Runs Floo 0.5 scripts by the proved runner of this repository, and reads their tokens; [`floor`] is the rule for late scans on top of it,
+//! and [`forf`] runs the scripts of the shelf displays.
 //!
 //! A [`Runner`] owns the room for runs and can be used for one script after another; a run neither allocates nor depends on
 //! the runs before it.
@@ -39,6 +40,7 @@
 mod ending;
 mod exported;
 pub mod floor;
+pub mod forf;
 mod item;
 mod names;
 mod position;
@@ -47,6 +49,7 @@ mod report;
 mod token;
 
 pub use ending::{Ending, ErrorName};
+pub use exported::{forf_lent, forf_token_reply, ForfReply, ForfTokenReply};
 pub use exported::{read_ledger as read_ledger_lent, write_ledger as write_ledger_lent};
 pub use exported::{run as run_lent, scan as scan_lent, token as token_reply};
 pub use exported::{LedgerReply, Reply, ScanReply, TokenReply};

@@ -1,6 +1,7 @@
 //! The command `floo`, run as people run it: what it prints where, and its exit status. Expected texts are worked out by hand from the papers and from `--help`.
 
 mod files;
+mod forf;
 mod mending;
 mod options;
 mod prompt;

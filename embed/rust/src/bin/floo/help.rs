@@ -5,6 +5,7 @@ floo: runs Floo 0.5 scripts by the proved runner
 
     floo [OPTION ..] FILE                            run the script in FILE (- is standard input); its log goes to standard output
     floo scan [OPTION ..] SCRIPT BOOK [LABEL ..]     take labels apart by SCRIPT, and enter them in the ledger BOOK
+    floo forf [--fuel N] FILE                        run the Forf script in FILE with a memory of zeros; its outcome goes to standard output
     floo [OPTION ..]                                 on a terminal, a prompt; else as with -
 
 What is shown in place of a plain run:

@@ -6,6 +6,7 @@
 mod advice;
 mod book;
 mod excerpt;
+mod forf;
 mod help;
 mod message;
 mod options;
@@ -89,6 +90,7 @@ fn perform(screen: &mut Screen) -> Answer {
         }
         Task::Prompt => prompt::prompt(room, screen),
         Task::Scan(scan) => scan::scan(scan, room, screen),
+        Task::Forf(path) => forf::run(&Source::read(path)?, room.fuel, screen),
         Task::Script(what, path) => {
             let source = Source::read(path)?;
             match what {

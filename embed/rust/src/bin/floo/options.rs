@@ -24,6 +24,8 @@ pub enum Task {
     Prompt,
     Script(What, OsString),
     Scan(Scan),
+    /// A Forf script.
+    Forf(OsString),
 }
 
 /// What is done with a script.
@@ -61,6 +63,10 @@ pub fn parse(arguments: impl Iterator<Item = OsString>) -> Result<Options, Strin
     let scan = arguments
         .next_if(|first| first.to_str() == Some("scan"))
         .is_some();
+    let forf = !scan
+        && arguments
+            .next_if(|first| first.to_str() == Some("forf"))
+            .is_some();
     let mut found = Found {
         room: Room {
             fuel: floo::FUEL_MAX,
@@ -94,6 +100,8 @@ pub fn parse(arguments: impl Iterator<Item = OsString>) -> Result<Options, Strin
     }
     if scan {
         found.scan()
+    } else if forf {
+        found.forf()
     } else {
         found.script()
     }
@@ -199,6 +207,21 @@ impl Found {
             None => What::Run { outcome: false },
         };
         Ok(self.task(Task::Script(what, name)))
+    }
+
+    fn forf(mut self) -> Result<Options, String> {
+        if let Some((name, _)) = self.what {
+            return Err(format!("`floo forf` has no {name}"));
+        }
+        if self.prompt || self.new {
+            return Err("`floo forf` has only --fuel".to_owned());
+        }
+        if self.names.len() > 1 {
+            let second = self.names[1].to_string_lossy();
+            return Err(format!("one script at a time, and {second} is a second"));
+        }
+        let name = self.names.pop().unwrap_or_else(|| STANDARD_INPUT.into());
+        Ok(self.task(Task::Forf(name)))
     }
 
     fn scan(mut self) -> Result<Options, String> {

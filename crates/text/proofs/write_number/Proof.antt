@@ -3,9 +3,9 @@
 use mathlib.Core.Path.{_∙_}
 use lib.ListN.{length-set}
 use native.Mathlib.Omega.{arith}
-use Rattle.outcome.proofs.Numbers.{sign-room, digits-room, feed-room, number-line}
-use Rattle.outcome.proofs.write_number.Statement.{statement}
-use Rattle.outcome.proofs.write_number.Tie as tie
+use Rattle.text.proofs.NumberLines.{sign-room, digits-room, feed-room, number-line}
+use Rattle.text.proofs.write_number.Statement.{statement}
+use Rattle.text.proofs.write_number.Tie as tie
 
 copy-requires : tie.Need-copy-requires
 copy-requires c κs = omega (arith, c .before .before .before .pre)

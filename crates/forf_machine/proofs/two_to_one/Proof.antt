@@ -1,0 +1,84 @@
+-- `forf_machine::two_to_one` meets its contract: each way to an answer by its law.
+-- Assumes nothing.
+use mathlib.Core.List.{[]}
+use mathlib.Core.Path.{ap, sym, _∙_}
+use native.Mathlib.Omega.{arith}
+use Rattle.forf_machine.specs.Numbers.{quotientIs}
+use Rattle.forf_machine.proofs.Calculating.{two-number}
+use Rattle.forf_machine.proofs.Operating.{two-fails, two-undone, two-depth, two-done}
+use borrow.Author.Needs.{needs}
+use Rattle.forf_machine.proofs.two_to_one.Statement.{statement}
+use Rattle.forf_machine.proofs.two_to_one.Tie as tie
+
+two-ints-requires : tie.Need-two-ints-requires
+two-ints-requires c κs = search needs
+
+enum-known-e : tie.Need-enum-known-e
+enum-known-e c = search needs
+
+enum-known-b : tie.Need-enum-known-b
+enum-known-b c = search needs
+
+sub-binary : tie.Need-sub-binary
+sub-binary c = search needs
+
+binary-requires : tie.Need-binary-requires
+binary-requires c κs = search needs
+
+enum-told : tie.Need-enum-told
+enum-told c = search needs
+
+enum-known-w : tie.Need-enum-known-w
+enum-known-w c = search needs
+
+sub-put : tie.Need-sub-put
+sub-put c = two-depth (c .before .before .before .before .before .before .before .before .before .before .before .before .args .m) (c .before .before .before .before .before .before .before .before .before .before .before .before .args .stack .now) (c .before .before .before .before .before .before .before .before .before .two-ints .result) (c .before .before .before .before .before .before .before .before .before .two-ints .ensures) [] [] (c .before .before .before .before .before .before .before .b .given .1)
+
+put-requires : tie.Need-put-requires
+put-requires c κs = let d = two-depth (c .before .before .before .before .before .before .before .before .before .before .before .before .args .m) (c .before .before .before .before .before .before .before .before .before .before .before .before .args .stack .now) (c .before .before .before .before .before .before .before .before .before .two-ints .result) (c .before .before .before .before .before .before .before .before .before .two-ints .ensures) [] [] (c .before .before .before .before .before .before .before .b .given .1) in omega (arith, c .before .before .before .before .before .before .before .before .before .before .before .before .pre .2)
+
+sub-with-depth : tie.Need-sub-with-depth
+sub-with-depth c = let d = two-depth (c .before .before .before .before .before .before .before .before .before .before .before .before .before .before .before .before .args .m) (c .before .before .before .before .before .before .before .before .before .before .before .before .before .before .before .before .args .stack .now) (c .before .before .before .before .before .before .before .before .before .before .before .before .before .two-ints .result) (c .before .before .before .before .before .before .before .before .before .before .before .before .before .two-ints .ensures) [] [] (c .before .before .before .before .before .before .before .before .before .before .before .b .given .1) in omega arith
+
+with-depth-requires : tie.Need-with-depth-requires
+with-depth-requires c κs = search needs
+
+same-length : tie.Need-same-length
+same-length c = search needs
+
+returns : tie.Need-returns
+returns c = λ e mem. two-fails _ _ (c .before .before .before .two-ints .result) (c .before .before .before .two-ints .ensures) e mem (two-number _ (c .before .before .before .before .before .before .pre .0) (c .before .before .before .before .before .before .pre .1)) (c .before .e .given .1)
+
+same-length-2 : tie.Need-same-length-2
+same-length-2 c = search needs
+
+returns-2 : tie.Need-returns-2
+returns-2 c = λ e mem. two-undone _ _ (c .before .before .before .before .before .before .two-ints .result) (c .before .before .before .before .before .before .two-ints .ensures) e mem (two-number _ (c .before .before .before .before .before .before .before .before .before .pre .0) (c .before .before .before .before .before .before .before .before .before .pre .1)) (c .before .before .before .before .b .given .1) (sym (c .before .before .binary .ensures) ∙ ap quotientIs (c .enum-told .given .1))
+
+same-length-3 : tie.Need-same-length-3
+same-length-3 c = search needs
+
+returns-3 : tie.Need-returns-3
+returns-3 c = λ e mem. two-done _ _ (c .before .before .before .before .before .before .before .before .before .before .before .before .before .before .two-ints .result) (c .before .before .before .before .before .before .before .before .before .before .before .before .before .before .two-ints .ensures) e mem (two-number _ (c .before .before .before .before .before .before .before .before .before .before .before .before .before .before .before .before .before .pre .0) (c .before .before .before .before .before .before .before .before .before .before .before .before .before .before .before .before .before .pre .1)) _ (c .before .before .before .before .before .before .before .before .before .before .before .before .b .given .1) (sym (c .before .before .before .before .before .before .before .before .before .before .binary .ensures) ∙ ap quotientIs (c .before .before .before .before .before .before .before .before .w .given .1)) (c .before .before .before .before .put .ensures) (c .before .before .before .before .put .kept .0) (c .with-depth .ensures)
+
+pub two-to-one-spec : {M : Type 1} → statement M
+two-to-one-spec =
+    tie.close
+    (tie.spec
+    two-ints-requires
+    enum-known-e
+    enum-known-b
+    sub-binary
+    binary-requires
+    enum-told
+    enum-known-w
+    sub-put
+    put-requires
+    sub-with-depth
+    with-depth-requires
+    same-length
+    returns
+    same-length-2
+    returns-2
+    same-length-3
+    returns-3)

@@ -1,0 +1,2 @@
+-- What the public operation promises.
+pub mod Promise
