@@ -1,7 +1,8 @@
 //! The proved runner against Ghostscript and the reference interpreter, on the same programs in one run; how its time grows with the length of arrays; the floor rule
-//! against a run; a ledger written and read; the size of the code. A program counts only if all three leave the same integer. `floo-bench scans` prints the table of the
-//! floor rule alone, `floo-bench ledgers` that of the ledger.
+//! against a run; a ledger written and read; a loop in Forf; the size of the code. A program counts only if all three leave the same integer. `floo-bench scans` prints the table of the
+//! floor rule alone, `floo-bench ledgers` that of the ledger, `floo-bench displays` that of Forf.
 
+mod displays;
 mod ghostscript;
 mod growth;
 mod ledgers;
@@ -43,6 +44,10 @@ fn main() -> ExitCode {
             ledger_target(ledgers::table());
             Ok(())
         }
+        Some("displays") => {
+            display_target(displays::table());
+            Ok(())
+        }
         _ => report(),
     };
     match printed {
@@ -62,19 +67,25 @@ fn report() -> io::Result<()> {
     let get = growth::table();
     scans::table()?;
     let ledger = ledgers::table();
+    let display = displays::table();
     let text = text_bytes("libfloo_c.a")?;
-    let (floor, ledger_text) = (text_bytes("libfloor_c.a")?, text_bytes("libledger_c.a")?);
-    println!("\nCode: {text} bytes of .text in libfloo_c.a, {floor} in libfloor_c.a, {ledger_text} in libledger_c.a.\n");
+    let (floor, ledger_text, forf) = (text_bytes("libfloor_c.a")?, text_bytes("libledger_c.a")?, text_bytes("libforf_c.a")?);
+    println!("\nCode: {text} bytes of .text in libfloo_c.a, {floor} in libfloor_c.a, {ledger_text} in libledger_c.a, {forf} in libforf_c.a.\n");
     target(&format!("at least {TIMES_GHOSTSCRIPT} times as fast as Ghostscript in each program"), least >= TIMES_GHOSTSCRIPT, format!("least {least:.2}"));
     target("start of a run under 3 microseconds", start < START_SECONDS, format!("{:.2}", start * 1e6));
     target("at most 98,304 bytes of .text", text <= TEXT_BYTES, text.to_string());
     target("get on 30,000 elements at most 10 times get on 10", get <= GET_RATIO, format!("{get:.2} times"));
     ledger_target(ledger);
+    display_target(display);
     Ok(())
 }
 
 fn ledger_target(seconds: f64) {
     target("a book of 64 written, and read, under 50 microseconds", ledgers::is_met(seconds), format!("at most {:.2}", seconds * 1e6));
+}
+
+fn display_target(speed: f64) {
+    target("at least 50 million steps a second of a counted loop in Forf", displays::is_met(speed), format!("{:.0}", speed / 1e6));
 }
 
 fn target(what: &str, met: bool, figure: String) {
