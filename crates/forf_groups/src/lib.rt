@@ -3,6 +3,7 @@
 ghost use mathlib.Core.Path.{_≡_};
 ghost use Prim.Native.Nat.{_≤_};
 ghost use lib.ListN.{length};
+ghost use Rattle.semantics.specs.Sizes.{scriptMost};
 ghost use Rattle.forf_semantics.specs.Items.{count};
 ghost use Rattle.forf_semantics.specs.EndLaws.{groupEnd};
 ghost use Rattle.forf_semantics.specs.BodyLaws.{bodyAt, Known};
@@ -100,7 +101,7 @@ pub fn group_end(script: &[u8], from: usize, depth: u32) -> Ended
 // How many items a substack has; an inner one is one.
 // Ruled out: an inner substack's items counted too; the closing brace counted.
 pub fn count_items(script: &[u8], from: usize) -> u32
-    requires { ⌜ Known (now script) from × (length (now script) ≤ 32768) ⌝ }
+    requires { ⌜ Known (now script) from × (length (now script) ≤ scriptMost) ⌝ }
     ensures { λ r. ⌜ r ≡ count (bodyAt (now (script .entry)) from) ⌝ }
 {
     let mut at = from;

@@ -3,6 +3,7 @@
 ghost use mathlib.Core.Path.{_≡_};
 ghost use Prim.Native.Nat.{_*_, _≤_, _<_};
 ghost use lib.ListN.{length};
+ghost use Rattle.semantics.specs.Sizes.{scriptMost};
 ghost use Rattle.forf_steps.specs.Stepping.{Acting, Acts, Ready, Steps, isPending, placeOf, movedOn, stateAfter, stateFailed, withoutItem, commandOf, isDone};
 ghost use Rattle.forf_steps.specs.Running.{Begun, Ends};
 ghost use Rattle.forf_steps.specs.declared.Ending.the-variants.{Finished, OutOfFuel, Failed};
@@ -212,7 +213,7 @@ fn place_of(m: Machine, next: usize, exec: &[u32]) -> usize
 
 // The running substack goes on behind the item.
 fn move_on(m: Machine, exec: &mut [u32], next: usize)
-    requires { ⌜ (8 * m .frames ≤ length (now exec)) × (next ≤ 32768) ⌝ }
+    requires { ⌜ (8 * m .frames ≤ length (now exec)) × (next ≤ scriptMost) ⌝ }
     ensures { λ r. ⌜ now (exec .exit) ≡ movedOn (m .frames) next (now (exec .entry)) ⌝ }
 {
     if 0 < m.frames {

@@ -9,7 +9,7 @@ use lib.ListN.{length, take, drop, getD, drop-of-length-le, length-drop}
 use lib.Seq.{drop-cons, length-take-le}
 use lib.Dec.{eqb}
 use borrow.Author.Tests.{le-leb, lt-leb, ne-eqb}
-use Rattle.semantics.specs.Sizes.{nameMost}
+use Rattle.semantics.specs.Sizes.{nameMost, scriptMost}
 use Rattle.semantics.specs.Values.{ok, fault, _>>=_, check}
 use Rattle.semantics.specs.Tokens.{startsNumber}
 use Rattle.token.specs.declared.numbers.Number.{Number}
@@ -70,7 +70,7 @@ end-token script start h k = record { lexes = rw (drop-of-length-le script k, ze
 abbrev between : List ℕ → ℕ → ℕ → List ℕ
 between script a e = take (e - a) (drop a script)
 
-pub between-short : (script : List ℕ) (a e : ℕ) → a ≤ e → e ≤ length script → length script ≤ 32768 → length (between script a e) ≤ 32768
+pub between-short : (script : List ℕ) (a e : ℕ) → a ≤ e → e ≤ length script → length script ≤ scriptMost → length (between script a e) ≤ scriptMost
 between-short script a e h k l =
     let q = length-take-le (e - a) (drop a script) (rw (length-drop a script) (omega arith)) in
     omega (arith, q)

@@ -8,6 +8,7 @@ use lib.ListN.{length, take, drop, getD}
 use Rattle.semantics.specs.Values.{ok, fault, _>>=_}
 use Rattle.token.specs.declared.numbers.Number.{Number}
 use Rattle.token.specs.declared.numbers.Number.the-variants as number
+use Rattle.semantics.specs.Sizes.{scriptMost}
 use Rattle.forf_semantics.specs.Errors.{Result}
 use Rattle.forf_semantics.specs.Tokens.{isEnd, upTo, lexeme, lex}
 use Rattle.forf_semantics.specs.Tokens as tokens
@@ -51,4 +52,4 @@ LexedAt script start lexed.Bad = lex (drop start script) ≡ fault SyntaxError
 pub record RunAt (script : List ℕ) (start : ℕ) : Type 0 where
   pub inside : start < length script
   pub is : isEnd (getD script start 0) ≡ false
-  pub short : length script ≤ 32768
+  pub short : length script ≤ scriptMost

@@ -3,6 +3,7 @@
 ghost use mathlib.Core.Path.{_≡_};
 ghost use Prim.Native.Nat.{_+_, _≤_, _<_};
 ghost use lib.ListN.{length, drop};
+ghost use Rattle.semantics.specs.Sizes.{scriptMost};
 ghost use Rattle.forf_semantics.specs.Tokens as tokens;
 ghost use Rattle.forf_semantics.specs.Items as items;
 ghost use Rattle.forf_semantics.specs.Setup as setup;
@@ -116,7 +117,7 @@ pub fn skip(script: &[u8], at: usize) -> usize
 // The token at `start`, as the definition's `lex` reads it there.
 // Ruled out: a word of 32 bytes; -2147483649 wrapped to 2147483647; a parenthesis inside a word.
 pub fn token_at(script: &[u8], start: usize) -> Lexed
-    requires { ⌜ (start ≤ length (now script)) × (length (now script) ≤ 32768) ⌝ }
+    requires { ⌜ (start ≤ length (now script)) × (length (now script) ≤ scriptMost) ⌝ }
     ensures { λ r. ⌜ LexedAt (now (script .entry)) start r ⌝ }
 {
     if script.len() <= start {
@@ -157,7 +158,7 @@ fn run_at(script: &[u8], start: usize) -> Lexed
 
 // The 32 bits of a run that starts as a number does, or its fault, whatever it is.
 fn number_of(s: &[u8]) -> Number
-    requires { ⌜ length (now s) ≤ 32768 ⌝ }
+    requires { ⌜ length (now s) ≤ scriptMost ⌝ }
     ensures { λ r. ⌜ readNumber r ≡ tokens.number (now (s .entry)) ⌝ }
 {
     if s.len() == 0 {
@@ -171,7 +172,7 @@ fn number_of(s: &[u8]) -> Number
 
 // The number that a run writes from `at` on, its sign being passed: 0xC, 014 or 12, at most the limit.
 fn magnitude(s: &[u8], at: usize, limit: u64) -> Number
-    requires { ⌜ (at ≤ length (now s)) × (length (now s) ≤ 32768) × (limit ≤ 2147483648) ⌝ }
+    requires { ⌜ (at ≤ length (now s)) × (length (now s) ≤ scriptMost) × (limit ≤ 2147483648) ⌝ }
     ensures { λ r. ⌜ readNumber r ≡ upToLimit limit (tokens.magnitude (drop at (now (s .entry)))) ⌝ }
 {
     if s.len() - at < 2 {

@@ -21,7 +21,9 @@ shared-slice-read-if2 : tie.Need-shared-slice-read-if2
 shared-slice-read-if2 c = search needs
 
 returns-2 : tie.Need-returns-2
-returns-2 c = λ mem. if-lower _ _ _ mem (c .before .before .if1 .left) (c .if2 .taken)
+returns-2 c =
+    let if1 = c .before .before .if1 in
+    λ mem. if-lower _ _ _ mem (if1 .left) (c .if2 .taken)
 
 mul-if3 : tie.Need-mul-if3
 mul-if3 c = search needs
@@ -33,7 +35,10 @@ shared-slice-read-if3 : tie.Need-shared-slice-read-if3
 shared-slice-read-if3 c = search needs
 
 returns-3 : tie.Need-returns-3
-returns-3 c = λ mem. if-upper _ _ _ mem (c .before .before .before .before .if1 .left) (c .before .before .if2 .left) (c .if3 .taken)
+returns-3 c =
+    let if1 = c .before .before .before .before .if1 in
+    let if2 = c .before .before .if2 in
+    λ mem. if-upper _ _ _ mem (if1 .left) (if2 .left) (c .if3 .taken)
 
 mul-if4 : tie.Need-mul-if4
 mul-if4 c = search needs
@@ -51,7 +56,11 @@ with-depth-requires : tie.Need-with-depth-requires
 with-depth-requires c κs = search needs
 
 returns-4 : tie.Need-returns-4
-returns-4 c = λ mem. if-false _ _ _ mem (c .before .before .before .before .before .before .before .if1 .left) (c .before .before .before .before .before .if2 .left) (c .before .before .before .if3 .left) _ (c .with-depth .ensures) (c .before .if4 .taken)
+returns-4 c =
+    let if1 = c .before .before .before .before .before .before .before .if1 in
+    let if2 = c .before .before .before .before .before .if2 in
+    let if3 = c .before .before .before .if3 in
+    λ mem. if-false _ _ _ mem (if1 .left) (if2 .left) (if3 .left) _ (c .with-depth .ensures) (c .before .if4 .taken)
 
 with-depth-requires-2 : tie.Need-with-depth-requires-2
 with-depth-requires-2 c κs = search needs
@@ -75,7 +84,14 @@ same-length : tie.Need-same-length
 same-length c = search needs
 
 returns-5 : tie.Need-returns-5
-returns-5 c = λ mem. if-true _ _ _ mem (c .before .before .before .before .before .before .before .before .before .before .before .before .if1 .left) (c .before .before .before .before .before .before .before .before .before .before .if2 .left) (c .before .before .before .before .before .before .before .before .if3 .left) _ (c .before .before .before .before .before .with-depth2 .ensures) (c .before .before .before .before .before .before .if4 .left) (c .before .before .pend .ensures)
+returns-5 c =
+    let if1 = c .before .before .before .before .before .before .before .before .before .before .before .before .if1 in
+    let if2 = c .before .before .before .before .before .before .before .before .before .before .if2 in
+    let if3 = c .before .before .before .before .before .before .before .before .if3 in
+    let with-depth2 = c .before .before .before .before .before .with-depth2 in
+    let if4 = c .before .before .before .before .before .before .if4 in
+    let pend = c .before .before .pend in
+    λ mem. if-true _ _ _ mem (if1 .left) (if2 .left) (if3 .left) _ (with-depth2 .ensures) (if4 .left) (pend .ensures)
 
 pub branch-spec : {M : Type 1} → statement M
 branch-spec =

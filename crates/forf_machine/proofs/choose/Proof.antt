@@ -24,7 +24,9 @@ shared-slice-read-if2 : tie.Need-shared-slice-read-if2
 shared-slice-read-if2 c = search needs
 
 returns-2 : tie.Need-returns-2
-returns-2 c = λ mem. ifelse-lowest _ _ _ mem (c .before .before .if1 .left) (c .if2 .taken)
+returns-2 c =
+    let if1 = c .before .before .if1 in
+    λ mem. ifelse-lowest _ _ _ mem (if1 .left) (c .if2 .taken)
 
 mul-if3 : tie.Need-mul-if3
 mul-if3 c = search needs
@@ -36,7 +38,10 @@ shared-slice-read-if3 : tie.Need-shared-slice-read-if3
 shared-slice-read-if3 c = search needs
 
 returns-3 : tie.Need-returns-3
-returns-3 c = λ mem. ifelse-middle _ _ _ mem (c .before .before .before .before .if1 .left) (c .before .before .if2 .left) (c .if3 .taken)
+returns-3 c =
+    let if1 = c .before .before .before .before .if1 in
+    let if2 = c .before .before .if2 in
+    λ mem. ifelse-middle _ _ _ mem (if1 .left) (if2 .left) (c .if3 .taken)
 
 mul-if4 : tie.Need-mul-if4
 mul-if4 c = search needs
@@ -48,7 +53,11 @@ shared-slice-read-if4 : tie.Need-shared-slice-read-if4
 shared-slice-read-if4 c = search needs
 
 returns-4 : tie.Need-returns-4
-returns-4 c = λ mem. ifelse-top _ _ _ mem (c .before .before .before .before .before .before .if1 .left) (c .before .before .before .before .if2 .left) (c .before .before .if3 .left) (c .if4 .taken)
+returns-4 c =
+    let if1 = c .before .before .before .before .before .before .if1 in
+    let if2 = c .before .before .before .before .if2 in
+    let if3 = c .before .before .if3 in
+    λ mem. ifelse-top _ _ _ mem (if1 .left) (if2 .left) (if3 .left) (c .if4 .taken)
 
 mul-if5 : tie.Need-mul-if5
 mul-if5 c = search needs
@@ -84,7 +93,15 @@ same-length : tie.Need-same-length
 same-length c = search needs
 
 returns-5 : tie.Need-returns-5
-returns-5 c = λ mem. ifelse-false _ _ _ mem (c .before .before .before .before .before .before .before .before .before .before .before .before .before .before .if1 .left) (c .before .before .before .before .before .before .before .before .before .before .before .before .if2 .left) (c .before .before .before .before .before .before .before .before .before .before .if3 .left) (c .before .before .before .before .before .before .before .before .if4 .left) _ (c .before .before .before .before .before .with-depth .ensures) (c .before .before .before .before .before .before .if5 .taken) (c .before .before .pend .ensures)
+returns-5 c =
+    let if1 = c .before .before .before .before .before .before .before .before .before .before .before .before .before .before .if1 in
+    let if2 = c .before .before .before .before .before .before .before .before .before .before .before .before .if2 in
+    let if3 = c .before .before .before .before .before .before .before .before .before .before .if3 in
+    let if4 = c .before .before .before .before .before .before .before .before .if4 in
+    let with-depth = c .before .before .before .before .before .with-depth in
+    let if5 = c .before .before .before .before .before .before .if5 in
+    let pend = c .before .before .pend in
+    λ mem. ifelse-false _ _ _ mem (if1 .left) (if2 .left) (if3 .left) (if4 .left) _ (with-depth .ensures) (if5 .taken) (pend .ensures)
 
 with-depth-requires-2 : tie.Need-with-depth-requires-2
 with-depth-requires-2 c κs = search needs
@@ -108,7 +125,15 @@ same-length-2 : tie.Need-same-length-2
 same-length-2 c = search needs
 
 returns-6 : tie.Need-returns-6
-returns-6 c = λ mem. ifelse-true _ _ _ mem (c .before .before .before .before .before .before .before .before .before .before .before .before .before .before .if1 .left) (c .before .before .before .before .before .before .before .before .before .before .before .before .if2 .left) (c .before .before .before .before .before .before .before .before .before .before .if3 .left) (c .before .before .before .before .before .before .before .before .if4 .left) _ (c .before .before .before .before .before .with-depth2 .ensures) (c .before .before .before .before .before .before .if5 .left) (c .before .before .pend2 .ensures)
+returns-6 c =
+    let if1 = c .before .before .before .before .before .before .before .before .before .before .before .before .before .before .if1 in
+    let if2 = c .before .before .before .before .before .before .before .before .before .before .before .before .if2 in
+    let if3 = c .before .before .before .before .before .before .before .before .before .before .if3 in
+    let if4 = c .before .before .before .before .before .before .before .before .if4 in
+    let with-depth2 = c .before .before .before .before .before .with-depth2 in
+    let if5 = c .before .before .before .before .before .before .if5 in
+    let pend2 = c .before .before .pend2 in
+    λ mem. ifelse-true _ _ _ mem (if1 .left) (if2 .left) (if3 .left) (if4 .left) _ (with-depth2 .ensures) (if5 .left) (pend2 .ensures)
 
 pub choose-spec : {M : Type 1} → statement M
 choose-spec =

@@ -63,7 +63,12 @@ same-length : tie.Need-same-length
 same-length c = search needs
 
 returns-2 : tie.Need-returns-2
-returns-2 c = λ e mem. exch-done _ _ e mem (c .before .before .before .before .before .before .before .before .before .before .before .before .before .before .if1 .left) (c .before .before .before .before .before .before .before .before .before .before .before .before .before .before .before .before .before .pre) (c .before .before .before .before .before .before .put .ensures) (c .before .before .put2 .ensures)
+returns-2 c =
+    let if1 = c .before .before .before .before .before .before .before .before .before .before .before .before .before .before .if1 in
+    let pre = c .before .before .before .before .before .before .before .before .before .before .before .before .before .before .before .before .before .pre in
+    let put = c .before .before .before .before .before .before .put in
+    let put2 = c .before .before .put2 in
+    λ e mem. exch-done _ _ e mem (if1 .left) (pre) (put .ensures) (put2 .ensures)
 
 pub exchange-spec : {M : Type 1} → statement M
 exchange-spec =

@@ -20,10 +20,17 @@ same-length : tie.Need-same-length
 same-length c = search needs
 
 returns : tie.Need-returns
-returns c = λ e. one-undone mget-shape _ _ (c .before .before .before .before .one-int .result) (c .before .before .before .before .one-int .ensures) e _ (c .before .before .a .given .1) (recalled-no _ _ (c .if1 .taken))
+returns c =
+    let one-int = c .before .before .before .before .one-int in
+    let a = c .before .before .a in
+    λ e. one-undone mget-shape _ _ (one-int .result) (one-int .ensures) e _ (a .given .1) (recalled-no _ _ (c .if1 .taken))
 
 sub-put : tie.Need-sub-put
-sub-put c = one-depth mget-shape (c .before .before .before .before .before .before .before .before .before .before .args .m) (c .before .before .before .before .before .before .before .before .before .before .args .stack .now) (c .before .before .before .before .before .before .one-int .result) (c .before .before .before .before .before .before .one-int .ensures) [] [] (c .before .before .before .before .a .given .1)
+sub-put c =
+    let args = c .before .before .before .before .before .before .before .before .before .before .args in
+    let one-int = c .before .before .before .before .before .before .one-int in
+    let a = c .before .before .before .before .a in
+    one-depth mget-shape (args .m) (args .stack .now) (one-int .result) (one-int .ensures) [] [] (a .given .1)
 
 cast-put : tie.Need-cast-put
 cast-put c = search needs
@@ -35,19 +42,31 @@ shared-slice-read-put : tie.Need-shared-slice-read-put
 shared-slice-read-put c = search needs
 
 put-requires : tie.Need-put-requires
-put-requires c κs = let d = one-depth mget-shape (c .before .before .before .before .before .before .before .before .before .before .before .args .m) (c .before .before .before .before .before .before .before .before .before .before .before .args .stack .now) (c .before .before .before .before .before .before .before .one-int .result) (c .before .before .before .before .before .before .before .one-int .ensures) [] [] (c .before .before .before .before .before .a .given .1) in omega (arith, c .before .before .before .before .before .before .before .before .before .before .before .pre .0)
+put-requires c κs =
+    let args = c .before .before .before .before .before .before .before .before .before .before .before .args in
+    let one-int = c .before .before .before .before .before .before .before .one-int in
+    let a = c .before .before .before .before .before .a in
+    let pre = c .before .before .before .before .before .before .before .before .before .before .before .pre in
+    let d = one-depth mget-shape (args .m) (args .stack .now) (one-int .result) (one-int .ensures) [] [] (a .given .1) in omega (arith, pre .0)
 
 same-length-2 : tie.Need-same-length-2
 same-length-2 c = search needs
 
 returns-2 : tie.Need-returns-2
-returns-2 c = λ e. one-fails mget-shape _ _ (c .before .before .before .one-int .result) (c .before .before .before .one-int .ensures) e _ (c .before .e .given .1)
+returns-2 c =
+    let one-int = c .before .before .before .one-int in
+    λ e. one-fails mget-shape _ _ (one-int .result) (one-int .ensures) e _ (c .before .e .given .1)
 
 same-length-3 : tie.Need-same-length-3
 same-length-3 c = search needs
 
 returns-3 : tie.Need-returns-3
-returns-3 c = λ e. one-done mget-shape _ _ (c .before .before .before .before .before .before .before .before .before .before .one-int .result) (c .before .before .before .before .before .before .before .before .before .before .one-int .ensures) e _ (c .before .before .before .before .before .before .before .before .a .given .1) (recalled-yes _ _ (c .before .before .before .before .before .before .if1 .left)) (c .before .before .put .ensures) (c .before .before .put .kept .0)
+returns-3 c =
+    let one-int = c .before .before .before .before .before .before .before .before .before .before .one-int in
+    let a = c .before .before .before .before .before .before .before .before .a in
+    let if1 = c .before .before .before .before .before .before .if1 in
+    let put = c .before .before .put in
+    λ e. one-done mget-shape _ _ (one-int .result) (one-int .ensures) e _ (a .given .1) (recalled-yes _ _ (if1 .left)) (put .ensures) (put .kept .0)
 
 pub fetch-spec : {M : Type 1} → statement M
 fetch-spec =

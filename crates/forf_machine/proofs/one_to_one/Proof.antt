@@ -20,25 +20,44 @@ enum-known-a : tie.Need-enum-known-a
 enum-known-a c = search needs
 
 sub-put : tie.Need-sub-put
-sub-put c = one-depth (one-number _ (c .before .before .before .before .before .before .before .before .pre .0)) (c .before .before .before .before .before .before .before .before .args .m) (c .before .before .before .before .before .before .before .before .args .stack .now) (c .before .before .before .before .before .one-int .result) (c .before .before .before .before .before .one-int .ensures) [] [] (c .before .before .before .a .given .1)
+sub-put c =
+    let pre = c .before .before .before .before .before .before .before .before .pre in
+    let args = c .before .before .before .before .before .before .before .before .args in
+    let one-int = c .before .before .before .before .before .one-int in
+    let a = c .before .before .before .a in
+    one-depth (one-number _ (pre .0)) (args .m) (args .stack .now) (one-int .result) (one-int .ensures) [] [] (a .given .1)
 
 unary-requires : tie.Need-unary-requires
 unary-requires c κs = search needs
 
 put-requires : tie.Need-put-requires
-put-requires c κs = let d = one-depth (one-number _ (c .before .before .before .before .before .before .before .before .before .pre .0)) (c .before .before .before .before .before .before .before .before .before .args .m) (c .before .before .before .before .before .before .before .before .before .args .stack .now) (c .before .before .before .before .before .before .one-int .result) (c .before .before .before .before .before .before .one-int .ensures) [] [] (c .before .before .before .before .a .given .1) in omega (arith, c .before .before .before .before .before .before .before .before .before .pre .1)
+put-requires c κs =
+    let pre = c .before .before .before .before .before .before .before .before .before .pre in
+    let args = c .before .before .before .before .before .before .before .before .before .args in
+    let one-int = c .before .before .before .before .before .before .one-int in
+    let a = c .before .before .before .before .a in
+    let d = one-depth (one-number _ (pre .0)) (args .m) (args .stack .now) (one-int .result) (one-int .ensures) [] [] (a .given .1) in omega (arith, pre .1)
 
 same-length : tie.Need-same-length
 same-length c = search needs
 
 returns : tie.Need-returns
-returns c = λ e mem. one-fails (one-number _ (c .before .before .before .before .before .before .pre .0)) _ _ (c .before .before .before .one-int .result) (c .before .before .before .one-int .ensures) e mem (c .before .e .given .1)
+returns c =
+    let pre = c .before .before .before .before .before .before .pre in
+    let one-int = c .before .before .before .one-int in
+    λ e mem. one-fails (one-number _ (pre .0)) _ _ (one-int .result) (one-int .ensures) e mem (c .before .e .given .1)
 
 same-length-2 : tie.Need-same-length-2
 same-length-2 c = search needs
 
 returns-2 : tie.Need-returns-2
-returns-2 c = λ e mem. one-done (one-number _ (c .before .before .before .before .before .before .before .before .before .before .before .before .pre .0)) _ _ (c .before .before .before .before .before .before .before .before .before .one-int .result) (c .before .before .before .before .before .before .before .before .before .one-int .ensures) e mem (c .before .before .before .before .before .before .before .a .given .1) (ap ok (sym (c .before .before .before .unary .ensures))) (c .before .before .put .ensures) (c .before .before .put .kept .0)
+returns-2 c =
+    let pre = c .before .before .before .before .before .before .before .before .before .before .before .before .pre in
+    let one-int = c .before .before .before .before .before .before .before .before .before .one-int in
+    let a = c .before .before .before .before .before .before .before .a in
+    let unary = c .before .before .before .unary in
+    let put = c .before .before .put in
+    λ e mem. one-done (one-number _ (pre .0)) _ _ (one-int .result) (one-int .ensures) e mem (a .given .1) (ap ok (sym (unary .ensures))) (put .ensures) (put .kept .0)
 
 pub one-to-one-spec : {M : Type 1} → statement M
 one-to-one-spec =

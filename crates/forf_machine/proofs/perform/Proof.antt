@@ -16,7 +16,9 @@ same-length : tie.Need-same-length
 same-length c = search needs
 
 returns : tie.Need-returns
-returns c = c .before .before .one-to-one .ensures _ _
+returns c =
+    let one-to-one = c .before .before .one-to-one in
+    one-to-one .ensures _ _
 
 two-to-one-requires : tie.Need-two-to-one-requires
 two-to-one-requires c κs = search needs
@@ -25,7 +27,9 @@ same-length-2 : tie.Need-same-length-2
 same-length-2 c = search needs
 
 returns-2 : tie.Need-returns-2
-returns-2 c = c .before .before .two-to-one .ensures _ _
+returns-2 c =
+    let two-to-one = c .before .before .two-to-one in
+    two-to-one .ensures _ _
 
 returns-3 : tie.Need-returns-3
 returns-3 c = no-number _ _ _ _ (c .if3 .taken)
@@ -59,7 +63,10 @@ same-length-4 c = search needs
 
 returns-4 : tie.Need-returns-4
 unfolding actionAt table _is_
-returns-4 c = at-number _ _ _ _ 19 (c .before .before .before .before .before .match .keys1) refl (c .before .before .branch .ensures _)
+returns-4 c =
+    let arm = c .before .before .before .before .before .match in
+    let branch = c .before .before .branch in
+    at-number _ _ _ _ 19 (arm .keys1) refl (branch .ensures _)
 
 same-length-5 : tie.Need-same-length-5
 same-length-5 c = search needs
@@ -69,7 +76,10 @@ same-length-6 c = search needs
 
 returns-5 : tie.Need-returns-5
 unfolding actionAt table _is_
-returns-5 c = at-number _ _ _ _ 20 (c .before .before .before .before .before .match .keys2) refl (c .before .before .choose .ensures _)
+returns-5 c =
+    let arm = c .before .before .before .before .before .match in
+    let choose = c .before .before .choose in
+    at-number _ _ _ _ 20 (arm .keys2) refl (choose .ensures _)
 
 returns-6 : tie.Need-returns-6
 unfolding actionAt table _is_
@@ -80,14 +90,20 @@ same-length-7 c = search needs
 
 returns-7 : tie.Need-returns-7
 unfolding actionAt table _is_
-returns-7 c = at-number _ _ _ _ 22 (c .before .before .before .before .match .keys4) refl (c .before .before .duplicate .ensures _ _)
+returns-7 c =
+    let arm = c .before .before .before .before .match in
+    let duplicate = c .before .before .duplicate in
+    at-number _ _ _ _ 22 (arm .keys4) refl (duplicate .ensures _ _)
 
 same-length-8 : tie.Need-same-length-8
 same-length-8 c = search needs
 
 returns-8 : tie.Need-returns-8
 unfolding actionAt table _is_
-returns-8 c = at-number _ _ _ _ 23 (c .before .before .before .before .match .keys5) refl (c .before .before .exchange .ensures _ _)
+returns-8 c =
+    let arm = c .before .before .before .before .match in
+    let exchange = c .before .before .exchange in
+    at-number _ _ _ _ 23 (arm .keys5) refl (exchange .ensures _ _)
 
 same-length-9 : tie.Need-same-length-9
 same-length-9 c = search needs
@@ -97,7 +113,10 @@ same-length-10 c = search needs
 
 returns-9 : tie.Need-returns-9
 unfolding actionAt table _is_
-returns-9 c = at-number _ _ _ _ 24 (c .before .before .before .before .before .match .keys6) refl (c .before .before .store .ensures _)
+returns-9 c =
+    let arm = c .before .before .before .before .before .match in
+    let store = c .before .before .store in
+    at-number _ _ _ _ 24 (arm .keys6) refl (store .ensures _)
 
 same-length-11 : tie.Need-same-length-11
 same-length-11 c = search needs
@@ -107,7 +126,13 @@ same-length-12 c = search needs
 
 returns-10 : tie.Need-returns-10
 unfolding actionAt table _is_
-returns-10 c = let last : c .before .before .before .before .before .before .before .before .before .before .before .before .args .k ≡ 25 = omega (arith, c .before .before .before .before .before .match .rest, c .before .before .before .before .before .before .before .if2 .left, c .before .before .before .before .before .before .if3 .left) in at-number _ _ _ _ 25 last refl (c .before .before .fetch .ensures _)
+returns-10 c =
+    let args = c .before .before .before .before .before .before .before .before .before .before .before .before .args in
+    let arm = c .before .before .before .before .before .match in
+    let if2 = c .before .before .before .before .before .before .before .if2 in
+    let if3 = c .before .before .before .before .before .before .if3 in
+    let fetch = c .before .before .fetch in
+    let last : args .k ≡ 25 = omega (arith, arm .rest, if2 .left, if3 .left) in at-number _ _ _ _ 25 last refl (fetch .ensures _)
 
 pub perform-spec : {M : Type 1} → statement M
 perform-spec =

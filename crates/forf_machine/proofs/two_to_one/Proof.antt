@@ -32,13 +32,26 @@ enum-known-w : tie.Need-enum-known-w
 enum-known-w c = search needs
 
 sub-put : tie.Need-sub-put
-sub-put c = two-depth (c .before .before .before .before .before .before .before .before .before .before .before .before .args .m) (c .before .before .before .before .before .before .before .before .before .before .before .before .args .stack .now) (c .before .before .before .before .before .before .before .before .before .two-ints .result) (c .before .before .before .before .before .before .before .before .before .two-ints .ensures) [] [] (c .before .before .before .before .before .before .before .b .given .1)
+sub-put c =
+    let args = c .before .before .before .before .before .before .before .before .before .before .before .before .args in
+    let two-ints = c .before .before .before .before .before .before .before .before .before .two-ints in
+    let b = c .before .before .before .before .before .before .before .b in
+    two-depth (args .m) (args .stack .now) (two-ints .result) (two-ints .ensures) [] [] (b .given .1)
 
 put-requires : tie.Need-put-requires
-put-requires c κs = let d = two-depth (c .before .before .before .before .before .before .before .before .before .before .before .before .args .m) (c .before .before .before .before .before .before .before .before .before .before .before .before .args .stack .now) (c .before .before .before .before .before .before .before .before .before .two-ints .result) (c .before .before .before .before .before .before .before .before .before .two-ints .ensures) [] [] (c .before .before .before .before .before .before .before .b .given .1) in omega (arith, c .before .before .before .before .before .before .before .before .before .before .before .before .pre .2)
+put-requires c κs =
+    let args = c .before .before .before .before .before .before .before .before .before .before .before .before .args in
+    let two-ints = c .before .before .before .before .before .before .before .before .before .two-ints in
+    let b = c .before .before .before .before .before .before .before .b in
+    let pre = c .before .before .before .before .before .before .before .before .before .before .before .before .pre in
+    let d = two-depth (args .m) (args .stack .now) (two-ints .result) (two-ints .ensures) [] [] (b .given .1) in omega (arith, pre .2)
 
 sub-with-depth : tie.Need-sub-with-depth
-sub-with-depth c = let d = two-depth (c .before .before .before .before .before .before .before .before .before .before .before .before .before .before .before .before .args .m) (c .before .before .before .before .before .before .before .before .before .before .before .before .before .before .before .before .args .stack .now) (c .before .before .before .before .before .before .before .before .before .before .before .before .before .two-ints .result) (c .before .before .before .before .before .before .before .before .before .before .before .before .before .two-ints .ensures) [] [] (c .before .before .before .before .before .before .before .before .before .before .before .b .given .1) in omega arith
+sub-with-depth c =
+    let args = c .before .before .before .before .before .before .before .before .before .before .before .before .before .before .before .before .args in
+    let two-ints = c .before .before .before .before .before .before .before .before .before .before .before .before .before .two-ints in
+    let b = c .before .before .before .before .before .before .before .before .before .before .before .b in
+    let d = two-depth (args .m) (args .stack .now) (two-ints .result) (two-ints .ensures) [] [] (b .given .1) in omega arith
 
 with-depth-requires : tie.Need-with-depth-requires
 with-depth-requires c κs = search needs
@@ -47,19 +60,34 @@ same-length : tie.Need-same-length
 same-length c = search needs
 
 returns : tie.Need-returns
-returns c = λ e mem. two-fails _ _ (c .before .before .before .two-ints .result) (c .before .before .before .two-ints .ensures) e mem (two-number _ (c .before .before .before .before .before .before .pre .0) (c .before .before .before .before .before .before .pre .1)) (c .before .e .given .1)
+returns c =
+    let two-ints = c .before .before .before .two-ints in
+    let pre = c .before .before .before .before .before .before .pre in
+    λ e mem. two-fails _ _ (two-ints .result) (two-ints .ensures) e mem (two-number _ (pre .0) (pre .1)) (c .before .e .given .1)
 
 same-length-2 : tie.Need-same-length-2
 same-length-2 c = search needs
 
 returns-2 : tie.Need-returns-2
-returns-2 c = λ e mem. two-undone _ _ (c .before .before .before .before .before .before .two-ints .result) (c .before .before .before .before .before .before .two-ints .ensures) e mem (two-number _ (c .before .before .before .before .before .before .before .before .before .pre .0) (c .before .before .before .before .before .before .before .before .before .pre .1)) (c .before .before .before .before .b .given .1) (sym (c .before .before .binary .ensures) ∙ ap quotientIs (c .enum-told .given .1))
+returns-2 c =
+    let two-ints = c .before .before .before .before .before .before .two-ints in
+    let pre = c .before .before .before .before .before .before .before .before .before .pre in
+    let b = c .before .before .before .before .b in
+    let binary = c .before .before .binary in
+    λ e mem. two-undone _ _ (two-ints .result) (two-ints .ensures) e mem (two-number _ (pre .0) (pre .1)) (b .given .1) (sym (binary .ensures) ∙ ap quotientIs (c .enum-told .given .1))
 
 same-length-3 : tie.Need-same-length-3
 same-length-3 c = search needs
 
 returns-3 : tie.Need-returns-3
-returns-3 c = λ e mem. two-done _ _ (c .before .before .before .before .before .before .before .before .before .before .before .before .before .before .two-ints .result) (c .before .before .before .before .before .before .before .before .before .before .before .before .before .before .two-ints .ensures) e mem (two-number _ (c .before .before .before .before .before .before .before .before .before .before .before .before .before .before .before .before .before .pre .0) (c .before .before .before .before .before .before .before .before .before .before .before .before .before .before .before .before .before .pre .1)) _ (c .before .before .before .before .before .before .before .before .before .before .before .before .b .given .1) (sym (c .before .before .before .before .before .before .before .before .before .before .binary .ensures) ∙ ap quotientIs (c .before .before .before .before .before .before .before .before .w .given .1)) (c .before .before .before .before .put .ensures) (c .before .before .before .before .put .kept .0) (c .with-depth .ensures)
+returns-3 c =
+    let two-ints = c .before .before .before .before .before .before .before .before .before .before .before .before .before .before .two-ints in
+    let pre = c .before .before .before .before .before .before .before .before .before .before .before .before .before .before .before .before .before .pre in
+    let b = c .before .before .before .before .before .before .before .before .before .before .before .before .b in
+    let binary = c .before .before .before .before .before .before .before .before .before .before .binary in
+    let w = c .before .before .before .before .before .before .before .before .w in
+    let put = c .before .before .before .before .put in
+    λ e mem. two-done _ _ (two-ints .result) (two-ints .ensures) e mem (two-number _ (pre .0) (pre .1)) _ (b .given .1) (sym (binary .ensures) ∙ ap quotientIs (w .given .1)) (put .ensures) (put .kept .0) (c .with-depth .ensures)
 
 pub two-to-one-spec : {M : Type 1} → statement M
 two-to-one-spec =

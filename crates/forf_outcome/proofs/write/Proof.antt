@@ -17,14 +17,21 @@ cast-write-number : tie.Need-cast-write-number
 cast-write-number c = search needs
 
 write-number-requires : tie.Need-write-number-requires
-write-number-requires c κs = omega (arith, at-room (c .before .before .before .before .before .before .before .before .before .before .before .before .pre) (c .before .before .before .before .before .write-ending .ensures) (c .before .before .before .before .before .write-ending .kept .1 .1 .0))
+write-number-requires c κs =
+    let pre = c .before .before .before .before .before .before .before .before .before .before .before .before .pre in
+    let write-ending = c .before .before .before .before .before .write-ending in
+    omega (arith, at-room (pre) (write-ending .ensures) (write-ending .kept .1 .1 .0))
 
 slice-aggregate-write-number-2 : tie.Need-slice-aggregate-write-number-2
 slice-aggregate-write-number-2 c = search needs
 
 write-number-requires-2 : tie.Need-write-number-requires-2
 unfolding bytes
-write-number-requires-2 c κs = omega (arith, steps-room (c .before .before .before .before .before .before .before .before .before .before .before .before .before .before .before .before .before .pre) (c .before .before .before .before .before .before .before .before .before .before .write-ending .ensures) (c .before .before .before .before .before .before .before .before .before .before .write-ending .kept .1 .1 .0) (c .before .before .before .before .write-number .ensures) (c .before .before .before .before .write-number .kept .0))
+write-number-requires-2 c κs =
+    let pre = c .before .before .before .before .before .before .before .before .before .before .before .before .before .before .before .before .before .pre in
+    let write-ending = c .before .before .before .before .before .before .before .before .before .before .write-ending in
+    let write-number = c .before .before .before .before .write-number in
+    omega (arith, steps-room (pre) (write-ending .ensures) (write-ending .kept .1 .1 .0) (write-number .ensures) (write-number .kept .0))
 
 slice-aggregate-write-number-3 : tie.Need-slice-aggregate-write-number-3
 slice-aggregate-write-number-3 c = search needs
@@ -34,18 +41,36 @@ cast-write-number-2 c = search needs
 
 write-number-requires-3 : tie.Need-write-number-requires-3
 unfolding bytes
-write-number-requires-3 c κs = omega (arith, depth-room (c .before .before .before .before .before .before .before .before .before .before .before .before .before .before .before .before .before .before .before .before .before .before .before .pre) (c .before .before .before .before .before .before .before .before .before .before .before .before .before .before .before .before .write-ending .ensures) (c .before .before .before .before .before .before .before .before .before .before .before .before .before .before .before .before .write-ending .kept .1 .1 .0) (c .before .before .before .before .before .before .before .before .before .before .write-number .ensures) (c .before .before .before .before .before .before .before .before .before .before .write-number .kept .0) (c .before .before .before .before .before .write-number2 .ensures) (c .before .before .before .before .before .write-number2 .kept .0))
+write-number-requires-3 c κs =
+    let pre = c .before .before .before .before .before .before .before .before .before .before .before .before .before .before .before .before .before .before .before .before .before .before .before .pre in
+    let write-ending = c .before .before .before .before .before .before .before .before .before .before .before .before .before .before .before .before .write-ending in
+    let write-number = c .before .before .before .before .before .before .before .before .before .before .write-number in
+    let write-number2 = c .before .before .before .before .before .write-number2 in
+    omega (arith, depth-room (pre) (write-ending .ensures) (write-ending .kept .1 .1 .0) (write-number .ensures) (write-number .kept .0) (write-number2 .ensures) (write-number2 .kept .0))
 
 write-items-requires : tie.Need-write-items-requires
 unfolding bytes
-write-items-requires c κs = (c .before .before .before .before .before .before .before .before .before .before .before .before .before .before .before .before .before .before .before .before .before .before .before .before .before .before .before .pre .items, items-room (c .before .before .before .before .before .before .before .before .before .before .before .before .before .before .before .before .before .before .before .before .before .before .before .before .before .before .before .pre) (c .before .before .before .before .before .before .before .before .before .before .before .before .before .before .before .before .before .before .before .before .write-ending .ensures) (c .before .before .before .before .before .before .before .before .before .before .before .before .before .before .before .before .before .before .before .before .write-ending .kept .1 .1 .0) (c .before .before .before .before .before .before .before .before .before .before .before .before .before .before .write-number .ensures) (c .before .before .before .before .before .before .before .before .before .before .before .before .before .before .write-number .kept .0) (c .before .before .before .before .before .before .before .before .before .write-number2 .ensures) (c .before .before .before .before .before .before .before .before .before .write-number2 .kept .0) (c .before .before .before .write-number3 .ensures) (c .before .before .before .write-number3 .kept .0))
+write-items-requires c κs =
+    let pre = c .before .before .before .before .before .before .before .before .before .before .before .before .before .before .before .before .before .before .before .before .before .before .before .before .before .before .before .pre in
+    let write-ending = c .before .before .before .before .before .before .before .before .before .before .before .before .before .before .before .before .before .before .before .before .write-ending in
+    let write-number = c .before .before .before .before .before .before .before .before .before .before .before .before .before .before .write-number in
+    let write-number2 = c .before .before .before .before .before .before .before .before .before .write-number2 in
+    let write-number3 = c .before .before .before .write-number3 in
+    (pre .items, items-room (pre) (write-ending .ensures) (write-ending .kept .1 .1 .0) (write-number .ensures) (write-number .kept .0) (write-number2 .ensures) (write-number2 .kept .0) (write-number3 .ensures) (write-number3 .kept .0))
 
 same-length : tie.Need-same-length
 same-length c = search needs
 
 returns : tie.Need-returns
 unfolding bytes
-returns c = outcome-written (c .before .before .before .before .before .before .before .before .before .before .before .before .before .before .before .before .before .before .before .before .before .before .before .before .before .before .before .before .before .before .pre) (c .before .before .before .before .before .before .before .before .before .before .before .before .before .before .before .before .before .before .before .before .before .before .before .write-ending .ensures) (c .before .before .before .before .before .before .before .before .before .before .before .before .before .before .before .before .before .before .before .before .before .before .before .write-ending .kept .1 .1 .0) (c .before .before .before .before .before .before .before .before .before .before .before .before .before .before .before .before .before .write-number .ensures) (c .before .before .before .before .before .before .before .before .before .before .before .before .before .before .before .before .before .write-number .kept .0) (c .before .before .before .before .before .before .before .before .before .before .before .before .write-number2 .ensures) (c .before .before .before .before .before .before .before .before .before .before .before .before .write-number2 .kept .0) (c .before .before .before .before .before .before .write-number3 .ensures) (c .before .before .before .before .before .before .write-number3 .kept .0) (c .before .before .write-items .ensures)
+returns c =
+    let pre = c .before .before .before .before .before .before .before .before .before .before .before .before .before .before .before .before .before .before .before .before .before .before .before .before .before .before .before .before .before .before .pre in
+    let write-ending = c .before .before .before .before .before .before .before .before .before .before .before .before .before .before .before .before .before .before .before .before .before .before .before .write-ending in
+    let write-number = c .before .before .before .before .before .before .before .before .before .before .before .before .before .before .before .before .before .write-number in
+    let write-number2 = c .before .before .before .before .before .before .before .before .before .before .before .before .write-number2 in
+    let write-number3 = c .before .before .before .before .before .before .write-number3 in
+    let write-items = c .before .before .write-items in
+    outcome-written (pre) (write-ending .ensures) (write-ending .kept .1 .1 .0) (write-number .ensures) (write-number .kept .0) (write-number2 .ensures) (write-number2 .kept .0) (write-number3 .ensures) (write-number3 .kept .0) (write-items .ensures)
 
 pub write-spec : {M : Type 1} → statement M
 write-spec =

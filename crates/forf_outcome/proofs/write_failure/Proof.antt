@@ -23,26 +23,62 @@ slice-aggregate-copy-2 c = search needs
 
 copy-requires-2 : tie.Need-copy-requires-2
 unfolding bytes
-copy-requires-2 c κs = key-room (c .before .before .before .before .before .before .before .before .before .before .before .before .before .pre .1) (c .before .before .before .before .before .before .before .before .copy .ensures) (c .before .before .before .before .before .before .before .before .copy .kept .0) _ (c .before .before .before .before .write-error .ensures) (c .before .before .before .before .write-error .kept .0)
+copy-requires-2 c κs =
+    let pre = c .before .before .before .before .before .before .before .before .before .before .before .before .before .pre in
+    let copy = c .before .before .before .before .before .before .before .before .copy in
+    let write-error = c .before .before .before .before .write-error in
+    key-room (pre .1) (copy .ensures) (copy .kept .0) _ (write-error .ensures) (write-error .kept .0)
 
 write-command-requires : tie.Need-write-command-requires
 unfolding bytes
-write-command-requires c κs = (c .before .before .before .before .before .before .before .before .before .before .before .before .before .before .before .before .before .pre .0, command-room (c .before .before .before .before .before .before .before .before .before .before .before .before .before .before .before .before .before .pre .1) (c .before .before .before .before .before .before .before .before .before .before .before .before .copy .ensures) (c .before .before .before .before .before .before .before .before .before .before .before .before .copy .kept .0) _ (c .before .before .before .before .before .before .before .before .write-error .ensures) (c .before .before .before .before .before .before .before .before .write-error .kept .0) (c .before .before .before .copy2 .ensures) (c .before .before .before .copy2 .kept .0))
+write-command-requires c κs =
+    let pre = c .before .before .before .before .before .before .before .before .before .before .before .before .before .before .before .before .before .pre in
+    let copy = c .before .before .before .before .before .before .before .before .before .before .before .before .copy in
+    let write-error = c .before .before .before .before .before .before .before .before .write-error in
+    let copy2 = c .before .before .before .copy2 in
+    (pre .0, command-room (pre .1) (copy .ensures) (copy .kept .0) _ (write-error .ensures) (write-error .kept .0) (copy2 .ensures) (copy2 .kept .0))
 
 slice-write-out : tie.Need-slice-write-out
 unfolding bytes
-slice-write-out c = last-room (c .before .before .before .before .before .before .before .before .before .before .before .before .before .before .before .before .before .before .before .before .pre .1) (c .before .before .before .before .before .before .before .before .before .before .before .before .before .before .before .copy .ensures) (c .before .before .before .before .before .before .before .before .before .before .before .before .before .before .before .copy .kept .0) _ (c .before .before .before .before .before .before .before .before .before .before .before .write-error .ensures) (c .before .before .before .before .before .before .before .before .before .before .before .write-error .kept .0) (c .before .before .before .before .before .before .copy2 .ensures) (c .before .before .before .before .before .before .copy2 .kept .0) (c .before .before .before .before .before .before .before .before .before .before .before .before .before .before .before .before .before .before .before .before .args .script .now) (c .before .before .before .before .before .before .before .before .before .before .before .before .before .before .before .before .before .before .before .before .args .command) (c .before .before .before .before .before .before .before .before .before .before .before .before .before .before .before .before .before .before .before .before .pre .0) (c .before .before .write-command .ensures) (c .before .before .write-command .kept .1 .1 .0)
+slice-write-out c =
+    let pre = c .before .before .before .before .before .before .before .before .before .before .before .before .before .before .before .before .before .before .before .before .pre in
+    let copy = c .before .before .before .before .before .before .before .before .before .before .before .before .before .before .before .copy in
+    let write-error = c .before .before .before .before .before .before .before .before .before .before .before .write-error in
+    let copy2 = c .before .before .before .before .before .before .copy2 in
+    let args = c .before .before .before .before .before .before .before .before .before .before .before .before .before .before .before .before .before .before .before .before .args in
+    let write-command = c .before .before .write-command in
+    last-room (pre .1) (copy .ensures) (copy .kept .0) _ (write-error .ensures) (write-error .kept .0) (copy2 .ensures) (copy2 .kept .0) (args .script .now) (args .command) (pre .0) (write-command .ensures) (write-command .kept .1 .1 .0)
 
 add-result : tie.Need-add-result
 unfolding bytes
-add-result c = omega (arith, last-room (c .before .before .before .before .before .before .before .before .before .before .before .before .before .before .before .before .before .before .before .before .pre .1) (c .before .before .before .before .before .before .before .before .before .before .before .before .before .before .before .copy .ensures) (c .before .before .before .before .before .before .before .before .before .before .before .before .before .before .before .copy .kept .0) _ (c .before .before .before .before .before .before .before .before .before .before .before .write-error .ensures) (c .before .before .before .before .before .before .before .before .before .before .before .write-error .kept .0) (c .before .before .before .before .before .before .copy2 .ensures) (c .before .before .before .before .before .before .copy2 .kept .0) (c .before .before .before .before .before .before .before .before .before .before .before .before .before .before .before .before .before .before .before .before .args .script .now) (c .before .before .before .before .before .before .before .before .before .before .before .before .before .before .before .before .before .before .before .before .args .command) (c .before .before .before .before .before .before .before .before .before .before .before .before .before .before .before .before .before .before .before .before .pre .0) (c .before .before .write-command .ensures) (c .before .before .write-command .kept .1 .1 .0), c .before .before .write-command .kept .1 .1 .0, c .before .before .before .before .before .before .copy2 .kept .0, c .before .before .before .before .before .before .before .before .before .before .before .write-error .kept .0, c .before .before .before .before .before .before .before .before .before .before .before .before .before .before .before .copy .kept .0, c .before .before .before .before .before .before .before .before .before .before .before .before .before .before .before .before .before .before .before .before .good)
+add-result c =
+    let pre = c .before .before .before .before .before .before .before .before .before .before .before .before .before .before .before .before .before .before .before .before .pre in
+    let copy = c .before .before .before .before .before .before .before .before .before .before .before .before .before .before .before .copy in
+    let write-error = c .before .before .before .before .before .before .before .before .before .before .before .write-error in
+    let copy2 = c .before .before .before .before .before .before .copy2 in
+    let args = c .before .before .before .before .before .before .before .before .before .before .before .before .before .before .before .before .before .before .before .before .args in
+    let write-command = c .before .before .write-command in
+    let good = c .before .before .before .before .before .before .before .before .before .before .before .before .before .before .before .before .before .before .before .before .good in
+    omega (arith, last-room (pre .1) (copy .ensures) (copy .kept .0) _ (write-error .ensures) (write-error .kept .0) (copy2 .ensures) (copy2 .kept .0) (args .script .now) (args .command) (pre .0) (write-command .ensures) (write-command .kept .1 .1 .0), write-command .kept .1 .1 .0, copy2 .kept .0, write-error .kept .0, copy .kept .0, good)
 
 same-length : tie.Need-same-length
-same-length c = length-set (c .before .before .write-command .last .1 .1 .0) (c .before .before .write-command .result) 10 ∙ c .before .before .write-command .kept .1 .1 .0 ∙ c .before .before .before .before .before .before .copy2 .kept .0 ∙ c .before .before .before .before .before .before .before .before .before .before .before .write-error .kept .0 ∙ c .before .before .before .before .before .before .before .before .before .before .before .before .before .before .before .copy .kept .0
+same-length c =
+    let write-command = c .before .before .write-command in
+    let copy2 = c .before .before .before .before .before .before .copy2 in
+    let write-error = c .before .before .before .before .before .before .before .before .before .before .before .write-error in
+    let copy = c .before .before .before .before .before .before .before .before .before .before .before .before .before .before .before .copy in
+    length-set (write-command .last .1 .1 .0) (write-command .result) 10 ∙ write-command .kept .1 .1 .0 ∙ copy2 .kept .0 ∙ write-error .kept .0 ∙ copy .kept .0
 
 returns : tie.Need-returns
 unfolding bytes
-returns c = failure-written (c .before .before .before .before .before .before .before .before .before .before .before .before .before .before .before .before .before .before .before .before .pre .1) (c .before .before .before .before .before .before .before .before .before .before .before .before .before .before .before .copy .ensures) (c .before .before .before .before .before .before .before .before .before .before .before .before .before .before .before .copy .kept .0) _ (c .before .before .before .before .before .before .before .before .before .before .before .write-error .ensures) (c .before .before .before .before .before .before .before .before .before .before .before .write-error .kept .0) (c .before .before .before .before .before .before .copy2 .ensures) (c .before .before .before .before .before .before .copy2 .kept .0) (c .before .before .before .before .before .before .before .before .before .before .before .before .before .before .before .before .before .before .before .before .args .script .now) (c .before .before .before .before .before .before .before .before .before .before .before .before .before .before .before .before .before .before .before .before .args .command) (c .before .before .before .before .before .before .before .before .before .before .before .before .before .before .before .before .before .before .before .before .pre .0) (c .before .before .write-command .ensures) (c .before .before .write-command .kept .1 .1 .0)
+returns c =
+    let pre = c .before .before .before .before .before .before .before .before .before .before .before .before .before .before .before .before .before .before .before .before .pre in
+    let copy = c .before .before .before .before .before .before .before .before .before .before .before .before .before .before .before .copy in
+    let write-error = c .before .before .before .before .before .before .before .before .before .before .before .write-error in
+    let copy2 = c .before .before .before .before .before .before .copy2 in
+    let args = c .before .before .before .before .before .before .before .before .before .before .before .before .before .before .before .before .before .before .before .before .args in
+    let write-command = c .before .before .write-command in
+    failure-written (pre .1) (copy .ensures) (copy .kept .0) _ (write-error .ensures) (write-error .kept .0) (copy2 .ensures) (copy2 .kept .0) (args .script .now) (args .command) (pre .0) (write-command .ensures) (write-command .kept .1 .1 .0)
 
 pub write-failure-spec : {M : Type 1} → statement M
 write-failure-spec =

@@ -38,28 +38,52 @@ copy-requires c κs = search needs
 
 write-integer-requires : tie.Need-write-integer-requires
 unfolding bytes
-write-integer-requires c κs = integer-room (c .before .before .before .before .before .before .before .before .before .before .before .before .pre .1) (c .before .before .before .copy .kept .0) (c .before .before .before .copy .ensures) _
+write-integer-requires c κs =
+    let pre = c .before .before .before .before .before .before .before .before .before .before .before .before .pre in
+    let copy = c .before .before .before .copy in
+    integer-room (pre .1) (copy .kept .0) (copy .ensures) _
 
 slice-write-out : tie.Need-slice-write-out
 unfolding bytes
-slice-write-out c = integer-feed (c .before .before .before .before .before .before .before .before .before .before .before .before .before .before .before .pre .1) (c .before .before .before .before .before .before .copy .kept .0) (c .before .before .write-integer .kept .0) (c .before .before .before .before .before .before .copy .ensures) _ (c .before .before .write-integer .ensures)
+slice-write-out c =
+    let pre = c .before .before .before .before .before .before .before .before .before .before .before .before .before .before .before .pre in
+    let copy = c .before .before .before .before .before .before .copy in
+    let write-integer = c .before .before .write-integer in
+    integer-feed (pre .1) (copy .kept .0) (write-integer .kept .0) (copy .ensures) _ (write-integer .ensures)
 
 add-result : tie.Need-add-result
 unfolding bytes
-add-result c = omega (arith, integer-feed (c .before .before .before .before .before .before .before .before .before .before .before .before .before .before .before .pre .1) (c .before .before .before .before .before .before .copy .kept .0) (c .before .before .write-integer .kept .0) (c .before .before .before .before .before .before .copy .ensures) _ (c .before .before .write-integer .ensures), c .before .before .write-integer .kept .0, c .before .before .before .before .before .before .copy .kept .0, c .before .before .before .before .before .before .before .before .before .before .before .before .before .before .before .good)
+add-result c =
+    let pre = c .before .before .before .before .before .before .before .before .before .before .before .before .before .before .before .pre in
+    let copy = c .before .before .before .before .before .before .copy in
+    let write-integer = c .before .before .write-integer in
+    let good = c .before .before .before .before .before .before .before .before .before .before .before .before .before .before .before .good in
+    omega (arith, integer-feed (pre .1) (copy .kept .0) (write-integer .kept .0) (copy .ensures) _ (write-integer .ensures), write-integer .kept .0, copy .kept .0, good)
 
 same-length : tie.Need-same-length
-same-length c = length-set (c .before .before .write-integer .last .0) (c .before .before .write-integer .result) 10 ∙ c .before .before .write-integer .kept .0 ∙ c .before .before .before .before .before .before .copy .kept .0
+same-length c =
+    let write-integer = c .before .before .write-integer in
+    let copy = c .before .before .before .before .before .before .copy in
+    length-set (write-integer .last .0) (write-integer .result) 10 ∙ write-integer .kept .0 ∙ copy .kept .0
 
 returns : tie.Need-returns
 unfolding bytes
-returns c = integer-line (c .before .before .before .before .before .before .before .before .before .before .before .before .before .before .before .pre .1) (c .before .before .before .before .before .before .copy .kept .0) (c .before .before .write-integer .kept .0) _ _ _ (c .before .before .before .before .before .before .before .before .before .if1 .taken) (c .before .before .before .before .before .before .copy .ensures) (c .before .before .write-integer .ensures)
+returns c =
+    let pre = c .before .before .before .before .before .before .before .before .before .before .before .before .before .before .before .pre in
+    let copy = c .before .before .before .before .before .before .copy in
+    let write-integer = c .before .before .write-integer in
+    let if1 = c .before .before .before .before .before .before .before .before .before .if1 in
+    integer-line (pre .1) (copy .kept .0) (write-integer .kept .0) _ _ _ (if1 .taken) (copy .ensures) (write-integer .ensures)
 
 cast-count-items : tie.Need-cast-count-items
-cast-count-items c = omega (arith, value-known _ _ _ (c .before .before .before .before .before .before .pre .0) (c .if1 .left) .inside, c .before .before .before .before .before .before .pre .0 .short)
+cast-count-items c =
+    let pre = c .before .before .before .before .before .before .pre in
+    omega (arith, value-known _ _ _ (pre .0) (c .if1 .left) .inside, pre .0 .short)
 
 count-items-requires : tie.Need-count-items-requires
-count-items-requires c κs = (value-known _ _ _ (c .before .before .before .before .before .before .pre .0) (c .if1 .left), c .before .before .before .before .before .before .pre .0 .short)
+count-items-requires c κs =
+    let pre = c .before .before .before .before .before .before .pre in
+    (value-known _ _ _ (pre .0) (c .if1 .left), pre .0 .short)
 
 slice-aggregate-copy-2 : tie.Need-slice-aggregate-copy-2
 slice-aggregate-copy-2 c = search needs
@@ -69,22 +93,43 @@ copy-requires-2 c κs = search needs
 
 write-decimal-requires : tie.Need-write-decimal-requires
 unfolding bytes
-write-decimal-requires c κs = substack-room (c .before .before .before .before .before .before .before .before .before .before .before .before .before .pre .1) (c .before .before .before .copy2 .kept .0) (c .before .before .before .copy2 .ensures) _
+write-decimal-requires c κs =
+    let pre = c .before .before .before .before .before .before .before .before .before .before .before .before .before .pre in
+    let copy2 = c .before .before .before .copy2 in
+    substack-room (pre .1) (copy2 .kept .0) (copy2 .ensures) _
 
 slice-write-out-2 : tie.Need-slice-write-out-2
 unfolding bytes
-slice-write-out-2 c = substack-feed (c .before .before .before .before .before .before .before .before .before .before .before .before .before .before .before .before .pre .1) (c .before .before .before .before .before .before .copy2 .kept .0) (c .before .before .write-decimal .kept .0) (c .before .before .before .before .before .before .copy2 .ensures) _ (c .before .before .write-decimal .ensures)
+slice-write-out-2 c =
+    let pre = c .before .before .before .before .before .before .before .before .before .before .before .before .before .before .before .before .pre in
+    let copy2 = c .before .before .before .before .before .before .copy2 in
+    let write-decimal = c .before .before .write-decimal in
+    substack-feed (pre .1) (copy2 .kept .0) (write-decimal .kept .0) (copy2 .ensures) _ (write-decimal .ensures)
 
 add-result-2 : tie.Need-add-result-2
 unfolding bytes
-add-result-2 c = omega (arith, substack-feed (c .before .before .before .before .before .before .before .before .before .before .before .before .before .before .before .before .pre .1) (c .before .before .before .before .before .before .copy2 .kept .0) (c .before .before .write-decimal .kept .0) (c .before .before .before .before .before .before .copy2 .ensures) _ (c .before .before .write-decimal .ensures), c .before .before .write-decimal .kept .0, c .before .before .before .before .before .before .copy2 .kept .0, c .before .before .before .before .before .before .before .before .before .before .before .before .before .before .before .before .good)
+add-result-2 c =
+    let pre = c .before .before .before .before .before .before .before .before .before .before .before .before .before .before .before .before .pre in
+    let copy2 = c .before .before .before .before .before .before .copy2 in
+    let write-decimal = c .before .before .write-decimal in
+    let good = c .before .before .before .before .before .before .before .before .before .before .before .before .before .before .before .before .good in
+    omega (arith, substack-feed (pre .1) (copy2 .kept .0) (write-decimal .kept .0) (copy2 .ensures) _ (write-decimal .ensures), write-decimal .kept .0, copy2 .kept .0, good)
 
 same-length-2 : tie.Need-same-length-2
-same-length-2 c = length-set (c .before .before .write-decimal .last .0) (c .before .before .write-decimal .result) 10 ∙ c .before .before .write-decimal .kept .0 ∙ c .before .before .before .before .before .before .copy2 .kept .0
+same-length-2 c =
+    let write-decimal = c .before .before .write-decimal in
+    let copy2 = c .before .before .before .before .before .before .copy2 in
+    length-set (write-decimal .last .0) (write-decimal .result) 10 ∙ write-decimal .kept .0 ∙ copy2 .kept .0
 
 returns-2 : tie.Need-returns-2
 unfolding bytes
-returns-2 c = substack-line (c .before .before .before .before .before .before .before .before .before .before .before .before .before .before .before .before .pre .1) (c .before .before .before .before .before .before .copy2 .kept .0) (c .before .before .write-decimal .kept .0) _ _ _ (c .before .before .before .before .before .before .before .before .before .before .if1 .left) (c .before .before .before .before .before .before .before .before .before .count-items .ensures) (c .before .before .before .before .before .before .copy2 .ensures) (c .before .before .write-decimal .ensures)
+returns-2 c =
+    let pre = c .before .before .before .before .before .before .before .before .before .before .before .before .before .before .before .before .pre in
+    let copy2 = c .before .before .before .before .before .before .copy2 in
+    let write-decimal = c .before .before .write-decimal in
+    let if1 = c .before .before .before .before .before .before .before .before .before .before .if1 in
+    let count-items = c .before .before .before .before .before .before .before .before .before .count-items in
+    substack-line (pre .1) (copy2 .kept .0) (write-decimal .kept .0) _ _ _ (if1 .left) (count-items .ensures) (copy2 .ensures) (write-decimal .ensures)
 
 pub write-item-spec : {M : Type 1} → statement M
 write-item-spec =

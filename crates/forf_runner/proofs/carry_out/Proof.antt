@@ -7,10 +7,15 @@ use Rattle.forf_runner.proofs.carry_out.Statement.{statement}
 use Rattle.forf_runner.proofs.carry_out.Tie as tie
 
 run-requires : tie.Need-run-requires
-run-requires c κs = record { short = c .before .before .before .before .before .before .before .before .pre .short; fueled = c .before .before .before .before .before .before .before .before .pre .fueled; memory-slots = c .before .before .before .before .before .before .before .before .pre .memory-slots }
+run-requires c κs =
+    let pre = c .before .before .before .before .before .before .before .before .pre in
+    record { short = pre .short; fueled = pre .fueled; memory-slots = pre .memory-slots }
 
 write-requires : tie.Need-write-requires
-write-requires c κs = writing (c .before .before .before .before .before .before .before .before .before .before .before .before .before .before .before .before .before .pre) (c .before .before .before .before .before .before .before .before .run .ensures) (c .before .before .before .before .before .before .before .before .run .kept .1 .1 .0)
+write-requires c κs =
+    let pre = c .before .before .before .before .before .before .before .before .before .before .before .before .before .before .before .before .before .pre in
+    let run = c .before .before .before .before .before .before .before .before .run in
+    writing (pre) (run .ensures) (run .kept .1 .1 .0)
 
 same-length : tie.Need-same-length
 same-length c = search needs
@@ -25,7 +30,11 @@ same-length-4 : tie.Need-same-length-4
 same-length-4 c = search needs
 
 returns : tie.Need-returns
-returns c = carried-out (c .before .before .before .before .before .before .before .before .before .before .before .before .before .before .before .before .before .before .before .before .before .pre) (c .before .before .before .before .before .before .before .before .before .before .before .before .run .ensures) (c .before .before .before .before .before .before .before .before .before .before .before .before .run .kept .1 .1 .0) refl (c .before .before .before .write .ensures)
+returns c =
+    let pre = c .before .before .before .before .before .before .before .before .before .before .before .before .before .before .before .before .before .before .before .before .before .pre in
+    let run = c .before .before .before .before .before .before .before .before .before .before .before .before .run in
+    let write = c .before .before .before .write in
+    carried-out (pre) (run .ensures) (run .kept .1 .1 .0) refl (write .ensures)
 
 pub carry-out-spec : {M : Type 1} → statement M
 carry-out-spec =

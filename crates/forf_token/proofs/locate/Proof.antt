@@ -26,13 +26,30 @@ enum-told : tie.Need-enum-told
 enum-told c = search needs
 
 returns-3 : tie.Need-returns-3
-returns-3 c = located-fault (record { short = c .before .before .before .before .before .if1 .left; known = c .before .before .before .before .if2 .left; begins = c .before .before .before .skip .ensures .0 }) (subst (LexedAt (c .before .before .before .before .before .before .before .args .script .now) (c .before .before .before .skip .result)) (c .enum-told .given .1) (c .before .before .token-at .ensures))
+returns-3 c =
+    let if1 = c .before .before .before .before .before .if1 in
+    let if2 = c .before .before .before .before .if2 in
+    let skip = c .before .before .before .skip in
+    let args = c .before .before .before .before .before .before .before .args in
+    let token-at = c .before .before .token-at in
+    located-fault (record { short = if1 .left; known = if2 .left; begins = skip .ensures .0 }) (subst (LexedAt (args .script .now) (skip .result)) (c .enum-told .given .1) (token-at .ensures))
 
 own-part-requires : tie.Need-own-part-requires
-own-part-requires c κs = subst (LexedAt (c .before .before .before .before .before .before .before .before .args .script .now) (c .before .before .before .before .skip .result)) (c .before .lexed .given .1) (c .before .before .before .token-at .ensures) .later
+own-part-requires c κs =
+    let args = c .before .before .before .before .before .before .before .before .args in
+    let skip = c .before .before .before .before .skip in
+    let token-at = c .before .before .before .token-at in
+    subst (LexedAt (args .script .now) (skip .result)) (c .before .lexed .given .1) (token-at .ensures) .later
 
 returns-4 : tie.Need-returns-4
-returns-4 c = located-token (record { short = c .before .before .before .before .before .before .before .if1 .left; known = c .before .before .before .before .before .before .if2 .left; begins = c .before .before .before .before .before .skip .ensures .0 }) (c .before .before .lexed .given .0 .1 .0) (c .before .before .lexed .given .0 .0) _ (subst (LexedAt (c .before .before .before .before .before .before .before .before .before .args .script .now) (c .before .before .before .before .before .skip .result)) (c .before .before .lexed .given .1) (c .before .before .before .before .token-at .ensures)) (c .own-part .ensures)
+returns-4 c =
+    let if1 = c .before .before .before .before .before .before .before .if1 in
+    let if2 = c .before .before .before .before .before .before .if2 in
+    let skip = c .before .before .before .before .before .skip in
+    let lexed = c .before .before .lexed in
+    let args = c .before .before .before .before .before .before .before .before .before .args in
+    let token-at = c .before .before .before .before .token-at in
+    located-token (record { short = if1 .left; known = if2 .left; begins = skip .ensures .0 }) (lexed .given .0 .1 .0) (lexed .given .0 .0) _ (subst (LexedAt (args .script .now) (skip .result)) (lexed .given .1) (token-at .ensures)) (c .own-part .ensures)
 
 pub locate-spec : {M : Type 1} → statement M
 locate-spec =

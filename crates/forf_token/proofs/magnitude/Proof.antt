@@ -13,7 +13,10 @@ numeral-at-requires : tie.Need-numeral-at-requires
 numeral-at-requires c κs = search needs
 
 returns : tie.Need-returns
-returns c = read-short (c .before .before .before .args .s .now) (c .before .before .before .args .at) _ (c .numeral-at .result) _ (c .before .if1 .taken) (c .numeral-at .ensures)
+returns c =
+    let args = c .before .before .before .args in
+    let numeral-at = c .numeral-at in
+    read-short (args .s .now) (args .at) _ (numeral-at .result) _ (c .before .if1 .taken) (numeral-at .ensures)
 
 shared-slice-read-if2 : tie.Need-shared-slice-read-if2
 shared-slice-read-if2 c = search needs
@@ -22,7 +25,12 @@ numeral-at-requires-2 : tie.Need-numeral-at-requires-2
 numeral-at-requires-2 c κs = search needs
 
 returns-2 : tie.Need-returns-2
-returns-2 c = read-plain (c .before .before .before .before .before .args .s .now) (c .before .before .before .before .before .args .at) _ (c .numeral-at2 .result) _ (form-plain (c .before .before .before .before .before .args .s .now) (c .before .before .before .before .before .args .at) (omega (arith, c .before .before .before .if1 .left, c .before .before .before .before .before .pre)) (c .before .if2 .taken)) (c .numeral-at2 .ensures)
+returns-2 c =
+    let args = c .before .before .before .before .before .args in
+    let numeral-at2 = c .numeral-at2 in
+    let if1 = c .before .before .before .if1 in
+    let pre = c .before .before .before .before .before .pre in
+    read-plain (args .s .now) (args .at) _ (numeral-at2 .result) _ (form-plain (args .s .now) (args .at) (omega (arith, if1 .left, pre)) (c .before .if2 .taken)) (numeral-at2 .ensures)
 
 add-if3 : tie.Need-add-if3
 add-if3 c = search needs
@@ -37,7 +45,13 @@ numeral-at-requires-3 : tie.Need-numeral-at-requires-3
 numeral-at-requires-3 c κs = search needs
 
 returns-3 : tie.Need-returns-3
-returns-3 c = read-hexadecimal (c .before .before .before .before .before .before .before .args .s .now) (c .before .before .before .before .before .before .before .args .at) _ (c .numeral-at3 .result) _ (form-hexadecimal (c .before .before .before .before .before .before .before .args .s .now) (c .before .before .before .before .before .before .before .args .at) (omega (arith, c .before .before .before .before .before .if1 .left, c .before .before .before .before .before .before .before .pre)) (c .before .before .before .if2 .left) (c .before .if3 .taken)) (c .numeral-at3 .ensures)
+returns-3 c =
+    let args = c .before .before .before .before .before .before .before .args in
+    let numeral-at3 = c .numeral-at3 in
+    let if1 = c .before .before .before .before .before .if1 in
+    let pre = c .before .before .before .before .before .before .before .pre in
+    let if2 = c .before .before .before .if2 in
+    read-hexadecimal (args .s .now) (args .at) _ (numeral-at3 .result) _ (form-hexadecimal (args .s .now) (args .at) (omega (arith, if1 .left, pre)) (if2 .left) (c .before .if3 .taken)) (numeral-at3 .ensures)
 
 add-numeral-at-2 : tie.Need-add-numeral-at-2
 add-numeral-at-2 c = search needs
@@ -46,7 +60,13 @@ numeral-at-requires-4 : tie.Need-numeral-at-requires-4
 numeral-at-requires-4 c κs = search needs
 
 returns-4 : tie.Need-returns-4
-returns-4 c = read-octal (c .before .before .before .before .before .before .before .args .s .now) (c .before .before .before .before .before .before .before .args .at) _ (c .numeral-at4 .result) _ (form-octal (c .before .before .before .before .before .before .before .args .s .now) (c .before .before .before .before .before .before .before .args .at) (omega (arith, c .before .before .before .before .before .if1 .left, c .before .before .before .before .before .before .before .pre)) (c .before .before .before .if2 .left) (c .before .if3 .left)) (c .numeral-at4 .ensures)
+returns-4 c =
+    let args = c .before .before .before .before .before .before .before .args in
+    let numeral-at4 = c .numeral-at4 in
+    let if1 = c .before .before .before .before .before .if1 in
+    let pre = c .before .before .before .before .before .before .before .pre in
+    let if2 = c .before .before .before .if2 in
+    read-octal (args .s .now) (args .at) _ (numeral-at4 .result) _ (form-octal (args .s .now) (args .at) (omega (arith, if1 .left, pre)) (if2 .left) (c .before .if3 .left)) (numeral-at4 .ensures)
 
 pub magnitude-spec : {M : Type 1} → statement M
 magnitude-spec =

@@ -23,7 +23,10 @@ starts-number-requires : tie.Need-starts-number-requires
 starts-number-requires c κs = search needs
 
 number-of-requires : tie.Need-number-of-requires
-number-of-requires c κs = between-short _ _ _ (some-run (c .before .before .before .before .before .pre) (c .before .before .before .run-end .ensures .0) (c .before .before .before .run-end .ensures .1)) (c .before .before .before .run-end .ensures .1) (c .before .before .before .before .before .pre .short)
+number-of-requires c κs =
+    let pre = c .before .before .before .before .before .pre in
+    let run-end = c .before .before .before .run-end in
+    between-short _ _ _ (some-run (pre) (run-end .ensures .0) (run-end .ensures .1)) (run-end .ensures .1) (pre .short)
 
 enum-known-number : tie.Need-enum-known-number
 enum-known-number c = search needs
@@ -32,19 +35,39 @@ enum-told : tie.Need-enum-told
 enum-told c = search needs
 
 returns : tie.Need-returns
-returns c = number-fault (c .before .before .before .before .before .before .before .before .pre) (c .before .before .before .before .before .before .run-end .ensures .0) (c .before .before .before .before .before .before .run-end .ensures .1) _ (c .before .before .before .before .starts-number .ensures) (c .before .before .before .if1 .taken) (c .before .before .number-of .result) (c .before .before .number-of .ensures) (ap readNumber (c .enum-told .given .1))
+returns c =
+    let pre = c .before .before .before .before .before .before .before .before .pre in
+    let run-end = c .before .before .before .before .before .before .run-end in
+    let starts-number = c .before .before .before .before .starts-number in
+    let if1 = c .before .before .before .if1 in
+    let number-of = c .before .before .number-of in
+    number-fault (pre) (run-end .ensures .0) (run-end .ensures .1) _ (starts-number .ensures) (if1 .taken) (number-of .result) (number-of .ensures) (ap readNumber (c .enum-told .given .1))
 
 returns-2 : tie.Need-returns-2
-returns-2 c = integer-token (c .before .before .before .before .before .before .before .before .before .pre) (c .before .before .before .before .before .before .before .run-end .ensures .0) (c .before .before .before .before .before .before .before .run-end .ensures .1) _ (c .before .before .before .before .before .starts-number .ensures) (c .before .before .before .before .if1 .taken) (c .before .before .before .number-of .result) (c .before .before .before .number-of .ensures) (c .before .number .given .1)
+returns-2 c =
+    let pre = c .before .before .before .before .before .before .before .before .before .pre in
+    let run-end = c .before .before .before .before .before .before .before .run-end in
+    let starts-number = c .before .before .before .before .before .starts-number in
+    let if1 = c .before .before .before .before .if1 in
+    let number-of = c .before .before .before .number-of in
+    integer-token (pre) (run-end .ensures .0) (run-end .ensures .1) _ (starts-number .ensures) (if1 .taken) (number-of .result) (number-of .ensures) (c .before .number .given .1)
 
 sub-if2 : tie.Need-sub-if2
 sub-if2 c = search needs
 
 returns-3 : tie.Need-returns-3
-returns-3 c = word-long (c .before .before .before .before .before .before .pre) (c .before .before .before .before .run-end .ensures .0) (c .before .before .before .before .run-end .ensures .1) _ (c .before .before .starts-number .ensures) (c .before .if1 .left) (c .if2 .taken)
+returns-3 c =
+    let pre = c .before .before .before .before .before .before .pre in
+    let run-end = c .before .before .before .before .run-end in
+    let starts-number = c .before .before .starts-number in
+    word-long (pre) (run-end .ensures .0) (run-end .ensures .1) _ (starts-number .ensures) (c .before .if1 .left) (c .if2 .taken)
 
 returns-4 : tie.Need-returns-4
-returns-4 c = word-token (c .before .before .before .before .before .before .pre) (c .before .before .before .before .run-end .ensures .0) (c .before .before .before .before .run-end .ensures .1) _ (c .before .before .starts-number .ensures) (c .before .if1 .left) (c .if2 .left)
+returns-4 c =
+    let pre = c .before .before .before .before .before .before .pre in
+    let run-end = c .before .before .before .before .run-end in
+    let starts-number = c .before .before .starts-number in
+    word-token (pre) (run-end .ensures .0) (run-end .ensures .1) _ (starts-number .ensures) (c .before .if1 .left) (c .if2 .left)
 
 pub run-at-spec : {M : Type 1} → statement M
 run-at-spec =
