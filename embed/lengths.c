@@ -122,13 +122,22 @@ static const char hello_outcome[] =
     "ending=finished\nerror=none\ncommand=\nat=34\nwhere=\nsteps=12\ndepth=1\nheld=0\nlog=2\nitem=integer:7\n";
 
 static void with(const char *title, int k, size_t length, uint32_t refused, const char *gives) {
-    size_t lengths[RUN_BUFFERS] = {sizeof hello - 1, FLOO_STACK_WORDS(8), FLOO_EXECUTION_WORDS(4), FLOO_DICTIONARY_WORDS(60), FLOO_CELL_WORDS(1), 2,
-                                   FLOO_OUTCOME_BYTES(8)};
+    size_t lengths[RUN_BUFFERS] = {sizeof hello - 1, FLOO_STACK_WORDS(8), FLOO_EXECUTION_WORDS(4), FLOO_DICTIONARY_WORDS(FLOO_DICTIONARY_SLOTS_MIN + 2),
+                                   FLOO_CELL_WORDS(1), 2, FLOO_OUTCOME_BYTES(8)};
     lengths[k] = length;
     if (k == STACK && length <= most[k]) {
         lengths[OUTCOME] = FLOO_OUTCOME_BYTES(length / 2);
     }
     call(title, hello, 12, lengths, refused, gives);
+}
+
+/* A handler that is an object, and an error that it handles, in a dictionary with one slot for the error's name and none for the command. */
+static void handler(void) {
+    static const char script[] = "#FLOO\n/undefined [ 1 ] onerror frob\n";
+    size_t lengths[RUN_BUFFERS] = {sizeof script - 1, FLOO_STACK_WORDS(8), FLOO_EXECUTION_WORDS(4), FLOO_DICTIONARY_WORDS(FLOO_DICTIONARY_SLOTS_MIN + 1),
+                                   FLOO_CELL_WORDS(2), 0, FLOO_OUTCOME_BYTES(8)};
+    call("a handler", script, 10, lengths, 0,
+         "ending=finished\nerror=none\ncommand=\nat=36\nwhere=\nsteps=10\ndepth=1\nheld=2\nlog=0\nitem=array:1\n");
 }
 
 /* Lengths that no buffer has. */
@@ -462,6 +471,7 @@ int main(void) {
     }
     const char *all = hello_outcome;
     with("as lent", LOG, 2, 0, all);
+    handler();
     with("script of 0", SCRIPT, 0, 2, NULL);
     with("script of 4", SCRIPT, 4, 2, NULL);
     with("script of 32768", SCRIPT, FLOO_SCRIPT_BYTES_MAX, 0, NULL);
@@ -477,9 +487,9 @@ int main(void) {
     with("execution of 39 words", EXECUTION, 39, 0, all);
     with("execution of 1031 words", EXECUTION, 1031, 0, all);
     with("execution of 1032 words", EXECUTION, 1032, 5, NULL);
-    with("dictionary of 695 words", DICTIONARY, 695, 6, NULL);
-    with("dictionary of 708 words", DICTIONARY, 708, 0, all);
-    with("dictionary of 719 words", DICTIONARY, 719, 0, all);
+    with("dictionary of 731 words", DICTIONARY, 731, 6, NULL);
+    with("dictionary of 744 words", DICTIONARY, 744, 0, all);
+    with("dictionary of 755 words", DICTIONARY, 755, 0, all);
     with("dictionary of 6155 words", DICTIONARY, 6155, 0, all);
     with("dictionary of 6156 words", DICTIONARY, 6156, 6, NULL);
     with("cells of 3 words", CELLS, 3, 7, NULL);

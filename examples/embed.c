@@ -1,6 +1,7 @@
 /*
  * The counter of a stockroom: for each label that is scanned a Floo script takes the label apart and writes a line of the ledger.
- * A label is SOCKET:PLACE:TIME. One that is not gives an error, and the counter says which; of a slip in the script it says where. embed/run_c.sh builds and runs it.
+ * A label is SOCKET:PLACE:TIME. One that is not gets a line that says so, by the rule's handler; of a slip in the script the counter says what and where.
+ * embed/run_c.sh builds and runs it.
  */
 #include <stdio.h>
 #include <stdlib.h>
@@ -22,6 +23,8 @@ static uint8_t outcome[FLOO_OUTCOME_BYTES(STACK)];
 enum { LINES_BEFORE = 2 };
 
 static const char rule[] =
+    "# a part that is not there, or a byte that is no digit, is rangecheck: a line says so\n"
+    "/rangecheck { \"bad label: \" print label echo stop } bind onerror\n"
     "# from -> place of the next colon, or the label's length\n"
     "/colon {\n"
     "    { dup label length ge { exit } if\n"
@@ -29,9 +32,10 @@ static const char rule[] =
     "      1 add } loop\n"
     "} bind def\n"
     "# text -> its value as a decimal number\n"
+    "/digits [ 0 1 2 3 4 5 6 7 8 9 ] def\n"
     "/number {\n"
     "    /text exch def 0\n"
-    "    0 1 text length 1 sub { text exch get 48 sub exch 10 mul add } for\n"
+    "    0 1 text length 1 sub { text exch get 48 sub digits exch get exch 10 mul add } for\n"
     "} bind def\n"
     "/first 0 colon def\n"
     "/second first 1 add colon def\n"
@@ -95,7 +99,7 @@ static void scan(const char *label, const char *rule) {
                                 log_bytes, LOG, outcome, sizeof outcome);
     if (reply.refused != FLOO_NOT_REFUSED) {
         printf("no line: refused, number %u\n", reply.refused);
-    } else if (memcmp(outcome, "ending=finished\n", 16) == 0) {
+    } else if (strncmp(value("ending="), "finished\n", 9) == 0 || strncmp(value("ending="), "stopped\n", 8) == 0) {
         fwrite(log_bytes, 1, reply.log, stdout);
     } else {
         printf("no line: ");
@@ -105,7 +109,7 @@ static void scan(const char *label, const char *rule) {
 }
 
 int main(int argc, char **argv) {
-    static const char *const labels[] = {"0417:rack B-7:1731690000", "0388:drawer \"12\":1731690412", "0417"};
+    static const char *const labels[] = {"0417:rack B-7:1731690000", "0388:drawer \"12\":1731690412", "0417", "0417:rack B-7:today"};
     if (argc > 1) {
         for (int i = 1; i < argc; i++) {
             scan(argv[i], rule);

@@ -1,10 +1,14 @@
 //! Random scripts, fuel and room, run by the proved runner and by the reference interpreter: the answers, every lent byte outside what is promised to
-//! change, and the objects that the runner's words show. The tokens of these scripts and of rows of bytes, read by both at every offset. Random scans by the
+//! change, and the objects and handlers that the runner's words show. The tokens of these scripts and of rows of bytes, read by both at every offset. Random scans by the
 //! exported floor rule and the reference's, with their books; books written as ledgers, and texts good and damaged read as such, by both. Echo lines that are read
 //! back. And random Forf scripts.
 
 #![forbid(unsafe_code)]
 
+#[path = "../../reference/tests/hostile/ground.rs"]
+pub mod ground;
+#[path = "../../reference/tests/hostile/handlers.rs"]
+pub mod handlers;
 #[path = "../../reference/tests/hostile/random.rs"]
 pub mod random;
 #[path = "../../reference/tests/hostile/scripts.rs"]
@@ -24,6 +28,7 @@ mod texts;
 use floo_reference::setup::PREDEFINED_NAMES;
 use floo_reference::value::Object;
 use floo_reference::{run, Answer, Ending, Fault, Machine, Ran, Sizes};
+use ground::Ground;
 use lent::Lent;
 use random::Random;
 use shown::Shown;
@@ -48,6 +53,10 @@ pub struct Tally {
     pub loops_past: [usize; 2],
     /// Runs that each fault of a token ends, in the order of `fault_number`, outside braces and in a brace group.
     pub misread: [[usize; 2]; 6],
+    /// Handlers at the runs' ends, and those of them that name an object.
+    pub handlers: [usize; 2],
+    /// Runs that meet what handlers are about.
+    pub ground: Ground,
     pub readings: Readings,
     pub scans: Scans,
     pub ledgers: Ledgers,
@@ -108,13 +117,17 @@ fn compare_run(script: &[u8], random: &mut Random, tally: &mut Tally) -> Result<
             let shown = check_left(&lent, &before, [reply.log, reply.outcome], [&log, &outcome], &mut machine).map_err(|what| told(&what))?;
             tally.objects += shown.objects;
             tally.circled += shown.circled;
+            for (count, shown) in tally.handlers.iter_mut().zip(shown.handlers) {
+                *count += shown;
+            }
+            tally.ground.count(&ending, &machine);
             let in_string = |object: &Object| matches!(object, Object::String(bytes) if has_least(bytes));
             let least = [has_least(&log), machine.store.iter().any(in_string), has_least(&outcome)];
             if let Ending::Misread(fault) = ending {
                 let in_group = script[machine.at] == b'{';
                 tally.misread[fault_number(fault)][usize::from(in_group)] += 1;
             }
-            for (count, loops) in tally.loops_past.iter_mut().zip(machine.loops_past) {
+            for (count, loops) in tally.loops_past.iter_mut().zip(machine.met.loops_past) {
                 *count += usize::from(loops > 0);
             }
             for (count, met) in tally.least.iter_mut().zip(least) {
@@ -202,8 +215,14 @@ pub(crate) fn sizes(random: &mut Random) -> Sizes {
     let least = Sizes::least_outcome(stack);
     Sizes {
         stack,
-        exec: slots(random, 4, 128),
-        dictionary: slots(random, PREDEFINED_NAMES, 512),
+        exec: match random.below(4) {
+            0 => 4 + random.below(3),
+            _ => slots(random, 4, 128),
+        },
+        dictionary: match random.below(4) {
+            0 => PREDEFINED_NAMES + random.below(10),
+            _ => slots(random, PREDEFINED_NAMES, 512),
+        },
         cells: slots(random, 1, 32_768),
         log: match random.below(40) {
             0 => 65_537,

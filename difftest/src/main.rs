@@ -2,7 +2,7 @@
 
 use std::process::ExitCode;
 
-use floo_difftest::{compare_all, forf, Echoes, Ledgers, Readings, Scans, DAMAGES};
+use floo_difftest::{compare_all, forf, Echoes, Ledgers, Readings, Scans, Tally, DAMAGES};
 
 fn main() -> ExitCode {
     let numbers: Vec<u64> = std::env::args().skip(1).filter_map(|word| word.parse().ok()).collect();
@@ -21,6 +21,7 @@ fn main() -> ExitCode {
             println!("{above} runs with a loop that ends above 32 bits, {below} with one that ends below");
             println!("the least number written into {log} logs, by {string} runs into strings, into {outcome} outcomes");
             print_misread(tally.misread);
+            print_handlers(&tally);
             print_readings(&tally.readings);
             print_scans(&tally.scans);
             print_ledgers(&tally.ledgers);
@@ -40,6 +41,14 @@ fn print_misread(misread: [[usize; 2]; 6]) {
         "runs that a token ends, outside braces and in a group: badnumber {badnumber}, badescape {badescape}, openstring {openstring}, \
          badbrace {badbrace} (stray and unclosed), badbyte {badbyte}, limitcheck {limitcheck}"
     );
+}
+
+fn print_handlers(tally: &Tally) {
+    let [handlers, objects] = tally.handlers;
+    println!("{handlers} handlers, {objects} of them objects, and the latest error's names: no difference. Runs that meet");
+    for (what, runs) in tally.ground.met() {
+        println!("  {what}: {runs}");
+    }
 }
 
 fn print_readings(read: &Readings) {

@@ -1,7 +1,7 @@
 //! The objects that the runner's words show, against those of the reference interpreter: one to one, in kind and length, with the same elements and bytes, each
-//! with its own cells and as many places as its stored count says.
+//! with its own cells and as many places as its stored count says. With them the handlers that the dictionary's words show, and the names of the latest error.
 //!
-//! The words are walked from the stack, the execution stack and the bindings. What these do not lead to, circles and what only circles name, is looked for in
+//! The words are walked from the stack, the execution stack, the bindings and the handlers. What these do not lead to, circles and what only circles name, is looked for in
 //! the other cells: a header has a mark in its word 3, which goes when it is freed. Where the cells' earlier contents have no mark, these headers must be as
 //! many as the objects; elsewhere a cell that was never used may look like one.
 //!
@@ -9,13 +9,23 @@
 
 use std::collections::{HashMap, HashSet};
 
+use floo_reference::error;
 use floo_reference::machine::{Frame, Machine};
-use floo_reference::value::{Object, ObjectId, Value};
+use floo_reference::value::{NameId, Object, ObjectId, Value};
 
 use crate::lent::{Lent, HEADER_MARK};
 
 const UNBOUND: u32 = 7;
 const STRING: u32 = 8;
+
+/// A handler's words, each the last word of a slot, three slots to a row: its tag, which is UNBOUND where there is none, its payload, and the slot of the error's name.
+/// The rows are in the order of the errors' names.
+const ROW: usize = 3 * 12;
+const ROW_WORDS: [usize; 3] = [11, 23, 35];
+
+/// The latest error's two names, 0 for none and else one more than the slot.
+const ERRORNAME: usize = 12 * 51 + 11;
+const COMMAND: usize = 12 * 52 + 11;
 
 /// A header's word 1 modulo the first is its number of body cells, and its word 3 modulo the second the first of them; the bits above have other uses.
 const SIZE_UNIT: u32 = 1 << 16;
@@ -27,10 +37,13 @@ const SCATTERED: u32 = 1 << 17;
 /// Headers that are tried for the objects of circles: many more than it takes where they match.
 const MOST_TRIES: usize = 10_000;
 
-/// How many objects were compared, and how many of them no place outside leads to.
+/// What was compared.
 pub struct Shown {
     pub objects: usize,
+    /// Of these, the ones that no place outside leads to.
     pub circled: usize,
+    /// Handlers, and those of them that name an object.
+    pub handlers: [usize; 2],
 }
 
 /// Headers and objects by each other, the cells of those compared, and those still to be compared.
@@ -64,6 +77,8 @@ pub fn check(lent: &Lent, machine: &mut Machine) -> Result<Shown, String> {
         tries: MOST_TRIES,
     };
     walk.places(lent)?;
+    walk.handlers(lent.dictionary.lent())?;
+    walk.latest(lent.dictionary.lent())?;
     walk.objects()?;
     let reached = walk.matched.objects.len();
     walk.circles(lent.unmarked)?;
@@ -71,9 +86,11 @@ pub fn check(lent: &Lent, machine: &mut Machine) -> Result<Shown, String> {
     if (objects, cells) != (held.len(), held_cells) {
         return Err(format!("{objects} objects of {cells} cells for {} of {held_cells}", held.len()));
     }
+    let handlers = || walk.machine.handlers.iter().flatten();
     Ok(Shown {
         objects,
         circled: objects - reached,
+        handlers: [handlers().count(), handlers().filter_map(|handler| handler.object()).count()],
     })
 }
 
@@ -110,6 +127,35 @@ impl Walk<'_> {
                 Some(value) => self.place(lent.dictionary.lent(), at, value)?,
                 None if lent.dictionary.lent()[at] == UNBOUND => {}
                 None => return Err(format!("{:?} is bound", entry.name)),
+            }
+        }
+        Ok(())
+    }
+
+    fn handlers(&mut self, words: &[u32]) -> Result<(), String> {
+        for (j, (name, handler)) in error::NAMES.iter().zip(self.machine.handlers).enumerate() {
+            let [tag, payload, slot] = ROW_WORDS.map(|at| words[ROW * j + at]);
+            let Some(value) = handler else {
+                if tag != UNBOUND {
+                    return Err(format!("{name} has a handler"));
+                }
+                continue;
+            };
+            self.place(&[tag, payload], 0, value).map_err(|what| format!("handler of {name}: {what}"))?;
+            if slot as usize != self.slot(name.as_bytes())? {
+                return Err(format!("{name} is not in slot {slot}"));
+            }
+        }
+        Ok(())
+    }
+
+    fn latest(&self, words: &[u32]) -> Result<(), String> {
+        let latest = self.machine.latest;
+        for (what, at, name) in [("errorname", ERRORNAME, latest.errorname), ("command", COMMAND, latest.command)] {
+            let slot = |id: NameId| self.slot(&self.machine.dictionary[id].name);
+            let expected = name.map_or(Ok(0), |id| slot(id).map(|slot| 1 + slot))?;
+            if words[at] as usize != expected {
+                return Err(format!("{what}: {} and not {expected}", words[at]));
             }
         }
         Ok(())

@@ -12,6 +12,10 @@ fn runs_readings_scans_ledgers_and_echo_lines_agree_with_the_reference() {
     assert!(tally.least.iter().all(|&count| count > 100), "{:?} with the least number in log, string, outcome", tally.least);
     assert!(tally.loops_past.iter().all(|&count| count > 100), "{:?} runs with a loop that ends above and below 32 bits", tally.loops_past);
     assert!(tally.misread.iter().flatten().all(|&count| count > 25), "{:?} runs ended by each fault, outside braces and in a group", tally.misread);
+    assert!(tally.handlers.iter().all(|&count| count > 1_000), "{:?} handlers and those that are objects", tally.handlers);
+    for (what, runs) in tally.ground.met() {
+        assert!(runs > 10, "{what}: {runs} runs");
+    }
     let scans = &tally.scans;
     assert_eq!(scans.total(), 5_000);
     let [refused, malformed, too_long, no_slot, no_cells, not_finished, bad_stack, late, no_room, replaced, added] = scans.answers;

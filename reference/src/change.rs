@@ -37,6 +37,8 @@ pub struct Change {
     pub makes: Vec<Object>,
     pub write: Option<Write>,
     pub binding: Option<(NameId, Value)>,
+    /// A handler, by the place of its error's name.
+    pub handler: Option<(usize, Value)>,
     pub text: Vec<u8>,
     pub stops: bool,
     /// The number on which a `for` ends, if one does.
@@ -58,6 +60,7 @@ impl Change {
             makes: Vec::new(),
             write: None,
             binding: None,
+            handler: None,
             text: Vec::new(),
             stops: false,
             loop_end: None,
@@ -137,10 +140,13 @@ impl Change {
         if let Some((name, value)) = self.binding {
             machine.dictionary[name].binding = Some(value);
         }
+        if let Some((place, value)) = self.handler {
+            machine.meet_handler(place);
+            machine.handlers[place] = Some(value);
+        }
         machine.log.extend(self.text);
         if let Some(end) = self.loop_end {
-            machine.loops_past[0] += usize::from(end > i64::from(i32::MAX));
-            machine.loops_past[1] += usize::from(end < i64::from(i32::MIN));
+            machine.meet_loop_end(end);
         }
     }
 }

@@ -14,6 +14,7 @@ pub mod floor;
 pub mod forf;
 pub mod ledger;
 pub mod machine;
+pub mod met;
 pub mod operators;
 pub mod print;
 pub mod room;

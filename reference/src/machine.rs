@@ -1,6 +1,7 @@
 //! The machine's state: both stacks, the dictionary, the store of made objects and the log.
 
-use crate::error::Error;
+use crate::error::{self, Error};
+use crate::met::Met;
 use crate::operators::{self, Operator};
 use crate::room::Room;
 use crate::setup::Sizes;
@@ -34,7 +35,30 @@ pub enum Repetition {
     },
 }
 
+/// The names that errorname and command push; none is null (02, W1).
+#[derive(Clone, Copy, Debug, Default)]
+pub struct Latest {
+    pub errorname: Option<NameId>,
+    pub command: Option<NameId>,
+}
+
 impl Frame {
+    /// What is left of the slot when what it took has failed and "counts as taken": the object of
+    /// a procedure, the repetition of a loop; a pending object leaves nothing.
+    pub fn passed(self) -> Option<Frame> {
+        match self {
+            Frame::Pending(_) => None,
+            Frame::Running { array, position } => Some(Frame::Running {
+                array,
+                position: position + 1,
+            }),
+            Frame::Loop { repetition, body } => Some(Frame::Loop {
+                repetition: repetition.passed(),
+                body,
+            }),
+        }
+    }
+
     /// The made object that the slot names: "its pending object, running procedure or loop body".
     pub fn object(self) -> Option<ObjectId> {
         match self {
@@ -45,10 +69,31 @@ impl Frame {
     }
 }
 
+impl Repetition {
+    fn passed(self) -> Repetition {
+        match self {
+            Repetition::Forever => self,
+            Repetition::Times(left) => Repetition::Times(left - 1),
+            Repetition::For {
+                number,
+                increment,
+                last,
+            } => Repetition::For {
+                number: number + i64::from(increment),
+                increment,
+                last,
+            },
+        }
+    }
+}
+
 pub struct Machine {
     pub stack: Vec<Value>,
     pub frames: Vec<Frame>,
     pub dictionary: Vec<Entry>,
+    /// By the place of the error's name in `error::NAMES`.
+    pub handlers: [Option<Value>; error::NAMES.len()],
+    pub latest: Latest,
     /// Every object ever made, in the order of making.
     pub store: Vec<Object>,
     pub log: Vec<u8>,
@@ -58,8 +103,7 @@ pub struct Machine {
     pub steps: u64,
     pub sizes: Sizes,
     pub room: Room,
-    /// How many `for` loops ended on a number above 32 bits, and on one below.
-    pub loops_past: [usize; 2],
+    pub met: Met,
 }
 
 impl Machine {
@@ -69,6 +113,8 @@ impl Machine {
             stack: Vec::new(),
             frames: Vec::new(),
             dictionary: predefined(),
+            handlers: [None; error::NAMES.len()],
+            latest: Latest::default(),
             store: Vec::new(),
             log: Vec::new(),
             next: 0,
@@ -76,7 +122,7 @@ impl Machine {
             steps: 0,
             sizes: *sizes,
             room: Room::default(),
-            loops_past: [0; 2],
+            met: Met::default(),
         }
     }
 
@@ -128,6 +174,27 @@ impl Machine {
 
     pub fn current_bytes(&self, string: ObjectId) -> &[u8] {
         current(self.bytes(string))
+    }
+
+    pub fn handler(&self, error: Error) -> Option<Value> {
+        self.handlers[error.place()]
+    }
+
+    /// "An unknown name takes its slot then, or is null if none is free"; so is the empty one,
+    /// whose command line is empty.
+    pub fn note(&mut self, name: &[u8]) -> Option<NameId> {
+        if name.is_empty() {
+            return None;
+        }
+        if let Some(known) = self.find_name(name) {
+            return Some(known);
+        }
+        if self.dictionary.len() == self.sizes.dictionary {
+            return None;
+        }
+        let (name, binding) = (name.to_vec(), None);
+        self.dictionary.push(Entry { name, binding });
+        Some(self.dictionary.len() - 1)
     }
 
     /// The bytes that can still be written to the log.

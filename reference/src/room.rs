@@ -1,13 +1,13 @@
 //! Held objects and the room rule (01, Room).
 //!
 //! Held is the largest set of made objects each of which is named by a stack item, a binding, an
-//! execution slot or an element of an array in the set (R89): start from all objects, leave out
-//! what nothing names, repeat until nothing falls out.
+//! execution slot, a handler (02, W1) or an element of an array in the set (R89): start from all
+//! objects, leave out what nothing names, repeat until nothing falls out.
 //!
 //! Two shortcuts give the same set. An object once not held is never held again: a step copies only
-//! values from the stack, bindings, execution slots and elements of held arrays, and all these name
-//! held objects or ones that the step makes. So the start need not be all objects, but only the
-//! candidates: those held when held was last worked out, and those made since. And instead of
+//! values from the stack, bindings, execution slots, handlers and elements of held arrays, and all
+//! these name held objects or ones that the step makes. So the start need not be all objects, but
+//! only the candidates: those held when held was last worked out, and those made since. And instead of
 //! looking for names again after each object that falls out, the places that name each object are
 //! counted once, and the elements of what falls out are taken off the counts.
 
@@ -87,7 +87,11 @@ impl Machine {
             .iter()
             .filter_map(|entry| entry.binding?.object());
         let slots = self.frames.iter().filter_map(|frame| frame.object());
-        for id in items.chain(bindings).chain(slots) {
+        let handlers = self
+            .handlers
+            .iter()
+            .filter_map(|handler| (*handler)?.object());
+        for id in items.chain(bindings).chain(slots).chain(handlers) {
             counts[id] += 1;
         }
         for &id in &self.room.candidates {

@@ -62,14 +62,35 @@ fn step(machine: &mut Machine, script: &[u8]) -> Option<Ending> {
     match checked {
         Err(Failure::Fault(fault)) => return Some(Ending::Misread(fault)),
         Err(Failure::Error(error)) => {
-            let command = change.command;
-            return Some(Ending::Error { error, command });
+            let (next, command) = (change.next, change.command);
+            return fail(machine, error, next, command);
         }
         Ok(()) => {}
     }
     let stops = change.stops;
     change.apply(machine);
     stops.then_some(Ending::Stopped)
+}
+
+/// A step has failed (02, W1): "the stack stays as it was before the step, the script token,
+/// object or repetition that failed counts as taken, both names are stored, and the handler
+/// becomes pending". Without a handler, or "with no execution slot free" for it, the run ends.
+fn fail(machine: &mut Machine, error: Error, next: usize, command: Vec<u8>) -> Option<Ending> {
+    let below = machine.frames.len().saturating_sub(1);
+    let left = machine.frames.last().and_then(|top| top.passed());
+    let is_free = below + usize::from(left.is_some()) < machine.sizes.exec;
+    let Some(handler) = machine.handler(error).filter(|_| is_free) else {
+        machine.meet_unhandled(error);
+        return Some(Ending::Error { error, command });
+    };
+    machine.meet_handled(error, &command);
+    machine.next = next;
+    machine.frames.truncate(below);
+    machine.frames.extend(left);
+    machine.frames.push(Frame::Pending(handler));
+    machine.latest.errorname = machine.note(error.name().as_bytes());
+    machine.latest.command = machine.note(&command);
+    None
 }
 
 /// Acts once on the top of the execution stack, which goes unless it enters again.

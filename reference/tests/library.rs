@@ -17,7 +17,7 @@ fn a_run_gives_its_final_state() {
     };
     assert_eq!(log, b"x");
     assert_eq!((machine.stack.len(), machine.frames.len()), (2, 0));
-    assert_eq!((machine.store.len(), machine.dictionary.len()), (2, 58));
+    assert_eq!((machine.store.len(), machine.dictionary.len()), (2, 61));
 }
 
 #[test]

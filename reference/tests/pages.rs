@@ -6,7 +6,7 @@ use std::collections::BTreeSet;
 use floo_reference::corpus::{
     read_all, read_pages, read_scripts, repository, spans, Case, Page, Question, Row,
 };
-use floo_reference::error::Error;
+use floo_reference::error;
 use floo_reference::machine::Machine;
 use floo_reference::operators;
 use floo_reference::setup::PREDEFINED_NAMES;
@@ -29,15 +29,6 @@ const ORDER: [&str; 12] = [
     "stackoverflow",
     "VMerror",
     "ioerror",
-];
-
-/// The five parts of syntaxerror (02, W4).
-const FAULTS: [&str; 5] = [
-    "badnumber",
-    "badescape",
-    "openstring",
-    "badbrace",
-    "badbyte",
 ];
 
 fn pages() -> Vec<Page> {
@@ -238,11 +229,7 @@ fn the_glossary_has_every_error() {
         .collect();
     listed.sort();
     listed.dedup();
-    let mut names: Vec<&str> = every_error()
-        .map(Error::name)
-        .into_iter()
-        .chain(FAULTS)
-        .collect();
+    let mut names = error::NAMES;
     names.sort();
     assert_eq!(listed, names);
     let examples = examples();
@@ -254,22 +241,6 @@ fn the_glossary_has_every_error() {
         };
         assert!(examples.iter().any(ends), "no example ends with {name}");
     }
-}
-
-fn every_error() -> [Error; 11] {
-    [
-        Error::Undefined,
-        Error::Stackunderflow,
-        Error::Typecheck,
-        Error::Rangecheck,
-        Error::Undefinedresult,
-        Error::Unmatchedmark,
-        Error::Limitcheck,
-        Error::Execstackoverflow,
-        Error::Stackoverflow,
-        Error::VMerror,
-        Error::Ioerror,
-    ]
 }
 
 /// What the comparison accepts, and what it does not.

@@ -30,7 +30,11 @@ via lim μ μ₁ f g q store named =
 
 -- What the places name, by the slots.
 abbrev by : Machine → List ℕ → List ℕ
-by μ named = gather ofValue (μ .stack) ++ gather (λ (s : Slot). ofBinding (s .binding)) (μ .dictionary) ++ named
+by μ named =
+    gather ofValue (μ .stack)
+    ++ gather (λ (s : Slot). ofBinding (s .binding)) (μ .dictionary)
+    ++ named
+    ++ gather (λ (s : Slot). ofBinding (s .binding)) (μ .handlers)
 
 module _ (μ : Machine) {fs : List Frame} where
   -- A pending value that names no object is dropped.

@@ -103,6 +103,7 @@ module _ {m : Machine} {e c : List ℕ} {r : Command} (some : 1 ≤ m .frames) w
         says = λ script s d l μ R.
             let h : m .frames ≡ suc (m .frames - 1) = omega (arith, some) in
             of-value script C (waiting-handed R (m .frames - 1) h kind) (waits R (m .frames - 1) h kind .2 .stands);
+        stays = C .stays;
       }
 
   pub element-says : {t p : ℕ}
@@ -121,6 +122,7 @@ module _ {m : Machine} {e c : List ℕ} {r : Command} (some : 1 ≤ m .frames) w
             let stands : Stands (keys μ) (texts μ) (R .world .ρ) (element (μ .store) (x .0) (x .1)) t p =
             rw (t-is, p-is) (element-words R (m .frames - 1) h (x .0) (x .1) (x .2) left .stands) in
             of-value script C (element-handed R (m .frames - 1) h (x .0) (x .1) (x .2) left) stands;
+        stays = C .stays;
       }
 
 module _ {m : Machine} {e c : List ℕ} (some : 1 ≤ m .frames) where
@@ -132,6 +134,7 @@ module _ {m : Machine} {e c : List ℕ} (some : 1 ≤ m .frames) where
             let h : m .frames ≡ suc (m .frames - 1) = omega (arith, some) in
             let x = run-at R (m .frames - 1) h kind in
             (sym (ended-handed R (m .frames - 1) h (x .0) (x .1) (x .2) none-left), tt);
+        stays = λ n. refl;
       }
 
   pub loop-says : (frameKind e (m .frames - 1) ≡ 0 → ⊥) → (frameKind e (m .frames - 1) ≡ 1 → ⊥) → Commands m e c Nothing
@@ -139,4 +142,5 @@ module _ {m : Machine} {e c : List ℕ} (some : 1 ≤ m .frames) where
   loop-says x y =
       record {
         says = λ script s d l μ R. (sym (loop-handed R (m .frames - 1) (omega (arith, some)) x y), tt);
+        stays = λ n. refl;
       }

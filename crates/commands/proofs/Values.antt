@@ -1,14 +1,13 @@
 -- The command that a value is, by its tag.
 -- Assumes nothing.
 use mathlib.Core.Path.{_≡_, refl, sym, ap, _∙_, subst}
-use mathlib.Core.Bool.{Bool, true}
+use mathlib.Core.Bool.{Bool}
 use mathlib.Core.List.{List, []}
 use mathlib.Core.Option.{some}
 use Prim.Native.Nat.{ℕ, _<_}
 use lib.ListN.{getElem?}
 use Rattle.semantics.specs.Sizes.{operatorCount}
 use Rattle.semantics.specs.Values.{Value}
-use Rattle.semantics.specs.Printing.{nameText}
 use Rattle.semantics.specs.Steps.{commandOf}
 use Rattle.semantics.specs.ListLaws.{getD-known, inside-list}
 use Rattle.store.specs.Rep.{Stands, a-null, an-integer, a-boolean, a-mark, an-operator, a-literal, an-executable, a-string, an-array, a-procedure, titles}
@@ -50,6 +49,7 @@ module _ {t p : ℕ} where
         says = λ script names texts ρ v s.
             let w = is-operator s four in
             (getD-known titles p [] (w .2) ∙ sym (ap commandOf (w .1)), operator-number p (w .2));
+        stays = λ n. refl;
       }
 
   pub name-command : t ≡ 6 → CommandIs t p (Name p)
@@ -58,9 +58,10 @@ module _ {t p : ℕ} where
       record {
         says = λ script names texts ρ v s.
             let w = is-executable s six in
-            (ap (nameText true) (getD-known names p [] (w .2)) ∙ sym (ap commandOf (w .1)), inside-list names p (w .2));
+            (getD-known names p [] (w .2) ∙ sym (ap commandOf (w .1)), inside-list names p (w .2));
+        stays = λ n. refl;
       }
 
   pub no-command : (t ≡ 4 → ⊥) → (t ≡ 6 → ⊥) → CommandIs t p Nothing
   unfolding commandText
-  no-command o n = record { says = λ script names texts ρ v s. (nothing-said s o n, tt) }
+  no-command o n = record { says = λ script names texts ρ v s. (nothing-said s o n, tt); stays = λ n. refl }

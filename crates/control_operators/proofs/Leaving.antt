@@ -3,7 +3,7 @@
 use mathlib.Core.Path.{_≡_, refl, sym, ap, _∙_, subst}
 use mathlib.Core.Bool.{true}
 use mathlib.Core.List.{List, [], _∷_}
-use Prim.Native.Nat.{ℕ, zero, suc, _+_, _-_, _/_, _%_, _≤_, _<_}
+use Prim.Native.Nat.{ℕ, zero, suc, _+_, _-_, _≤_, _<_}
 use native.Mathlib.Omega.{arith}
 use lib.ListN.{drop, drop-of-length-le}
 use lib.Seq.{drop-drop}
@@ -18,13 +18,14 @@ use Rattle.heap.specs.Shape.{Ghost}
 use Rattle.store.specs.Rep.{Names}
 use Rattle.store.proofs.Rooting.{rep-alike}
 use Rattle.machine.specs.Words.{frameKind}
-use Rattle.machine.specs.Places.{rootIn, roots}
+use Rattle.machine.specs.Places.{roots}
 use Rattle.machine.specs.Rep.{Rep, FrameIs, a-pending, a-running, a-looping, a-repeating, a-counting, a-past, Frames, frame}
 use Rattle.machine.specs.Room.{lent, fitted}
 use Rattle.machine.specs.declared.Machine.{Machine}
 use Rattle.machine.specs.declared.Did.{Did}
 use Rattle.machine.specs.declared.Did.the-variants.{Ok, Fail}
 use Rattle.machine.proofs.Rooms.{frames-length}
+use Rattle.machine.proofs.Roots.{roots-alike}
 use Rattle.machine.specs.FrameMoves.{MovesFrames, frameDropped}
 use Rattle.control_operators.specs.Promises.{DoesState, DoesCells, FindsLoop, cutBy}
 use Rattle.control_operators.proofs.Promising.{fit-ok}
@@ -36,14 +37,8 @@ abbrev halted : Machine → Machine
 halted m = record { depth = m .depth; frames = m .frames; names = m .names; written = m .written; lists = m .lists; stopped = true }
 
 same-roots : (μ : Floo.Machine) (r : ℕ) → roots (halt μ) r ≡ roots μ r
-unfolding roots rootIn halt
-same-roots μ r = by (r % 4) (r / 4)
-  where
-    by : (k i : ℕ) → rootIn (halt μ) k i ≡ rootIn μ k i
-    by zero i = refl
-    by (suc zero) i = refl
-    by (suc (suc zero)) i = refl
-    by (suc (suc (suc k))) i = refl
+unfolding halt
+same-roots μ r = roots-alike μ (halt μ) refl refl refl refl r
 
 halt-rep : {m : Machine} {s e d c l : List ℕ} {μ : Floo.Machine} → Rep m s e d c l μ → Rep (halted m) s e d c l (halt μ)
 unfolding halt
@@ -59,6 +54,7 @@ halt-rep {μ = μ} R =
       items = R .items;
       frames = R .frames;
       slots = R .slots;
+      handled = R .handled;
       naming = R .naming;
       logging = R .logging;
       stopped = refl;

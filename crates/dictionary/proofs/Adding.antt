@@ -7,7 +7,7 @@ use mathlib.Core.Logic.{_⊎_, inl, inr, ⊎-elim}
 use mathlib.Core.Option.{none, some}
 use Prim.Native.Nat.{ℕ, zero, suc, _+_, _*_, _/_, _%_, _≤_, _<_}
 use native.Mathlib.Omega.{arith}
-use lib.ListN.{length, getD, take, set, getElem?, length-append, length-take, length-set}
+use lib.ListN.{length, getD, take, set, getElem?, length-append, length-set}
 use lib.Seq.{getD-set-same, getD-set-other}
 use Rattle.semantics.specs.Sizes.{operatorCount, nameMost, dictionaryWordsMost}
 use Rattle.semantics.specs.Values.{Value}
@@ -18,17 +18,20 @@ use Rattle.store.specs.Rep as Store
 use Rattle.store.specs.Rep.{Names, Stands, byteOf}
 use Rattle.store.proofs.Fresh.{rep-keys}
 use Rattle.store.proofs.Rooting.{rep-alike}
-use Rattle.store.proofs.Standing.{stands-keys, titles-count}
+use Rattle.store.proofs.Standing.{stands-keys, getElem?-append}
 use Rattle.machine.specs.Words.{bindingTag, bindingPayload}
-use Rattle.machine.specs.Places.{frameValue, bindingAt, bound, rootIn, roots, rootCount, keys, texts, Distinct}
+use Rattle.semantics.specs.NameLaws.{Distinct}
+use Rattle.machine.specs.Places.{frameValue, bindingAt, bound, rootIn, roots, rootCount, keys, texts}
 use Rattle.machine.specs.Rep as Words
-use Rattle.machine.specs.Rep.{Rep, Stored, Is, IsIn, Bound, Slots, SlotIs}
+use Rattle.machine.specs.Rep.{Rep, Stored, Is, IsIn, Bound, Slots, SlotIs, Handled}
 use Rattle.machine.specs.declared.Machine.{Machine}
-use Rattle.machine.proofs.Carrying.{Reached, items-map, slots-map, frames-map}
+use Rattle.machine.proofs.Carrying.{Reached, items-map, slots-map, handled-map, handled-kept, frames-map}
+use Rattle.machine.proofs.Rooms.{keys-enough, names-enough}
 use Rattle.dictionary.specs.Names.{slotOf, Kept, Adds}
 use Rattle.dictionary.specs.Packing.{Spells}
 use Rattle.dictionary.proofs.Slots.{slots-frame, slots-more}
-use Rattle.dictionary.proofs.Dictionaries.{keysOf, Absent, absent, slotted-absent, no-key}
+use Rattle.semantics.specs.SlotLaws.{keysOf, Absent, slotted-absent, no-key}
+use Rattle.dictionary.proofs.Dictionaries.{absent}
 
 -- ---- words past the names
 
@@ -45,6 +48,7 @@ kept-rep {m} R fits few K =
       items = R .items;
       frames = R .frames;
       slots = slots-frame (λ j l. K .below j (omega (arith, R .naming .many))) (R .slots);
+      handled = handled-kept _ _ (λ i a b. K .below i (omega (arith, names-enough R))) (λ k n q. q) (R .handled);
       naming = R .naming;
       logging = R .logging;
       stopped = R .stopped;
@@ -120,7 +124,8 @@ roots-same μ d h r = by (r % 4)
     by zero = refl
     by (suc zero) = refl
     by (suc (suc zero)) = h (r / 4)
-    by (suc (suc (suc k))) = refl
+    by (suc (suc (suc zero))) = refl
+    by (suc (suc (suc (suc k)))) = refl
 
 anything : (v : Value) → Reached (λ i. Unit {0}) v
 anything v = record { reach = λ i n. tt }
@@ -146,9 +151,6 @@ module _ {m : Machine} {s e d c l : List ℕ} {μ : Floo.Machine} (R : Rep m s e
   carry v t p q h =
       record { stands = subst (λ ks. Stands ks (texts μ) (R .world .ρ) v t p) (sym more) (stands-keys (n ∷ []) (h .stands)); alive = h .alive }
 
-  enough : operatorCount ≤ length (keys μ)
-  enough = omega (arith, ap length (R .naming .titled), titles-count, length-take operatorCount (keys μ))
-
   slot-new : SlotIs Now d′ (0 + length (μ .dictionary)) unbound
   slot-new =
       let at : m .names ≡ 0 + length (μ .dictionary) = omega (arith, R .naming .many) in
@@ -160,6 +162,12 @@ module _ {m : Machine} {s e d c l : List ℕ} {μ : Floo.Machine} (R : Rep m s e
       slots-more
       (slots-frame (λ j x. W .below j (omega (arith, R .naming .many))) (slots-map carry (all-of (λ (t : Slot). anything (bound (t .binding))) (μ .dictionary)) (R .slots)))
       slot-new
+
+  handled-new : Handled Now (keysOf dictionary) d′ (μ .handlers) (μ .latest)
+  handled-new =
+      handled-kept d d′ (λ i a b. W .below i (omega (arith, names-enough R)))
+      (λ k x q. ap (λ ks. getElem? ks k) more ∙ getElem?-append (keys μ) (n ∷ []) k x q)
+      (handled-map carry (all-of (λ (t : Slot). anything (bound (t .binding))) (μ .handlers)) (R .handled))
 
   stored-new : Stored (R .world) (m .lists) c (keysOf dictionary) (μ .store) (roots (withDictionary dictionary μ))
   stored-new =
@@ -181,9 +189,10 @@ module _ {m : Machine} {s e d c l : List ℕ} {μ : Floo.Machine} (R : Rep m s e
         items = items-map carry (all-of anything (μ .stack)) (R .items);
         frames = frames-map carry (λ i t p w. refl) (λ i t p a r q h o. o) (all-of (λ f. anything (frameValue f)) (μ .exec)) (R .frames);
         slots = slots-new;
+        handled = handled-new;
         naming = record {
           many = omega (arith, R .naming .many, length-append (μ .dictionary) (unbound ∷ []));
-          titled = ap (take operatorCount) more ∙ take-more operatorCount (keys μ) (n ∷ []) enough ∙ R .naming .titled;
+          titled = ap (take operatorCount) more ∙ take-more operatorCount (keys μ) (n ∷ []) (keys-enough R) ∙ R .naming .titled;
           distinct = subst Distinct (sym more) (distinct-more (keys μ) n (R .naming .distinct) (no-key n nowhere));
         };
         logging = R .logging;

@@ -1,6 +1,7 @@
 -- The first slot whose words agree with the packed name is the name's slot: words agree just where the names are the same.
 -- Assumes nothing.
-use mathlib.Core.Path.{_≡_, refl, sym, ap, _∙_}
+use mathlib.Core.Path.{_≡_, refl, sym, ap, _∙_, subst}
+use mathlib.Core.Bool.{Bool, true, false}
 use mathlib.Core.List.{List, _∷_}
 use mathlib.Core.Logic.{⊎-elim}
 use Prim.Native.Nat.{ℕ, suc, _+_, _*_, _/_, _%_, _≤_, _<_}
@@ -13,11 +14,13 @@ use Rattle.semantics.specs.Values.{Value}
 use Rattle.semantics.specs.Machine.{Slot}
 use Rattle.heap.proofs.Since.{lt-or-le}
 use Rattle.store.specs.Rep.{byteOf}
-use Rattle.machine.specs.Rep.{SlotIs, Slots, end, slot}
+use Rattle.machine.specs.Rep.{IsIn, SlotIs, Slots, end, slot}
 use Rattle.machine.specs.declared.Machine.{Machine}
 use Rattle.dictionary.specs.Names.{slotOf, Finds}
-use Rattle.dictionary.specs.Packing.{Packs, Agrees, First}
-use Rattle.dictionary.proofs.Dictionaries.{Compared, yes, no, compare}
+use Rattle.dictionary.specs.Packing.{Packs, Agrees, Tells, First}
+use Rattle.dictionary.specs.Listing.{IsNamed}
+use Rattle.dictionary.proofs.Slots.{slot-at}
+use Rattle.semantics.specs.SlotLaws.{Compared, yes, no, compare, sits, element-sits}
 
 spelt : {n d₀ w : List ℕ} → Packs 8 n 0 d₀ w → (j : ℕ) → j < 32 → byteOf (getD w (j / 4) 0) (j % 4) ≡ getD n j 0
 spelt {w = w} P j l =
@@ -79,3 +82,25 @@ finds {r = r} short P F low =
           let q = first-slot short P r (R .slots) (omega arith) (omega (arith, R .naming .many)) (F .before) (λ x. F .here (omega (arith, R .naming .many))) in
           omega (arith, q);
     }
+
+-- ---- the name of one slot
+
+pub tells-named : {d n d₀ w : List ℕ} {k : ℕ} (r : Bool)
+    → length n ≤ nameMost
+    → Packs 8 n 0 d₀ w
+    → Tells (Agrees d (12 * k) (length n) w) r
+    → IsNamed d k n r
+tells-named {d} {n} {d₀} {w} {k} r short P T =
+    record {
+      says = λ m s e c l μ R x key.
+          let at = sits x (μ .dictionary) k (R .naming .distinct) key .1 in
+          let here : 0 + k ≡ k = omega arith in
+          let S = subst (λ i. SlotIs (IsIn (R .world) μ) d i (sits x (μ .dictionary) k (R .naming .distinct) key .0)) here (slot-at k (element-sits x at .0) (R .slots)) in
+          by r T (λ A. same-name short P S A ∙ element-sits x at .1) (λ e. other-name short P S (e ∙ sym (element-sits x at .1))) (compare n x);
+    }
+  where
+    by : {x : List ℕ} (t : Bool) → Tells (Agrees d (12 * k) (length n) w) t → (Agrees d (12 * k) (length n) w → n ≡ x) → (n ≡ x → Agrees d (12 * k) (length n) w) → Compared n x (same n x) → t ≡ same n x
+    by true A to from (yes q e) = sym q
+    by true A to from (no q f) = absurd (f (to A))
+    by false A to from (yes q e) = absurd (A (from e))
+    by false A to from (no q f) = sym q

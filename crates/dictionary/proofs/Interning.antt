@@ -13,7 +13,7 @@ use Rattle.machine.specs.Rep.{Rep}
 use Rattle.machine.specs.Room.{lent}
 use Rattle.machine.specs.declared.Machine.{Machine}
 use Rattle.dictionary.specs.Names.{slotOf, Finds}
-use Rattle.dictionary.proofs.Dictionaries.{keysOf}
+use Rattle.semantics.specs.SlotLaws.{keysOf}
 use Rattle.dictionary.proofs.Lookups.{found-key as found-slot, slotted-found, slotted-missing, slotted-slot, slotted-has}
 
 -- ---- by what `find` finds

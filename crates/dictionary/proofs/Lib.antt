@@ -2,6 +2,7 @@ pub mod Spelling
 pub mod Dictionaries
 pub mod Slots
 pub mod Finding
+pub mod Blanks
 pub mod Adding
 pub mod Rebinding
 pub mod Lookups

@@ -20,7 +20,8 @@ use Rattle.machine.specs.Places.{keys}
 use Rattle.machine.specs.Rep.{Rep}
 use Rattle.machine.specs.declared.Machine.{Machine}
 use Rattle.dictionary.specs.Names.{slotOf, Finds}
-use Rattle.dictionary.proofs.Dictionaries.{keysOf, Compared, yes, no, compare, Sits, here, there, Absent, nil, cons, slot-sits, element-sits, absent, slotted-absent}
+use Rattle.semantics.specs.SlotLaws.{keysOf, Compared, yes, no, compare, Sits, here, there, element-sits, slotted-absent, key-sits, slotted-sits, lookup-absent}
+use Rattle.dictionary.proofs.Dictionaries.{slot-sits, absent}
 
 module _ (n : List ℕ) where
   -- ---- a name that has a slot
@@ -42,20 +43,11 @@ module _ (n : List ℕ) where
           let x = r (omega arith) in
           (x .0, subst (λ i. Sits n (t ∷ d) i (x .0)) is (there q (x .1)))
 
-  key-sits : {d : List Slot} {i : ℕ} {s : Slot} → Sits n d i s → getElem? (keysOf d) i ≡ some n
-  key-sits (here q e) = ap some e
-  key-sits (there q r) = key-sits r
-
   pub found-key : (d : List Slot) → slotOf n d < length d → getElem? (keysOf d) (slotOf n d) ≡ some n
-  found-key d l = key-sits (found d l .1)
-
-  slotted-sits : {d : List Slot} {i : ℕ} {s : Slot} → Sits n d i s → slotted n d ≡ d
-  unfolding slotted
-  slotted-sits (here q e) = rw (q, slotted) refl
-  slotted-sits (there {t = t} q r) = rw (q, slotted) (ap (λ x. t ∷ x) (slotted-sits r))
+  found-key d l = key-sits n (found d l .1)
 
   pub slotted-found : (d : List Slot) → slotOf n d < length d → slotted n d ≡ d
-  slotted-found d l = slotted-sits (found d l .1)
+  slotted-found d l = slotted-sits n (found d l .1)
 
   -- ---- a name that has none
 
@@ -72,13 +64,8 @@ module _ (n : List ℕ) where
           let is : suc (slotOf n d) ≡ slotOf n (t ∷ d) = rw (q, slotOf) refl in
           omega arith
 
-  lookup-absent : {d : List Slot} → Absent n d → lookup n d ≡ none
-  unfolding lookup
-  lookup-absent nil = refl
-  lookup-absent (cons q e r) = rw (q, lookup) (lookup-absent r)
-
   pub lookup-missing : (d : List Slot) → slotOf n d ≡ length d → lookup n d ≡ none
-  lookup-missing d q = lookup-absent (absent n d q)
+  lookup-missing d q = lookup-absent n (absent n d q)
 
   pub slotted-missing : (d : List Slot) → slotOf n d ≡ length d → length (slotted n d) ≡ length d + 1
   slotted-missing d q = ap length (slotted-absent n (absent n d q)) ∙ length-append d (record { key = n; binding = none } ∷ [])

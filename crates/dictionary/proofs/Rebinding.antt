@@ -2,10 +2,10 @@
 -- copy of an item. What names nothing is one to `recount`, an unbound name as null.
 -- Assumes nothing.
 use mathlib.Core.Path.{_≡_, refl, sym, ap, _∙_, subst}
-use mathlib.Core.Bool.{false}
+use mathlib.Core.Bool.{Bool, false}
 use mathlib.Core.List.{List, [], _∷_}
 use mathlib.Core.Logic.{⊎-elim}
-use mathlib.Core.Option.{Option, some}
+use mathlib.Core.Option.{Option, none, some}
 use Prim.Native.Nat.{ℕ, zero, suc, _+_, _*_, _/_, _%_, _≤_, _<_}
 use native.Mathlib.Omega.{arith}
 use lib.ListN.{length, getD, set, getElem?, length-set}
@@ -13,9 +13,10 @@ use lib.Seq.{getD-set-same, getD-set-other}
 use Rattle.semantics.specs.Sizes.{nameMost, dictionaryWordsMost}
 use Rattle.semantics.specs.Values.{Value, null, name}
 use Rattle.semantics.specs.Machine as Floo
-use Rattle.semantics.specs.Machine.{Slot, withStack, withExec, withDictionary, lookup, assign}
+use Rattle.semantics.specs.Machine.{Slot, withStack, withExec, withDictionary, withHandlers, lookup, assign}
 use Rattle.semantics.specs.ListLaws.{none-some}
 use Rattle.store.specs.Rep.{byteOf, a-literal}
+use Rattle.store.proofs.Standing.{not-seven}
 use Rattle.heap.specs.Shape.{target}
 use Rattle.heap.specs.Upd.{upd}
 use Rattle.heap.specs.declared.Lists.{Lists}
@@ -24,19 +25,21 @@ use Rattle.heap.proofs.Upds.{same?, upd-at, upd-other}
 use Rattle.machine.specs.Words.{bindingTag, bindingPayload}
 use Rattle.machine.specs.Places as Places
 use Rattle.machine.specs.Places.{bindingAt, rootIn, roots, rootCount, keys}
-use Rattle.machine.specs.Rep.{Rep, World, IsIn, Bound, unbound, bound, SlotIs, Slots}
+use Rattle.machine.specs.Rep.{Rep, World, Is, IsIn, Bound, unbound, bound, SlotIs, Slots}
 use Rattle.machine.specs.Recount.{Placed, Recounts}
 use Rattle.machine.specs.declared.Machine.{Machine}
 use Rattle.machine.proofs.Dropping.{nothing}
 use Rattle.machine.proofs.Rerooting.{withDepths, placed, rerooted-all}
-use Rattle.machine.proofs.Roots.{binding-root}
+use Rattle.machine.proofs.Carrying.{handled-kept}
+use Rattle.machine.proofs.Roots.{binding-root, region-changed}
 use Rattle.dictionary.specs.Names.{slotOf}
 use Rattle.dictionary.proofs.Slots.{slot-at, slots-set}
-use Rattle.dictionary.proofs.Dictionaries.{Sits, sits, slot-sits, lookup-sits, assign-sits, element-sits, keys-set}
+use Rattle.semantics.specs.SlotLaws.{Sits, sits, lookup-sits, assign-sits, element-sits, keys-set}
+use Rattle.dictionary.proofs.Dictionaries.{slot-sits}
 
 -- ---- one binding changes
 
-binding-set : (d : List Slot) (k : ℕ) (s : Slot) → k < length d → (j : ℕ) → bindingAt (set d k s) j ≡ upd (bindingAt d) k (Places.bound (s .binding)) j
+pub binding-set : (d : List Slot) (k : ℕ) (s : Slot) → k < length d → (j : ℕ) → bindingAt (set d k s) j ≡ upd (bindingAt d) k (Places.bound (s .binding)) j
 unfolding bindingAt
 binding-set [] k s l j = absurd (omega arith)
 binding-set (t ∷ d) zero s l zero = sym (upd-at (bindingAt (t ∷ d)) 0 (Places.bound (s .binding)) 0 refl)
@@ -56,23 +59,17 @@ binding-changed : (μ : Floo.Machine) (d : List Slot) (k : ℕ) (v : Value)
     → ((j : ℕ) → bindingAt d j ≡ upd (bindingAt (μ .dictionary)) k v j)
     → (r : ℕ)
     → roots (withDictionary d μ) r ≡ upd (roots μ) (4 * k + 2) v r
-unfolding roots rootIn withDictionary
-binding-changed μ d k v h r = by (r % 4) refl
+unfolding rootIn withDictionary
+binding-changed μ d k v h r = region-changed μ (withDictionary d μ) 2 k v (omega arith) h other r
   where
-    by : (x : ℕ) → r % 4 ≡ x → rootIn (withDictionary d μ) x (r / 4) ≡ upd (roots μ) (4 * k + 2) v r
-    by zero q = sym (upd-other (roots μ) (4 * k + 2) v r (λ e. omega arith) ∙ ap (λ x. rootIn μ x (r / 4)) q)
-    by (suc zero) q = sym (upd-other (roots μ) (4 * k + 2) v r (λ e. omega arith) ∙ ap (λ x. rootIn μ x (r / 4)) q)
-    by (suc (suc zero)) q =
-        h (r / 4)
-        ∙ ⊎-elim
-        (λ (e : r / 4 ≡ k). upd-at (bindingAt (μ .dictionary)) k v (r / 4) e ∙ sym (upd-at (roots μ) (4 * k + 2) v r (omega arith)))
-        (λ (e : r / 4 ≡ k → ⊥).
-        upd-other (bindingAt (μ .dictionary)) k v (r / 4) e
-        ∙ sym (upd-other (roots μ) (4 * k + 2) v r (λ z. e (omega arith)) ∙ ap (λ x. rootIn μ x (r / 4)) q))
-        (same? (r / 4) k)
-    by (suc (suc (suc x))) q = sym (upd-other (roots μ) (4 * k + 2) v r (λ e. omega arith) ∙ ap (λ x. rootIn μ x (r / 4)) q)
+    other : (x i : ℕ) → (x ≡ 2 → ⊥) → rootIn (withDictionary d μ) x i ≡ rootIn μ x i
+    other zero i n = refl
+    other (suc zero) i n = refl
+    other (suc (suc zero)) i n = absurd (n refl)
+    other (suc (suc (suc zero))) i n = refl
+    other (suc (suc (suc (suc x)))) i n = refl
 
-binding-here : (d : List Slot) (k : ℕ) {s : Slot} → getElem? d k ≡ some s → bindingAt d k ≡ Places.bound (s .binding)
+pub binding-here : (d : List Slot) (k : ℕ) {s : Slot} → getElem? d k ≡ some s → bindingAt d k ≡ Places.bound (s .binding)
 unfolding bindingAt
 binding-here [] k e = absurd (none-some e)
 binding-here (t ∷ d) zero e = cc
@@ -81,11 +78,11 @@ binding-here (t ∷ d) (suc k) e = binding-here d k e
 -- ---- to `recount`, words that name the same are the same
 
 module _ {s : Lists} {c : List ℕ} {t p t′ p′ tag pay : ℕ} (alike : target 0 t p ≡ target 0 t′ p′) where
-  placed-alike : Placed s c t p tag pay → Placed s c t′ p′ tag pay
+  pub placed-alike : Placed s c t p tag pay → Placed s c t′ p′ tag pay
   placed-alike (P, g, x, L) =
       (P, g, x, record { full = L .full; none-dead = L .none-dead; alive = L .alive; root = L .root; inside = L .inside; holds = L .holds ∙ alike })
 
-  recounts-alike : {r : Lists} {c′ : List ℕ} → Recounts s c t′ p′ tag pay r c′ → Recounts s c t p tag pay r c′
+  pub recounts-alike : {r : Lists} {c′ : List ℕ} → Recounts s c t′ p′ tag pay r c′ → Recounts s c t p tag pay r c′
   recounts-alike K =
       record {
         none-dead = K .none-dead;
@@ -95,15 +92,15 @@ module _ {s : Lists} {c : List ℕ} {t p t′ p′ tag pay : ℕ} (alike : targe
       }
 
 -- Words of the binding's value that name what the binding's words name.
-record Valued (A : Value → ℕ → ℕ → Type 0) (v : Value) (t p : ℕ) : Type 0 where
+pub record Valued (A : Value → ℕ → ℕ → Type 0) (v : Value) (t p : ℕ) : Type 0 where
   pub tag : ℕ
   pub pay : ℕ
   pub is : A v tag pay
   pub alike : target 0 tag pay ≡ target 0 t p
 
-valued : {A : Value → ℕ → ℕ → Type 0} {o : Option Value} {t p : ℕ} → A null 0 0 → Bound A o t p → Valued A (Places.bound o) t p
-valued none unbound = record { tag = 0; pay = 0; is = none; alike = parts.no-object 0 0 0 refl (omega arith) ∙ sym (parts.no-object 0 7 _ refl (omega arith)) }
-valued {t = t} {p = p} none (bound h) = record { tag = t; pay = p; is = h; alike = refl }
+pub valued : {A : Value → ℕ → ℕ → Type 0} {o : Option Value} {t p : ℕ} → A null 0 0 → Bound A o t p → Valued A (Places.bound o) t p
+valued empty unbound = record { tag = 0; pay = 0; is = empty; alike = parts.no-object 0 0 0 refl (omega arith) ∙ sym (parts.no-object 0 7 _ refl (omega arith)) }
+valued {t = t} {p = p} empty (bound h) = record { tag = t; pay = p; is = h; alike = refl }
 
 -- ---- the slot of a name
 
@@ -121,6 +118,9 @@ module _ {m : Machine} {st e d c l : List ℕ} {μ : Floo.Machine} (R : Rep m st
   words =
       let place : 0 + k ≡ k = omega arith in
       subst (λ x. SlotIs (IsIn (R .world) μ) d x (at .0)) place (slot-at k (element-sits n (at .1) .0) (R .slots))
+
+  pub slot-size : getD d (12 * k) 0 ≡ length n
+  slot-size = words .size ∙ ap length (element-sits n (at .1) .1)
 
   -- The words of the binding stand for what is looked up, and the slot is the name's.
   pub binding-at : Bound (IsIn (R .world) μ) (lookup n (μ .dictionary)) (bindingTag d k) (bindingPayload d k) × (slotOf n (μ .dictionary) ≡ k)
@@ -187,16 +187,26 @@ module _ {m : Machine} {st e d c l : List ℕ} {μ : Floo.Machine} (R : Rep m st
     pub bind-rep : {s′ : Lists} {c′ : List ℕ}
         → Recounts (m .lists) c (bindingTag d k) (bindingPayload d k) t p s′ c′
         → Rep (withDepths (m .depth) (m .frames) s′ m) st e words-after c′ l (withDictionary (assign n v (μ .dictionary)) μ)
-    unfolding withExec withStack withDictionary
+    unfolding withExec withStack withDictionary withHandlers
     bind-rep {s′} {c′} K =
         subst (λ x. Rep (withDepths (m .depth) (m .frames) s′ m) st e words-after c′ l (withDictionary x μ)) (sym (assign-sits n v (at .1)))
-        (rerooted-all R (4 * k + 2) low held new (recounts-alike (old .alike) K) (μ .stack) (μ .exec) (set (μ .dictionary) k slot-after)
+        (rerooted-all R (4 * k + 2) low held new (recounts-alike (old .alike) K) (μ .stack) (μ .exec) (set (μ .dictionary) k slot-after) (μ .handlers)
         (keys-set n (some v) (at .1))
         (binding-changed μ (set (μ .dictionary) k slot-after) k v (binding-set (μ .dictionary) k slot-after (element-sits n (at .1) .2)))
-        refl refl after-long (R .rooms .stack-fits) (R .rooms .exec-fits) (R .items) (R .frames) all-slots)
+        refl refl after-long (R .rooms .stack-fits) (R .rooms .exec-fits) (R .items) (R .frames) all-slots
+        (handled-kept d words-after (λ i a b. elsewhere i (λ q. omega arith) (λ q. omega arith)) (λ j x q. q) (R .handled)))
+
+-- Whether there is a binding, by its tag.
+pub bound-none : {w : World} {names : List (List ℕ)} {strings : List Bool} {o : Option Value} {t p : ℕ} → Bound (Is w names strings) o t p → t ≡ 7 → o ≡ none
+bound-none unbound q = refl
+bound-none (bound h) q = absurd (not-seven (h .stands) q)
+
+pub bound-some : {A : Value → ℕ → ℕ → Type 0} {o : Option Value} {t p : ℕ} → Bound A o t p → (t ≡ 7 → ⊥) → (v : Value) × (o ≡ some v)
+bound-some unbound n = absurd (n refl)
+bound-some (bound {v = v} h) n = (v, refl)
 
 -- The value that a bound name's words stand for.
-bound-is : {A : Value → ℕ → ℕ → Type 0} {o : Option Value} {v : Value} {t p : ℕ} → Bound A o t p → o ≡ some v → A v t p
+pub bound-is : {A : Value → ℕ → ℕ → Type 0} {o : Option Value} {v : Value} {t p : ℕ} → Bound A o t p → o ≡ some v → A v t p
 bound-is {A} {v = v} {t = t} {p = p} (bound {v = u} h) e =
     let same : u ≡ v = cc in
     subst (λ x. A x t p) same h

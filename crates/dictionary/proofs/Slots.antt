@@ -38,6 +38,14 @@ module _ {Is : Value → ℕ → ℕ → Type 0} where
   slots-frame f end = end
   slots-frame f (slot S r) = slot (slot-same (λ j a b. f j (omega arith)) S) (slots-frame (λ j l. f j (omega arith)) r)
 
+  -- Nor are the words after the bindings.
+  pub slots-words : {words other : List ℕ} {k : ℕ} {d : List Slot}
+      → ((j : ℕ) → (j % 12 ≡ 11 → ⊥) → getD other j 0 ≡ getD words j 0)
+      → Slots Is words k d
+      → Slots Is other k d
+  slots-words f end = end
+  slots-words f (slot S r) = slot (slot-same (λ j a b. f j (λ q. omega arith)) S) (slots-words f r)
+
   pub slot-at : {words : List ℕ} {k : ℕ} {d : List Slot} (i : ℕ) {s : Slot} → getElem? d i ≡ some s → Slots Is words k d → SlotIs Is words (k + i) s
   slot-at i e end = absurd (none-some e)
   slot-at {words} {k} zero {s} e (slot {s = t} S r) =

@@ -6,6 +6,7 @@ ghost use lib.ListN.{length, getD};
 ghost use Rattle.machine.specs.Words.{bindingTag, bindingPayload};
 ghost use Rattle.semantics.specs.Sizes.{nameMost, dictionaryWordsMost};
 ghost use Rattle.dictionary.specs.Names.{Finds, Adds};
+ghost use Rattle.dictionary.specs.Listing.{Ends, IsNamed};
 ghost use Rattle.dictionary.specs.Packing.{Packs, Spells, Agrees, Tells, First, Bytes};
 ghost use Rattle.dictionary.specs.Bindings.{BoundItems, BoundFrames, NamedItems, LoadsBinding, PendsBinding, BindsItem, NamedStack, PutsName};
 use frames::PENDING;
@@ -180,6 +181,32 @@ pub fn binding_payload(dict: &[u32], slot: usize) -> u32
     ensures { λ r. ⌜ r ≡ bindingPayload (now (dict .entry)) slot ⌝ }
 {
     dict[DICTIONARY_WIDTH * slot + BINDING_PAYLOAD]
+}
+
+// Whether the slot has this name.
+// Ruled out: a name taken for a longer one that starts like it.
+pub fn is_named(dict: &[u32], slot: usize, name: &[u8]) -> bool
+    requires { ⌜ (length (now name) ≤ nameMost) × (12 * slot + 12 ≤ length (now dict)) × (length (now dict) ≤ dictionaryWordsMost) ⌝ }
+    ensures { λ r. ⌜ IsNamed (now (dict .entry)) slot (now (name .entry)) r ⌝ }
+{
+    let mut words = [0u32; 8];
+    pack(name, &mut words, 0);
+    agrees(dict, DICTIONARY_WIDTH * slot, name.len() as u32, &words)
+}
+
+// The place of the next blank in a list of names; the end where there is none.
+pub fn blank_from(list: &[u8], at: usize) -> usize
+    requires { ⌜ at ≤ length (now list) ⌝ }
+    ensures { λ r. ⌜ Ends (now (list .entry)) at r ⌝ }
+{
+    let mut end = at;
+    while end < list.len() {
+        if list[end] == b' ' {
+            return end;
+        }
+        end = end + 1;
+    }
+    end
 }
 
 // The first of n slots that has this size and these words; n where none has.

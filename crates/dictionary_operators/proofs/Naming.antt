@@ -4,32 +4,28 @@
 use mathlib.Core.Path.{_≡_, refl, sym, ap, _∙_}
 use mathlib.Core.Bool.{Bool, false}
 use mathlib.Core.List.{List, _∷_}
-use mathlib.Core.Option.{Option, none, some}
+use mathlib.Core.Option.{none, some}
 use Prim.Native.Nat.{ℕ, suc, _+_, _≤_, _<_}
 use native.Mathlib.Omega.{arith}
 use lib.ListN.{length, getD, drop, set, getElem?}
 use Rattle.semantics.specs.Text.{bytes, textual}
-use Rattle.semantics.specs.Values.{Value, name, null, ok, fault, _>>=_, given, literalName}
+use Rattle.semantics.specs.Values.{Value, Result, name, null, ok, fault, _>>=_, given, literalName}
 use Rattle.semantics.specs.Machine as Floo
-use Rattle.semantics.specs.Machine.{withStack, withDictionary, push, lookup, assign}
+use Rattle.semantics.specs.Machine.{withStack, withDictionary, push, pop2, lookup, assign}
 use Rattle.semantics.specs.Operators.{perform, find, table, _is_}
 use Rattle.semantics.specs.ControlOperators.{def, load}
 use Rattle.semantics.specs.declared.Error.the-variants.{StackUnderflow, TypeCheck, Undefined}
 use Rattle.store.specs.Rep.{Stands, a-null, an-integer, a-boolean, a-mark, an-operator, a-literal, an-executable, a-string, an-array, a-procedure}
-use Rattle.store.proofs.Standing.{is-literal, not-seven}
+use Rattle.store.proofs.Standing.{is-literal}
 use Rattle.machine.specs.Words.{itemTag, itemPayload, bindingTag}
 use Rattle.machine.specs.Places.{keys}
-use Rattle.machine.specs.Rep.{Rep, Bound, unbound, bound}
+use Rattle.machine.specs.Rep.{Rep, bound}
 use Rattle.machine.specs.Moves.{dropped}
 use Rattle.machine.specs.declared.Machine.{Machine}
 use Rattle.machine.proofs.Copying.{word-of}
 use Rattle.machine.proofs.Operands.{pop1-some, pop2-some, pop1-under, pop2-under}
 use Rattle.machine.proofs.Outcomes.{stack-depth, first-item, two-items}
-use Rattle.dictionary.proofs.Rebinding.{binding-at}
-
-pub def-is : (μ : Floo.Machine) → perform (bytes "def") μ ≡ def μ
-unfolding textual perform find table _is_
-def-is μ = refl
+use Rattle.dictionary.proofs.Rebinding.{binding-at, bound-none, bound-some}
 
 pub load-is : (μ : Floo.Machine) → perform (bytes "load") μ ≡ load μ
 unfolding textual perform find table _is_
@@ -67,54 +63,75 @@ module _ {m : Machine} {s e d c l : List ℕ} {μ : Floo.Machine} (R : Rep m s e
 
 -- ---- whether a name is bound
 
-bound-none : {A : Value → ℕ → ℕ → Type 0} {o : Option Value} {t p : ℕ}
-    → ((v : Value) (t p : ℕ) → A v t p → t ≡ 7 → ⊥)
-    → Bound A o t p
-    → t ≡ 7
-    → o ≡ none
-bound-none f unbound q = refl
-bound-none f (bound {v = v} {t = t} {p = p} h) q = absurd (f v t p h q)
-
-bound-some : {A : Value → ℕ → ℕ → Type 0} {o : Option Value} {t p : ℕ} → Bound A o t p → (t ≡ 7 → ⊥) → (v : Value) × (o ≡ some v)
-bound-some unbound n = absurd (n refl)
-bound-some (bound {v = v} h) n = (v, refl)
-
 module _ {m : Machine} {s e d c l : List ℕ} {μ : Floo.Machine} (R : Rep m s e d c l μ) (k : ℕ) (n : List ℕ) (key : getElem? (keys μ) k ≡ some n) where
   pub name-unbound : bindingTag d k ≡ 7 → lookup n (μ .dictionary) ≡ none
-  name-unbound q = bound-none (λ v t p x. not-seven (x .stands)) (binding-at R k n key .0) q
+  name-unbound q = bound-none (binding-at R k n key .0) q
 
   pub name-bound : (bindingTag d k ≡ 7 → ⊥) → (v : Value) × (lookup n (μ .dictionary) ≡ some v)
   name-bound q = bound-some (binding-at R k n key .0) q
 
+-- ---- a name and an object above it
+
+-- What takes them.
+abbrev pub onNamed : (List ℕ → Value → Floo.Machine → Result Floo.Machine) → Floo.Machine → Result Floo.Machine
+onNamed k μ = pop2 μ >>= λ p. literalName (p .0) >>= λ n. k n (p .1) (p .2)
+
+module _ (k : List ℕ → Value → Floo.Machine → Result Floo.Machine) (μ : Floo.Machine) where
+  pub named-under : length (μ .stack) < 2 → onNamed k μ ≡ fault StackUnderflow
+  unfolding _>>=_
+  named-under h = ap (λ r. r >>= λ p. literalName (p .0) >>= λ n. k n (p .1) (p .2)) (pop2-under μ h)
+
+  taking : {y x : Value} {s : List Value} → μ .stack ≡ y ∷ x ∷ s → onNamed k μ ≡ (literalName x >>= λ n. k n y (withStack s μ))
+  unfolding _>>=_
+  taking q = ap (λ r. r >>= λ p. literalName (p .0) >>= λ n. k n (p .1) (p .2)) (pop2-some μ q)
+
+  pub named-type : 2 ≤ length (μ .stack) → literalName (getD (μ .stack) 1 null) ≡ fault TypeCheck → onNamed k μ ≡ fault TypeCheck
+  unfolding _>>=_
+  named-type h q =
+      let f = two-items (μ .stack) h in
+      let same : getD (μ .stack) 1 null ≡ f .1 = ap (λ t. getD t 1 null) (f .3) in
+      taking (f .3) ∙ ap (λ r. r >>= λ n. k n (f .0) (withStack (f .2) μ)) (ap literalName (sym same) ∙ q)
+
+  pub named-done : (n : List ℕ)
+      → 2 ≤ length (μ .stack)
+      → getD (μ .stack) 1 null ≡ name false n
+      → onNamed k μ ≡ k n (getD (μ .stack) 0 null) (dropped (dropped μ))
+  unfolding _>>=_ literalName withStack dropped
+  named-done n h q =
+      let f = two-items (μ .stack) h in
+      let same : getD (μ .stack) 1 null ≡ f .1 = ap (λ t. getD t 1 null) (f .3) in
+      taking (f .3)
+      ∙ ap (λ x. literalName x >>= λ n. k n (f .0) (withStack (f .2) μ)) (sym same ∙ q)
+      ∙ sym (ap (λ (t : List Value). k n (getD t 0 null) (withStack (drop 1 (drop 1 t)) μ)) (f .3))
+
+-- The same of machines that the words stand for.
+pub named-typed : (k : List ℕ → Value → Floo.Machine → Result Floo.Machine) {m : Machine} {s e d c l : List ℕ} {μ : Floo.Machine}
+    → Rep m s e d c l μ
+    → (i : ℕ)
+    → m .depth ≡ i + 2
+    → (itemTag s i ≡ 5 → ⊥)
+    → onNamed k μ ≡ fault TypeCheck
+named-typed k {μ = μ} R i h q = named-type k μ (omega (arith, stack-depth R)) (no-name R 1 i (omega arith) q)
+
 -- ---- def
+
+abbrev defining : List ℕ → Value → Floo.Machine → Result Floo.Machine
+defining n v τ = ok (withDictionary (assign n v (τ .dictionary)) τ)
+
+pub def-is : (μ : Floo.Machine) → perform (bytes "def") μ ≡ onNamed defining μ
+unfolding textual perform find table _is_ def
+def-is μ = refl
 
 module _ (μ : Floo.Machine) where
   pub def-under : length (μ .stack) < 2 → perform (bytes "def") μ ≡ fault StackUnderflow
-  unfolding def _>>=_
-  def-under h = def-is μ ∙ ap (λ r. r >>= λ p. literalName (p .0) >>= λ n. ok (withDictionary (assign n (p .1) (p .2 .dictionary)) (p .2))) (pop2-under μ h)
-
-  defining : {y x : Value} {s : List Value} → μ .stack ≡ y ∷ x ∷ s → perform (bytes "def") μ ≡ (literalName x >>= λ n. ok (withDictionary (assign n y (withStack s μ .dictionary)) (withStack s μ)))
-  unfolding def _>>=_
-  defining q = def-is μ ∙ ap (λ r. r >>= λ p. literalName (p .0) >>= λ n. ok (withDictionary (assign n (p .1) (p .2 .dictionary)) (p .2))) (pop2-some μ q)
-
-  pub def-type : 2 ≤ length (μ .stack) → literalName (getD (μ .stack) 1 null) ≡ fault TypeCheck → perform (bytes "def") μ ≡ fault TypeCheck
-  unfolding _>>=_
-  def-type h q =
-      let f = two-items (μ .stack) h in
-      let same : getD (μ .stack) 1 null ≡ f .1 = ap (λ t. getD t 1 null) (f .3) in
-      defining (f .3) ∙ ap (λ r. r >>= λ n. ok (withDictionary (assign n (f .0) (withStack (f .2) μ .dictionary)) (withStack (f .2) μ))) (ap literalName (sym same) ∙ q)
+  def-under h = def-is μ ∙ named-under defining μ h
 
   pub def-done : (n : List ℕ)
       → 2 ≤ length (μ .stack)
       → getD (μ .stack) 1 null ≡ name false n
       → perform (bytes "def") μ ≡ ok (dropped (dropped (withDictionary (assign n (getD (μ .stack) 0 null) (μ .dictionary)) μ)))
-  unfolding _>>=_ literalName withStack withDictionary dropped
-  def-done n h q =
-      let f = two-items (μ .stack) h in
-      let same : getD (μ .stack) 1 null ≡ f .1 = ap (λ t. getD t 1 null) (f .3) in
-      defining (f .3)
-      ∙ ap (λ x. literalName x >>= λ n. ok (withDictionary (assign n (f .0) (withStack (f .2) μ .dictionary)) (withStack (f .2) μ))) (sym same ∙ q)
-      ∙ sym (ap (λ (t : List Value). ok (withStack (drop 1 (drop 1 t)) (withDictionary (assign n (getD t 0 null) (μ .dictionary)) μ))) (f .3))
+  unfolding withStack withDictionary dropped
+  def-done n h q = def-is μ ∙ named-done defining μ n h q
 
   -- ---- load
 
@@ -159,7 +176,7 @@ module _ (μ : Floo.Machine) where
 
 module _ {m : Machine} {s e d c l : List ℕ} {μ : Floo.Machine} (R : Rep m s e d c l μ) (k : ℕ) where
   pub def-typed : m .depth ≡ k + 2 → (itemTag s k ≡ 5 → ⊥) → perform (bytes "def") μ ≡ fault TypeCheck
-  def-typed h q = def-type μ (omega (arith, stack-depth R)) (no-name R 1 k (omega arith) q)
+  def-typed h q = def-is μ ∙ named-typed defining R k h q
 
   pub load-typed : m .depth ≡ k + 1 → (itemTag s k ≡ 5 → ⊥) → perform (bytes "load") μ ≡ fault TypeCheck
   load-typed h q = load-type μ (omega (arith, stack-depth R)) (no-name R 0 k (omega arith) q)

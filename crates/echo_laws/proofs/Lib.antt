@@ -3,6 +3,7 @@ pub mod Beginnings
 pub mod EchoSteps
 pub mod LogLines
 pub mod Ranging
+pub mod Rooms
 pub mod RunEchoes
 pub mod Taking
 pub mod Worked

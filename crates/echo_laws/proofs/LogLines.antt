@@ -13,7 +13,7 @@ use Rattle.semantics.specs.Steps.{Limits, State, Step, goes, fails, misreads, s
 use Rattle.semantics.specs.ResultLaws.{choose}
 use Rattle.growth.proofs.StepGrowth.{run-log}
 use Rattle.echo_laws.specs.Runs.{Trial, stateOf, machineOf, lineOf, Echoing, next, GoesOn, stretch}
-use Rattle.echo_laws.proofs.EchoSteps.{echo-step}
+use Rattle.echo_laws.proofs.RunEchoes.{echo-adds}
 
 -- ---- the next state
 
@@ -98,9 +98,9 @@ line-stands r v n more e h l =
     let before = machineOf r .log in
     let whole = run (r .lent) (r .script) n (r .start) .final .machine .log in
     let line = lineOf (machineOf r) v in
+    let x = echo-adds r v e in
     let now : machineOf (next r) .log ≡ before ++ line =
-    ap (λ (m : Machine). m .log) (next-machine r (e .after) h (e .goes))
-    ∙ echo-step (r .lent) (r .script) (stateOf r) v (e .items) (e .stack) (e .top) (e .others) (e .after) (e .exec) (e .executes) (e .goes)
+    ap (λ (m : Machine). m .log) (next-machine r (x .after) h (x .goes)) ∙ x .log
     in
     let is : whole ++ more ≡ (before ++ line) ++ (grown .added ++ more) =
     ap (λ (a : List ℕ). a ++ more) (grown .whole ∙ ap (λ (a : List ℕ). a ++ grown .added) now) ∙ append-assoc (before ++ line) (grown .added) more

@@ -5,21 +5,26 @@ use mathlib.Core.List.{List, _∷_}
 use Prim.Native.Nat.{ℕ, _^_, _<_}
 use native.Mathlib.Omega.{arith}
 use Rattle.semantics.specs.Values.{Value, integer, Object}
+use Rattle.semantics.specs.Machine.{Machine}
+use Rattle.semantics.specs.Steps.{Limits}
 use Rattle.semantics.specs.ListLaws.{All, cons}
 use Rattle.semantics.specs.AsciiLaws.{Bytes}
-use Rattle.walk.specs.Parts.{Good, a-word, Within}
+use Rattle.walk.specs.Parts.{Good, a-word, Within, Stays}
 use Rattle.walk.proofs.Property.{parts-alone, object-good}
 use Rattle.walk.proofs.Operands.{current-bytes}
 use Rattle.walk.proofs.RunsKeep.{run-keeps}
 use Rattle.echo_laws.specs.Ranges.{ranged, Sound}
 use Rattle.echo_laws.specs.Runs.{Trial, machineOf, currentAt}
 
+stays-within : {l : Limits} {a b : Machine} → Stays l a b → Within l a → Within l b
+stays-within s w = record { dictionary = s .dictionary (w .dictionary); exec = s .exec; stack = s .stack (w .stack); log = s .log (w .log) }
+
 pub run-sound : (r : Trial) → Sound (r .lent) (machineOf r)
 unfolding ranged
 run-sound r =
     let l = r .lent in
     let a = r .admitted in
-    let k = run-keeps ranged (Within l) l (r .script) (a .bytes) (a .short) (λ m w. w) (λ m w. omega (arith, w .stack, a .items)) (r .fuel) (r .start) (r .sound .parts) (r .sound .room) in
+    let k = run-keeps ranged (Within l) l (r .script) (a .bytes) (a .short) (λ a b w h. stays-within w h) (λ m w. omega (arith, w .stack, a .items)) (r .fuel) (r .start) (r .sound .parts) (r .sound .room) in
     record { parts = k .parts; room = k .room }
 
 pub string-bytes : (r : Trial) (i : ℕ) → Bytes (currentAt (machineOf r) i)

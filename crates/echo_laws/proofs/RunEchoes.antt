@@ -11,6 +11,7 @@ use Rattle.semantics.specs.Tokens.{isSpace}
 use Rattle.semantics.specs.Machine.{withStack, withStore, push, make, made, object, bytesOf}
 use Rattle.semantics.specs.Printing.{shown, echoedTo, echoed}
 use Rattle.semantics.specs.Held.{heldCells}
+use Rattle.semantics.specs.Steps.{State, goes}
 use Rattle.semantics.specs.EchoLaws.{quotedText, integerText, string-echoed, integer-echoed}
 use Rattle.echo_laws.specs.Runs.{Trial, stateOf, machineOf, currentAt, lineOf, Echoing, Adds, leftOf, PushesAlike, Pushes, Iff}
 use Rattle.echo_laws.proofs.Ranging.{run-sound, string-bytes, top-bits}
@@ -38,11 +39,21 @@ integer-echoes-alike r q v w s t e f = integers-alike v w (top-bits r v s e) (to
 added-is : (x : List ℕ) {a b l : List ℕ} → l ≡ x ++ a → l ≡ x ++ b → a ≡ b
 added-is x {a} {b} e f = sym (drop-append-seam x a) ∙ ap (drop (length x)) (sym e ∙ f) ∙ drop-append-seam x b
 
--- A step that echoes adds the line of its item.
-pub line-added : (r : Trial) (v : Value) (e : Echoing r v) (line : List ℕ) → Adds r e line → line ≡ lineOf (machineOf r) v
-line-added r v e line h =
-    added-is (machineOf r .log) (h .log)
-    (echo-step (r .lent) (r .script) (stateOf r) v (e .items) (e .stack) (e .top) (e .others) (e .after) (e .exec) (e .executes) (e .goes))
+-- A step that echoes goes on, and adds the line of its item.
+pub echo-adds : (r : Trial) (v : Value) → Echoing r v → Adds r (lineOf (machineOf r) v)
+echo-adds r v e =
+    let x = echo-step (r .lent) (r .script) (stateOf r) v (e .items) (e .stack) (run-sound r .room) (e .fits) (e .top) (e .others) (e .exec) (e .executes) in
+    record { after = x .0; goes = x .1; log = x .2 }
+
+-- No step adds two things.
+adds-one : (r : Trial) {a b : List ℕ} → Adds r a → Adds r b → a ≡ b
+adds-one r g h =
+    let same : goes (g .after) ≡ goes (h .after) = sym (g .goes) ∙ h .goes in
+    let one : g .after ≡ h .after = cc in
+    added-is (machineOf r .log) (ap (λ (τ : State). τ .machine .log) (sym one) ∙ g .log) (h .log)
+
+pub line-added : (r : Trial) (v : Value) → Echoing r v → (line : List ℕ) → Adds r line → line ≡ lineOf (machineOf r) v
+line-added r v e line h = adds-one r h (echo-adds r v e)
 
 -- Lines that are alike exactly if something holds are so wherever they stand.
 pub lines-alike : {a b c d : List ℕ} {P : Type 0} → a ≡ c → b ≡ d → Iff (c ≡ d) P → Iff (a ≡ b) P
@@ -51,15 +62,15 @@ lines-alike e f h = (λ k. h .0 (sym e ∙ k ∙ f), λ k. e ∙ h .1 k ∙ sym 
 module _ (r q : Trial) (a b : List ℕ) where
   -- Two steps that echo a string each add the same to their logs exactly if the strings' current bytes are equal.
   pub string-lines : (i j : ℕ) (e : Echoing r (string i)) (f : Echoing q (string j))
-      → Adds r e a
-      → Adds q f b
+      → Adds r a
+      → Adds q b
       → Iff (a ≡ b) (currentAt (machineOf r) i ≡ currentAt (machineOf q) j)
   string-lines i j e f g h = lines-alike (line-added r (string i) e a g) (line-added q (string j) f b h) (echoes-alike r q i j)
 
   -- And two that echo an integer each, exactly if the integers are equal.
   pub integer-lines : (v w : ℕ) (e : Echoing r (integer v)) (f : Echoing q (integer w))
-      → Adds r e a
-      → Adds q f b
+      → Adds r a
+      → Adds q b
       → Iff (a ≡ b) (v ≡ w)
   integer-lines v w e f g h =
       lines-alike (line-added r (integer v) e a g) (line-added q (integer w) f b h)

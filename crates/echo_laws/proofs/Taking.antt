@@ -2,40 +2,23 @@
 -- Assumes nothing.
 use mathlib.Core.Path.{_≡_, refl, ap, _∙_}
 use mathlib.Core.List.{List, [], _∷_, _++_}
-use Prim.Native.Nat.{ℕ, zero, suc, _+_, _-_, _^_, _≤_, _<_}
+use Prim.Native.Nat.{ℕ, suc, _+_, _-_, _^_, _≤_, _<_}
 use native.Mathlib.Omega.{arith}
-use lib.ListN.{length, drop, drop-of-length-le}
+use lib.ListN.{length, drop}
 use lib.Seq.{drop-append-seam}
 use lib.Dec.{T}
-use borrow.Author.Tests.{le-leb}
-use Rattle.semantics.specs.Values.{Result, ok, _>>=_, check, Value, integer, string, Object, text, cells}
+use Rattle.semantics.specs.Values.{ok, _>>=_, Value, integer, string, Object, text, cells}
 use Rattle.semantics.specs.Tokens.{Lexing, isSpace, Token, lexeme, lex}
 use Rattle.semantics.specs.Machine.{Machine, withStack, withStore, push, make, made}
 use Rattle.semantics.specs.Held.{sumOf, heldCells}
 use Rattle.semantics.specs.Groups.{Taken, taken, skip, tokenValue, takeToken}
-use Rattle.semantics.specs.Steps.{Limits, State, commandOf, execute, isProcedure, treat, newCells, cellsFor, roomFor, goes, ended, moved, tokenMove, tokenStep, stepOn, step}
+use Rattle.semantics.specs.Steps.{Limits, State, commandOf, execute, isProcedure, treat, newCells, roomFor, goes, tokenMove, tokenStep, stepOn, step}
 use Rattle.semantics.specs.AsciiLaws.{Bytes}
 use Rattle.semantics.specs.EchoLaws.{quotedText, integerText, lex-quoted, lex-integer}
 use Rattle.walk.specs.Parts.{Within}
+use Rattle.echo_laws.proofs.Rooms.{room-there, same-cells, moved-goes}
 
 -- ---- room
-
-cells-there : (l : Limits) (before : Machine) (n : ℕ) → n ≤ l .cellCount - heldCells before → cellsFor l before n ≡ ok tt
-unfolding cellsFor check
-cells-there l before zero h = refl
-cells-there l before (suc n) h = rw (le-leb (suc n) (l .cellCount - heldCells before) h) refl
-
-room-there : (l : Limits) (before after : Machine) → Within l after → newCells before after ≤ l .cellCount - heldCells before → roomFor l before after ≡ ok after
-unfolding roomFor check _>>=_
-room-there l before after f h =
-    rw (
-      le-leb (length (after .dictionary)) (l .dictionarySlots) (f .dictionary),
-      le-leb (length (after .exec)) (l .execSlots) (f .exec),
-      le-leb (length (after .stack)) (l .stackSlots) (f .stack),
-      cells-there l before (newCells before after) h,
-      le-leb (length (after .log)) (l .logBytes) (f .log),
-    )
-    refl
 
 module _ {l : Limits} {m : Machine} (f : Within l m) (room : length (m .stack) < l .stackSlots) where
   pushed-within : (v : Value) → Within l (push v m)
@@ -47,8 +30,8 @@ module _ {l : Limits} {m : Machine} (f : Within l m) (room : length (m .stack) <
   made-within v o = record { dictionary = f .dictionary; exec = f .exec; stack = room; log = f .log }
 
 pushed-cells : (v : Value) (m : Machine) → newCells m (push v m) ≡ 0
-unfolding newCells push withStack sumOf
-pushed-cells v m = rw (drop-of-length-le (m .store) {i = length (m .store)} (omega arith)) refl
+unfolding push withStack
+pushed-cells v m = same-cells m (push v m) refl
 
 made-cells : (v : Value) (o : Object) (m : Machine) → newCells m (push v (make o m)) ≡ cells o
 unfolding newCells push withStack make withStore sumOf
@@ -71,13 +54,12 @@ module _ (l : Limits) (script : List ℕ) (σ : State) where
       → treat v m ≡ ok after
       → roomFor l (σ .machine) after ≡ ok after
       → step l script σ ≡ goes (After after n)
-  unfolding step stepOn takeToken taken lexeme tokenStep moved ended tokenMove _>>=_
+  unfolding step stepOn takeToken taken lexeme tokenStep tokenMove _>>=_
   takes t n v m after e x y z r =
       let u : takeToken script start (σ .machine) ≡ taken v m (start + n) = rw x y in
       ap (stepOn l script σ) e
       ∙ ap (λ (u : Lexing Taken). tokenStep l σ start u) u
-      ∙ ap (λ (u : Result Machine). ended σ start (start + n) (commandOf v) (u >>= roomFor l (σ .machine))) z
-      ∙ ap (ended σ start (start + n) (commandOf v)) r
+      ∙ moved-goes l σ start (start + n) [] (record { command = commandOf v; result = treat v m }) after z r
 
   pub takes-echoed : (bs rest : List ℕ)
       → Bytes bs

@@ -71,16 +71,15 @@ writes =
       top = pending (operator (bytes "echo"));
       others = [];
       items = [];
-      after = run (limits lent) writing 3 initial .final;
       exec = refl;
       stack = refl;
       executes = waiting;
-      goes = refl;
+      fits = omega arith;
     }
 
-writes-line : Adds writer writes (bytes "\"a\\134\"\n")
-unfolding writer writes textual words values tokens machinery printing operators holding grouping stepping settings
-writes-line = record { log = refl }
+writes-line : Adds writer (bytes "\"a\\134\"\n")
+unfolding writer textual words values tokens machinery printing operators holding grouping stepping settings
+writes-line = record { after = run (limits lent) writing 3 initial .final; goes = refl; log = refl }
 
 takes-it : PushesAlike taker (machineOf writer) 0
 unfolding writer taker textual words values tokens machinery printing operators holding grouping stepping settings
@@ -112,13 +111,17 @@ scans =
       top = pending (operator (bytes "echo"));
       others = [];
       items = [];
-      after = run (limits lent) scanning 4 (startOf (lending (bytes "label") (bytes "a\\") (initial .machine))) .final;
       exec = refl;
       stack = refl;
       executes = waiting;
-      goes = refl;
+      fits = omega arith;
     }
 
-scans-line : Adds scanner scans (bytes "\"a\\134\"\n")
-unfolding scanner scans textual words values tokens machinery printing operators holding grouping stepping settings
-scans-line = record { log = refl }
+scans-line : Adds scanner (bytes "\"a\\134\"\n")
+unfolding scanner textual words values tokens machinery printing operators holding grouping stepping settings
+scans-line =
+    record {
+      after = run (limits lent) scanning 4 (startOf (lending (bytes "label") (bytes "a\\") (initial .machine))) .final;
+      goes = refl;
+      log = refl;
+    }

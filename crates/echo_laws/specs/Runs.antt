@@ -3,7 +3,7 @@
 use mathlib.Core.Path.{_≡_}
 use mathlib.Core.List.{List, _∷_, _++_}
 use mathlib.Core.Option.{some}
-use Prim.Native.Nat.{ℕ, suc, _-_}
+use Prim.Native.Nat.{ℕ, suc, _+_, _-_, _≤_}
 use lib.ListN.{length, take, drop, getElem?}
 use Rattle.semantics.specs.Text.{bytes}
 use Rattle.semantics.specs.Values.{Value, operator, integer, string, current}
@@ -41,20 +41,21 @@ pub data Executes (m : Machine) (o : List ℕ) : Frame → Type 0 where
   waiting : Executes m o (pending (operator o))
   element : {i k : ℕ} → getElem? (elementsOf (object m i)) k ≡ some (operator o) → Executes m o (running i k)
 
--- A state of a run whose step executes echo with this item on top, and goes on: the text fits the log.
+-- A state of a run whose step executes echo with this item on top, and whose log has room for the line. (Without room the step fails; a handler may go on from it.)
 pub record Echoing (r : Trial) (v : Value) : Type 0 where
   pub top : Frame
   pub others : List Frame
   pub items : List Value
-  pub after : State
   pub exec : machineOf r .exec ≡ top ∷ others
   pub stack : machineOf r .stack ≡ v ∷ items
   pub executes : Executes (machineOf r) (bytes "echo") top
-  pub goes : step (r .lent) (r .script) (stateOf r) ≡ goes after
+  pub fits : length (machineOf r .log) + length (lineOf (machineOf r) v) ≤ r .lent .logBytes
 
--- What it adds to the log.
-pub record Adds (r : Trial) {v : Value} (e : Echoing r v) (line : List ℕ) : Type 0 where
-  pub log : e .after .machine .log ≡ machineOf r .log ++ line
+-- The step goes on, and adds this to the log.
+pub record Adds (r : Trial) (line : List ℕ) : Type 0 where
+  pub after : State
+  pub goes : step (r .lent) (r .script) (stateOf r) ≡ goes after
+  pub log : after .machine .log ≡ machineOf r .log ++ line
 
 -- The run with one fuel more: its next state, if it goes on.
 abbrev pub next : Trial → Trial

@@ -23,11 +23,11 @@ use Rattle.heap.specs.Chain.{live}
 use Rattle.heap.specs.Shape.{Ghost}
 use Rattle.heap.specs.Assign.{Alives}
 use Rattle.store.specs.Rep.{titles, Stands, a-null, an-integer, a-boolean, a-mark, an-operator, a-literal, an-executable, a-string, an-array, a-procedure}
-use Rattle.machine.specs.Places.{Distinct}
+use Rattle.semantics.specs.NameLaws.{Distinct}
 use Rattle.heap.proofs.Upds.{same?}
 use Rattle.store.proofs.Standing.{is-string}
 use Rattle.machine.specs.Moves.{tagAs}
-use Rattle.machine.proofs.Distinct.{distinct}
+use Rattle.semantics.specs.NameLaws.{distinct}
 
 -- ---- the same bytes
 

@@ -2,7 +2,7 @@
 -- Assumes nothing.
 use mathlib.Core.Path.{_≡_, refl, sym, ap, _∙_}
 use mathlib.Core.List.{List, [], _∷_, _++_, map}
-use Prim.Native.Nat.{ℕ, zero, suc, _+_, _*_, _/_, _%_, _≤_}
+use Prim.Native.Nat.{ℕ, zero, suc, _+_, _*_, _≤_}
 use native.Mathlib.Nat.{zero-add}
 use native.Mathlib.Omega.{arith}
 use lib.ListN.{length}
@@ -18,8 +18,8 @@ use Rattle.heap.proofs.Bodies.{total-none}
 use Rattle.heap.proofs.Listing.{sum-from}
 use Rattle.store.specs.Matching.{times}
 use Rattle.store.proofs.Counting.{AsOften, times-gather}
-use Rattle.machine.specs.Places.{fromEnd, frameValue, bindingAt, rootIn, roots, rootCount}
-use Rattle.machine.proofs.Roots.{stack-root, exec-root, binding-root, at-end}
+use Rattle.machine.specs.Places.{fromEnd, frameValue, bindingAt, roots, rootCount}
+use Rattle.machine.proofs.Roots.{stack-root, exec-root, binding-root, handler-root, at-end}
 use Rattle.machine.proofs.Rooted.{bindings, rootValues, listed, map-self}
 
 -- ---- the places, by region
@@ -34,12 +34,6 @@ by-four f (suc n) =
     let two : suc (suc (4 * n)) ≡ 4 * n + 2 = omega arith in
     let three : suc (suc (suc (4 * n))) ≡ 4 * n + 3 = omega arith in
     ap (total f) more ∙ omega (arith, by-four f n, ap f one, ap f two, ap f three)
-
-fourth-none : (μ : Machine) (j : ℕ) → roots μ (4 * j + 3) ≡ null
-unfolding roots rootIn
-fourth-none μ j =
-    let low : (4 * j + 3) % 4 ≡ 3 = omega arith in
-    ap (λ x. rootIn μ x ((4 * j + 3) / 4)) low
 
 -- ---- the values of a list
 
@@ -89,29 +83,43 @@ module _ (i : ℕ) where
 
 -- ---- the law
 
-module _ (μ : Machine) (n : ℕ) (stack : length (μ .stack) ≤ n) (exec : length (μ .exec) ≤ n) (dictionary : length (μ .dictionary) ≤ n) where
-  places-sum : (i : ℕ) → total (λ r. often i (roots μ r)) (4 * n) ≡ sumOf (often i) (μ .stack) + sumOf (often i) (bindings (μ .dictionary)) + sumOf (often i) (map frameValue (μ .exec))
+module _ (μ : Machine) (n : ℕ) (stack : length (μ .stack) ≤ n) (exec : length (μ .exec) ≤ n) (dictionary : length (μ .dictionary) ≤ n)
+    (handlers : length (μ .handlers) ≤ n) where
+  -- How often the four regions name i.
+  all-regions : ℕ → ℕ
+  all-regions i =
+      sumOf (often i) (μ .stack) + sumOf (often i) (bindings (μ .dictionary)) + sumOf (often i) (map frameValue (μ .exec)) + sumOf (often i) (bindings (μ .handlers))
+
+  places-sum : (i : ℕ) → total (λ r. often i (roots μ r)) (4 * n) ≡ all-regions i
+  unfolding all-regions
   places-sum i = omega (
     arith,
     by-four (λ r. often i (roots μ r)) n,
     total-same (λ j. often i (fromEnd (λ v. v) (μ .stack) j)) (λ j. often i (roots μ (4 * j))) n (λ j b. ap (often i) (stack-root μ j)),
     total-same (λ j. often i (fromEnd frameValue (μ .exec) j)) (λ j. often i (roots μ (4 * j + 1))) n (λ j b. ap (often i) (exec-root μ j)),
     total-same (λ j. often i (bindingAt (μ .dictionary) j)) (λ j. often i (roots μ (4 * j + 2))) n (λ j b. ap (often i) (binding-root μ j)),
-    total-none (λ j. often i (roots μ (4 * j + 3))) n (λ j b. ap (often i) (fourth-none μ j) ∙ null-never i),
+    total-same (λ j. often i (bindingAt (μ .handlers) j)) (λ j. often i (roots μ (4 * j + 3))) n (λ j b. ap (often i) (handler-root μ j)),
     ends-sum i (λ v. v) (μ .stack) n stack,
     ap (sumOf (often i)) (map-self (μ .stack)),
     ends-sum i frameValue (μ .exec) n exec,
     bindings-sum i (μ .dictionary) n dictionary,
+    bindings-sum i (μ .handlers) n handlers,
   )
 
-  roots-sum : (i : ℕ) → times i (Held.roots μ) ≡ sumOf (often i) (μ .stack) + sumOf (often i) (bindings (μ .dictionary)) + sumOf (often i) (map frameValue (μ .exec))
-  unfolding often
+  roots-sum : (i : ℕ) → times i (Held.roots μ) ≡ all-regions i
+  unfolding often all-regions
   roots-sum i = ap (times i) (listed μ) ∙ times-gather i ofValue (rootValues μ) ∙ omega (
     arith,
+    sum-append (λ v. times i (ofValue v)) (μ .stack ++ bindings (μ .dictionary) ++ map frameValue (μ .exec)) (bindings (μ .handlers)),
     sum-append (λ v. times i (ofValue v)) (μ .stack ++ bindings (μ .dictionary)) (map frameValue (μ .exec)),
     sum-append (λ v. times i (ofValue v)) (μ .stack) (bindings (μ .dictionary)),
   )
 
-pub as-often : (μ : Machine) → length (μ .stack) ≤ 512 → length (μ .exec) ≤ 512 → length (μ .dictionary) ≤ 512 → AsOften μ rootCount (roots μ)
+pub as-often : (μ : Machine)
+    → length (μ .stack) ≤ 512
+    → length (μ .exec) ≤ 512
+    → length (μ .dictionary) ≤ 512
+    → length (μ .handlers) ≤ 512
+    → AsOften μ rootCount (roots μ)
 unfolding often
-as-often μ stack exec dictionary i = places-sum μ 512 stack exec dictionary i ∙ sym (roots-sum μ 512 stack exec dictionary i)
+as-often μ stack exec dictionary handlers i = places-sum μ 512 stack exec dictionary handlers i ∙ sym (roots-sum μ 512 stack exec dictionary handlers i)

@@ -2,12 +2,14 @@
 -- place's two words name the header of the object that its value names.
 -- Assumes nothing.
 use mathlib.Core.Path.{_≡_, refl, sym, ap, _∙_, subst}
-use mathlib.Core.List.{List, [], map, reverse}
+use mathlib.Core.List.{List, [], _∷_, map, reverse}
 use mathlib.Core.Logic.{_↔_, ⊎-elim}
 use mathlib.Core.Option.{Option}
 use Prim.Native.Nat.{ℕ, zero, suc, _+_, _-_, _*_, _%_, _<_}
+use native.Mathlib.Nat.{zero-add}
 use native.Mathlib.Omega.{arith}
 use lib.ListN.{length, getD, length-map, length-reverse}
+use Rattle.semantics.specs.Sizes.{errorCount}
 use Rattle.semantics.specs.Values.{Value, null, Object}
 use Rattle.semantics.specs.Machine as Floo
 use Rattle.semantics.specs.Held.{heldCells}
@@ -26,10 +28,11 @@ use Rattle.store.proofs.Standing.{names-stands, stands-names, names-cast, null-
 use Rattle.store.proofs.Counting.{AsOften}
 use Rattle.store.proofs.Rooming.{lists-room}
 use Rattle.store.proofs.Exactness as Exactness
-use Rattle.machine.specs.Words.{frameTag, framePayload, bindingTag, bindingPayload}
+use Rattle.machine.specs.Words.{frameTag, framePayload}
 use Rattle.machine.specs.Places.{frameValue, bound, roots, rootCount}
-use Rattle.machine.specs.Rep.{Rep, IsIn, Frames, frame, Bound, unbound, Slots, end, slot}
+use Rattle.machine.specs.Rep.{Rep, IsIn, Frames, frame, Bound, unbound, Slots, end, slot, Rows, row}
 use Rattle.machine.specs.declared.Machine.{Machine}
+use Rattle.machine.proofs.Carrying.{handlers-many}
 use Rattle.machine.proofs.Items.{items-length, item-at}
 use Rattle.machine.proofs.Rooms.{frames-length}
 use Rattle.machine.proofs.Rooted.{rooted, bindings}
@@ -54,19 +57,31 @@ module _ {Is : Value → ℕ → ℕ → Type 0} {g : Ghost} {store : List Objec
       subst (λ x. Is (frameValue f) (frameTag words x) (framePayload words x)) q (frame-value h)
   frame-at (frame h r) (suc i) k e = frame-at r i k (omega arith)
 
--- The slots from number k on.
-binding-at : {Is : Value → ℕ → ℕ → Type 0} (P : Value → ℕ → ℕ → Type 0) → ((b : Option Value) (t p : ℕ) → Bound Is b t p → P (bound b) t p)
-    → {words : List ℕ} {k : ℕ} {d : List Floo.Slot} → Slots Is words k d → (i : ℕ) → i < length d
-    → P (getD (bindings d) i null) (bindingTag words (k + i)) (bindingPayload words (k + i))
-binding-at P f end i b = absurd (omega arith)
-binding-at P f {words} {k} (slot {s = s} S r) zero b =
-    let tag : 12 * (k + 0) + 9 ≡ 12 * k + 9 = omega arith in
-    let payload : 12 * (k + 0) + 10 ≡ 12 * k + 10 = omega arith in
-    words-at (P (bound (s .binding))) words tag payload (f _ _ _ (S .binding))
-binding-at P f {words} {k} (slot {ss = d} S r) (suc i) b =
-    let tag : 12 * (k + suc i) + 9 ≡ 12 * (suc k + i) + 9 = omega arith in
-    let payload : 12 * (k + suc i) + 10 ≡ 12 * (suc k + i) + 10 = omega arith in
-    words-at (P (getD (bindings d) i null)) words tag payload (binding-at P f r i (omega arith))
+-- What is bound in each slot from number k on, in its two words.
+module _ (P : Option Value → ℕ → ℕ → Type 0) (words : List ℕ) (width first second : ℕ) where
+  data Each : ℕ → List Floo.Slot → Type 0 where
+    nil : {k : ℕ} → Each k []
+    cons : {k : ℕ} {s : Floo.Slot} {d : List Floo.Slot}
+        → P (s .binding) (getD words (width * k + first) 0) (getD words (width * k + second) 0)
+        → Each (suc k) d
+        → Each k (s ∷ d)
+
+slots-each : {Is : Value → ℕ → ℕ → Type 0} {words : List ℕ} {k : ℕ} {d : List Floo.Slot} → Slots Is words k d → Each (Bound Is) words 12 9 10 k d
+slots-each end = nil
+slots-each (slot S r) = cons (S .binding) (slots-each r)
+
+rows-each : {Is : Value → ℕ → ℕ → Type 0} {names : List (List ℕ)} {words : List ℕ} {k : ℕ} {d : List Floo.Slot}
+    → Rows Is names words k d
+    → Each (Bound Is) words 36 11 23 k d
+rows-each Rows.end = nil
+rows-each (row S r) = cons (S .handler) (rows-each r)
+
+each-at : {P : Option Value → ℕ → ℕ → Type 0} (Q : Value → ℕ → ℕ → Type 0) → ((b : Option Value) (t p : ℕ) → P b t p → Q (bound b) t p)
+    → {words : List ℕ} {width first second k : ℕ} {d : List Floo.Slot} → Each P words width first second k d → (i : ℕ) → i < length d
+    → Q (getD (bindings d) i null) (getD words (width * (k + i) + first) 0) (getD words (width * (k + i) + second) 0)
+each-at Q f nil i b = absurd (omega arith)
+each-at Q f {k = k} (cons B r) zero b = let here : k + 0 ≡ k = omega arith in rw here (f _ _ _ B)
+each-at Q f {k = k} (cons B r) (suc i) b = let next : k + suc i ≡ suc k + i = omega arith in rw next (each-at Q f r i (omega arith))
 
 -- ---- places
 
@@ -75,10 +90,10 @@ record Named (ρ : ℕ → ℕ) (hs : List ℕ) (v : Value) (t p : ℕ) : Type 0
   named : (h : ℕ) → h ∈ hs → WordsName t p h ↔ Names v (ρ h)
   only : NoOther hs t p
 
-corresponds : (ρ : ℕ → ℕ) (hs words : List ℕ) (width first n : ℕ) (values : List Value) → n ≡ length values
-    → ((i : ℕ) → i < n → Named ρ hs (getD values i null) (getD words (width * i + first) 0) (getD words (width * i + first + 1) 0))
-    → Corresponds ρ hs words width first n values
-corresponds ρ hs words width first n values e f = record { many = e; named = λ i h b. f i b .named h; only = λ i b. f i b .only }
+corresponds : (ρ : ℕ → ℕ) (hs words : List ℕ) (width first second n : ℕ) (values : List Value) → n ≡ length values
+    → ((i : ℕ) → i < n → Named ρ hs (getD values i null) (getD words (width * i + first) 0) (getD words (width * i + second) 0))
+    → Corresponds ρ hs words width first second n values
+corresponds ρ hs words width first second n values e f = record { many = e; named = λ i h b. f i b .named h; only = λ i b. f i b .only }
 
 module _ {m : Machine} {s e d c l : List ℕ} {μ : Floo.Machine} (R : Rep m s e d c l μ) where
   abbrev hs : List ℕ
@@ -106,31 +121,37 @@ module _ {m : Machine} {s e d c l : List ℕ} {μ : Floo.Machine} (R : Rep m s e
   bound-named unbound = record { named = λ h i. (λ x. absurd (omega (arith, x .0)), λ n. absurd (null-names n refl)); only = λ o. absurd (omega (arith, o)) }
   bound-named (Bound.bound I) = is-named I
 
-  shown-items : Corresponds ρ hs s 2 0 (m .depth) (reverse (μ .stack))
-  shown-items = corresponds ρ hs s 2 0 (m .depth) (reverse (μ .stack)) (sym (length-reverse (μ .stack) ∙ items-length (R .items))) (λ i b.
+  shown-items : Corresponds ρ hs s 2 0 1 (m .depth) (reverse (μ .stack))
+  shown-items = corresponds ρ hs s 2 0 1 (m .depth) (reverse (μ .stack)) (sym (length-reverse (μ .stack) ∙ items-length (R .items))) (λ i b.
       let down : ℕ = m .depth - suc i in
       let deep : m .depth ≡ i + suc down = omega arith in
       let tag : 2 * i + 0 ≡ 2 * i = omega arith in
-      let payload : 2 * i + 0 + 1 ≡ 2 * i + 1 = omega arith in
-      words-at (Named ρ hs (getD (reverse (μ .stack)) i null)) s tag payload
+      words-at (Named ρ hs (getD (reverse (μ .stack)) i null)) s tag refl
       (rw (getD-reverse (μ .stack) null down i (items-length (R .items) ∙ deep)) (is-named (item-at (R .items) down i deep))))
 
-  shown-frames : Corresponds ρ hs e 8 1 (m .frames) (reverse (map frameValue (μ .exec)))
+  shown-frames : Corresponds ρ hs e 8 1 2 (m .frames) (reverse (map frameValue (μ .exec)))
   shown-frames =
       let long : length (map frameValue (μ .exec)) ≡ m .frames = length-map (μ .exec) frameValue ∙ frames-length (R .frames) in
-      corresponds ρ hs e 8 1 (m .frames) (reverse (map frameValue (μ .exec))) (sym (length-reverse (map frameValue (μ .exec)) ∙ long)) (λ i b.
+      corresponds ρ hs e 8 1 2 (m .frames) (reverse (map frameValue (μ .exec))) (sym (length-reverse (map frameValue (μ .exec)) ∙ long)) (λ i b.
       let down : ℕ = m .frames - suc i in
       let deep : m .frames ≡ i + suc down = omega arith in
-      let payload : 8 * i + 1 + 1 ≡ 8 * i + 2 = omega arith in
-      words-at (Named ρ hs (getD (reverse (map frameValue (μ .exec))) i null)) e refl payload
-      (rw (getD-reverse (map frameValue (μ .exec)) null down i (long ∙ deep)) (is-named (frame-at (R .frames) down i deep))))
+      rw (getD-reverse (map frameValue (μ .exec)) null down i (long ∙ deep)) (is-named (frame-at (R .frames) down i deep)))
 
-  shown-bindings : Corresponds ρ hs d 12 9 (m .names) (bindings (μ .dictionary))
-  shown-bindings = corresponds ρ hs d 12 9 (m .names) (bindings (μ .dictionary)) (R .naming .many ∙ sym (length-map (μ .dictionary) (λ (x : Floo.Slot). bound (x .binding)))) (λ i b.
-      let tag : 12 * i + 9 ≡ 12 * (0 + i) + 9 = omega arith in
-      let payload : 12 * i + 9 + 1 ≡ 12 * (0 + i) + 10 = omega arith in
-      words-at (Named ρ hs (getD (bindings (μ .dictionary)) i null)) d tag payload
-      (binding-at (Named ρ hs) (λ o t p B. bound-named B) (R .slots) i (omega (arith, R .naming .many))))
+  -- Slots of the dictionary's words, by number.
+  shown-slots : (width first second n : ℕ) (slots : List Floo.Slot)
+      → n ≡ length slots
+      → Each (Bound (IsIn (R .world) μ)) d width first second 0 slots
+      → Corresponds ρ hs d width first second n (bindings slots)
+  shown-slots width first second n slots many each =
+      corresponds ρ hs d width first second n (bindings slots) (many ∙ sym (length-map slots (λ (x : Floo.Slot). bound (x .binding)))) (λ i b.
+      subst (λ j. Named ρ hs (getD (bindings slots) i null) (getD d (width * j + first) 0) (getD d (width * j + second) 0)) (zero-add i)
+      (each-at (Named ρ hs) (λ o t p B. bound-named B) each i (omega (arith, many))))
+
+  shown-bindings : Corresponds ρ hs d 12 9 10 (m .names) (bindings (μ .dictionary))
+  shown-bindings = shown-slots 12 9 10 (m .names) (μ .dictionary) (R .naming .many) (slots-each (R .slots))
+
+  shown-handlers : Corresponds ρ hs d 36 11 23 errorCount (bindings (μ .handlers))
+  shown-handlers = shown-slots 36 11 23 errorCount (μ .handlers) (sym (handlers-many (R .handled))) (rows-each (R .handled .rows))
 
   -- A cell of an array's body names a live header, if any.
   shown-elements : (h q : ℕ) → h ∈ hs → kindOf c h ≡ 0 → q < bodySize c h → NoOther hs (word c (place c h q) 0) (word c (place c h q) 1)
@@ -158,7 +179,8 @@ module _ {m : Machine} {s e d c l : List ℕ} {μ : Floo.Machine} (R : Rep m s e
       let often : AsOften μ rootCount (roots μ) = as-often μ
       (omega (arith, items-length (R .items), R .rooms .stack-fits, R .rooms .stack-few))
       (omega (arith, frames-length (R .frames), R .rooms .exec-fits, R .rooms .exec-few))
-      (omega (arith, R .naming .many, R .rooms .dict-fits, R .rooms .dict-few)) in
+      (omega (arith, R .naming .many, R .rooms .dict-fits, R .rooms .dict-few))
+      (omega (arith, handlers-many (R .handled))) in
       record {
         ρ = R .world .ρ;
         exact = E;
@@ -167,6 +189,7 @@ module _ {m : Machine} {s e d c l : List ℕ} {μ : Floo.Machine} (R : Rep m s e
         items = shown-items;
         frames = shown-frames;
         bindings = shown-bindings;
+        handlers = shown-handlers;
         taken = omega (arith, occupied-free E, E .room, lists-room μ (H .full) (H .none-dead) (H .none-out) (H .objects) (rooted μ));
       }
 

@@ -7,6 +7,7 @@ use mathlib.Core.List.{List, map, reverse}
 use mathlib.Core.Logic.{_↔_}
 use Prim.Native.Nat.{ℕ, _+_, _*_, _≤_, _<_}
 use lib.ListN.{length, getD}
+use Rattle.semantics.specs.Sizes.{errorCount}
 use Rattle.semantics.specs.Values.{Value, null}
 use Rattle.semantics.specs.Machine as Floo
 use Rattle.semantics.specs.Held.{heldCells}
@@ -41,13 +42,13 @@ WordsName tag payload h = (firstObject ≤ tag) × (payload ≡ h)
 abbrev pub NoOther : List ℕ → ℕ → ℕ → Type 0
 NoOther hs tag payload = firstObject ≤ tag → payload ∈ hs
 
--- n slots of `width` words, with the tag at word `first` of a slot and the payload next to it, and the values that the definition has in these places:
+-- n slots of `width` words, with the tag at word `first` of a slot and the payload at word `second`, and the values that the definition has in these places:
 -- a slot names an object exactly where the value names the matched one.
-pub record Corresponds (ρ : ℕ → ℕ) (hs : List ℕ) (words : List ℕ) (width first n : ℕ) (values : List Value) : Type 0 where
+pub record Corresponds (ρ : ℕ → ℕ) (hs : List ℕ) (words : List ℕ) (width first second n : ℕ) (values : List Value) : Type 0 where
   pub many : n ≡ length values
   pub named : (i h : ℕ) → i < n → h ∈ hs
-      → WordsName (getD words (width * i + first) 0) (getD words (width * i + first + 1) 0) h ↔ Names (getD values i null) (ρ h)
-  pub only : (i : ℕ) → i < n → NoOther hs (getD words (width * i + first) 0) (getD words (width * i + first + 1) 0)
+      → WordsName (getD words (width * i + first) 0) (getD words (width * i + second) 0) h ↔ Names (getD values i null) (ρ h)
+  pub only : (i : ℕ) → i < n → NoOther hs (getD words (width * i + first) 0) (getD words (width * i + second) 0)
 
 -- ---- what a snapshot shows
 
@@ -61,9 +62,11 @@ pub record Shows (μ : Floo.Machine) (x : Snapshot) : Type 0 where
   pub matches : Matches ρ μ (x .machine .lists) (x .cells)
   pub elements : (h q : ℕ) → h ∈ objects x → kindOf (x .cells) h ≡ 0 → q < bodySize (x .cells) h
       → NoOther (objects x) (word (x .cells) (place (x .cells) h q) 0) (word (x .cells) (place (x .cells) h q) 1)
-  -- so do stack items, execution slots and bindings, both stacks from the bottom
-  pub items : Corresponds ρ (objects x) (x .stack) 2 0 (x .machine .depth) (reverse (μ .stack))
-  pub frames : Corresponds ρ (objects x) (x .exec) 8 1 (x .machine .frames) (reverse (map frameValue (μ .exec)))
-  pub bindings : Corresponds ρ (objects x) (x .dict) 12 9 (x .machine .names) (map (λ (s : Floo.Slot). bound (s .binding)) (μ .dictionary))
+  -- so do stack items, execution slots and bindings, both stacks from the bottom, and handlers: "a handler is a place in the counts of demand 3 as a dictionary
+  -- slot is" (02, W1). There is a row for each error, and its handler is in the last words of two dictionary slots.
+  pub items : Corresponds ρ (objects x) (x .stack) 2 0 1 (x .machine .depth) (reverse (μ .stack))
+  pub frames : Corresponds ρ (objects x) (x .exec) 8 1 2 (x .machine .frames) (reverse (map frameValue (μ .exec)))
+  pub bindings : Corresponds ρ (objects x) (x .dict) 12 9 10 (x .machine .names) (map (λ (s : Floo.Slot). bound (s .binding)) (μ .dictionary))
+  pub handlers : Corresponds ρ (objects x) (x .dict) 36 11 23 errorCount (map (λ (s : Floo.Slot). bound (s .binding)) (μ .handlers))
   -- how many cells are occupied
   pub taken : length (occupied (x .machine .lists) (x .cells)) ≡ heldCells μ

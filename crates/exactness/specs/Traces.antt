@@ -12,7 +12,7 @@ leaves (goes τ) = τ
 leaves (fails e c τ) = τ
 leaves (misreads f τ) = τ
 
--- The states from a step on, given those of the rest. The failing or stopping step is the last.
+-- The states from a step on, given those of the rest. A step that ends the run is the last; one whose error is handled goes on (02, W1).
 unfoldable pub traceOn : (State → List State) → Step → List State
 traceOn rest (fails e c τ) = τ ∷ []
 traceOn rest (misreads f τ) = τ ∷ []

@@ -2,9 +2,10 @@
 -- Assumes nothing.
 use mathlib.Core.Path.{_≡_, refl}
 use mathlib.Core.List.{List, [], _∷_, _++_, map}
-use Prim.Native.Nat.{ℕ, _*_}
+use Prim.Native.Nat.{ℕ, _+_, _-_, _*_}
 use Prim.Native.String.{String}
 use lib.ListN.{take, replicate}
+use Rattle.semantics.specs.Sizes.{nameCount}
 use Rattle.semantics.specs.Text.{bytes, textual}
 use Rattle.semantics.specs.Words.{words}
 use Rattle.semantics.specs.Values.{values}
@@ -64,12 +65,12 @@ examples : (scan "9 label 201" "shelf 3" ≡ told "replaces the record at 1" (en
     × (scan "9 label -1" "shelf 3" ≡ told "stack not of this form" two)
     × (scan "9 label 201" "" ≡ told "stack not of this form" two)
     × (scan "9 label 201 stop" "shelf 3" ≡ told "run not finished" two)
-    × (shown (scanOf (asking 59 2 "9 label 201" (bytes "shelf 3")) book 2) ≡ told "replaces the record at 1" (entry 7 "rack A" 100 ∷ entry 9 "shelf 3" 201 ∷ []))
-    × (shown (scanOf (asking 58 2 "9 label 201" (bytes "shelf 3")) book 2) ≡ told "no slot for label" two)
-    × (shown (scanOf (asking 59 1 "9 label 201" (bytes "shelf 3")) book 2) ≡ told "no cells for label" two)
-    × (shown (scanOf (asking 58 1 "9 label 201" (replicate 513 65)) book 2) ≡ told "label over 512 bytes" two)
-    × (answerText (scanOf (asking 58 1 "9 label 201" (replicate 513 65)) (recordOf (entry 7 "a" 1) ∷ recordOf (entry 7 "b" 2) ∷ []) 2 .answer) ≡ bytes "book malformed")
-    × (answerText (scanOf (asking 57 1 "9 label 201" (replicate 513 65)) book 4 .answer) ≡ bytes "refused=6")
+    × (shown (scanOf (asking (nameCount + 1) 2 "9 label 201" (bytes "shelf 3")) book 2) ≡ told "replaces the record at 1" (entry 7 "rack A" 100 ∷ entry 9 "shelf 3" 201 ∷ []))
+    × (shown (scanOf (asking nameCount 2 "9 label 201" (bytes "shelf 3")) book 2) ≡ told "no slot for label" two)
+    × (shown (scanOf (asking (nameCount + 1) 1 "9 label 201" (bytes "shelf 3")) book 2) ≡ told "no cells for label" two)
+    × (shown (scanOf (asking nameCount 1 "9 label 201" (replicate 513 65)) book 2) ≡ told "label over 512 bytes" two)
+    × (answerText (scanOf (asking nameCount 1 "9 label 201" (replicate 513 65)) (recordOf (entry 7 "a" 1) ∷ recordOf (entry 7 "b" 2) ∷ []) 2 .answer) ≡ bytes "book malformed")
+    × (answerText (scanOf (asking (nameCount - 1) 1 "9 label 201" (replicate 513 65)) book 4 .answer) ≡ bytes "refused=6")
     × (answerText (scanOf (asking 100 4096 "8 label 5" (bytes "x")) book 4 .answer) ≡ bytes "book malformed")
     × (answerText (scanOf (asking 100 4096 "8 label 5" (bytes "x")) (take 2 book) 2 .answer) ≡ bytes "no room for a new socket")
 unfolding textual words values tokens machinery operators holding grouping stepping settings booked fated floored unfolded

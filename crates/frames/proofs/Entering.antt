@@ -53,7 +53,7 @@ module _ {m : Machine} {st e d cs l : List ℕ} {μ : Floo.Machine} (R : Rep m s
         let x = Top.item R k h .value in
         let free : roots μ (4 * m .frames + 1) ≡ null = exec-root μ (m .frames) ∙ at-end frameValue (μ .exec) (m .frames) (omega (arith, slots-used)) in
         let slots = front-at frameValue (f x) (μ .exec) (m .frames) x slots-used (shaped-value shape x) in
-        exec-at first after refl (m .frames) x refl slots r
+        exec-at first after refl refl (m .frames) x refl slots r
         ∙ upd-alike (roots first) (upd (roots μ) (4 * k) null) (4 * m .frames + 1) x r
         (roots-at μ (Top.item R k h .rest) k null (Top.others R k h) (Top.here R k h) r)
         ∙ rw (free, Top.held R k h) refl

@@ -53,7 +53,7 @@ module _ {m : Machine} {st e d c l : List ℕ} {μ : Floo.Machine} (R : Rep m st
       rw (put .kind-is, put .tag-is, put .pay-is, put .a-is, put .b-is, put .c-is) (a-pending named) in
       let frames = subst (λ x. Frames (IsIn (R .world) μ) (R .world .ghost) (μ .store) e′ x (pending v ∷ μ .exec)) (sym (add-one n)) (frame at-top (frames-frame (put .below) (R .frames))) in
       rerooted R (4 * n + 1) above free named K (μ .stack) (pending v ∷ μ .exec)
-      (exec-at μ (withExec (pending v ∷ μ .exec) μ) refl n v refl (front-at frameValue (pending v) (μ .exec) n v used refl))
+      (exec-at μ (withExec (pending v ∷ μ .exec) μ) refl refl n v refl (front-at frameValue (pending v) (μ .exec) n v used refl))
       refl (put .long) (R .rooms .stack-fits) (omega arith) (R .items) frames
 
 -- ---- a copy of the topmost slot's value

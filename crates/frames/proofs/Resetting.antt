@@ -29,7 +29,8 @@ exec-alike μ exec same r = by (r % 4)
     by zero = refl
     by (suc zero) = same (r / 4)
     by (suc (suc zero)) = refl
-    by (suc (suc (suc k))) = refl
+    by (suc (suc (suc zero))) = refl
+    by (suc (suc (suc (suc k)))) = refl
 
 module _ {m : Machine} {st e d c l : List ℕ} {μ : Floo.Machine} (R : Rep m st e d c l μ) (k : ℕ) (h : m .frames ≡ suc k) (f : Frame) (keeps : frameValue f ≡ topValue μ) where
   same : (i : ℕ) → fromEnd frameValue (f ∷ slot R k h .rest) i ≡ fromEnd frameValue (μ .exec) i
@@ -59,6 +60,7 @@ module _ {m : Machine} {st e d c l : List ℕ} {μ : Floo.Machine} (R : Rep m st
         frames = subst (λ n. Frames (IsIn (R .world) μ) (R .world .ghost) (μ .store) e′ n (f ∷ slot R k h .rest)) (sym h)
             (frame top (frames-frame (put .below) (slot R k h .below)));
         slots = R .slots;
+        handled = R .handled;
         naming = R .naming;
         logging = R .logging;
         stopped = R .stopped;

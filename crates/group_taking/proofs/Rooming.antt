@@ -79,7 +79,7 @@ store-is : (ns : Nodes) (μ : Floo.Machine) → procedure ns μ .store ≡ μ .s
 unfolding push withStack
 store-is ns μ = nested-store ns μ
 
-module _ {script : List ℕ} {from : ℕ} (first : 1 ≤ from) (inside : from ≤ length script) {ns : Nodes} {after : ℕ} (P : Parsed script 15 from ns after) where
+module _ {script : List ℕ} {from : ℕ} (first : 1 ≤ from) (inside : from ≤ length script) {ns : Nodes} {after : ℕ} (P : Parsed script 15 from ns after) (low : after ≤ length script) where
   read-is : (μ : Floo.Machine) → groupRead script from μ ≡ taken (array true (made μ)) (nested ns μ) after
   unfolding groupRead
   read-is μ = group-parsed script P inside (length script) (made μ) (from - 1) [] (opened μ) (omega (arith, first))
@@ -93,13 +93,13 @@ module _ {script : List ℕ} {from : ℕ} (first : 1 ≤ from) (inside : from �
     stays : {s e c l : List ℕ} {μ : Floo.Machine} → Rep m s e d c l μ → Rep m s e d′ c l μ
     stays R = kept-rep R (omega (arith, long, R .rooms .dict-fits)) (omega (arith, long, R .rooms .dict-few)) (N .kept)
 
-    pub group-full : {s c : List ℕ} {x y : Error} → r ≡ named.Bad x → y ≡ faultIn r → TakesGroup script from m s s d d′ c c (Fail y)
+    pub group-full : {s c : List ℕ} {x y : Error} → r ≡ named.Bad x → y ≡ faultIn r → TakesGroup script from m s s d d′ c c (Fail y after)
     unfolding lent push withStack filled grown change opened make withStore withDictionary
     group-full {s} {c} {x} {y} u q = record {
       takes = λ e l μ R.
           let full = subst (NamedAs (names ns) m s e d d′ c l μ) u (named-as R) in
           let same : LimitCheck ≡ y = sym (q ∙ ap faultIn u ∙ full .0) in
-          (nested ns μ, after, read-is μ, room-slots (lent s e d c l) μ (procedure ns μ) (full .1) ∙ ap fault same, refl, refl, stays R);
+          (nested ns μ, read-is μ, room-slots (lent s e d c l) μ (procedure ns μ) (full .1) ∙ ap fault same, refl, refl, stays R, low);
     }
 
     module _ {q : Machine} (u : r ≡ named.Done q) where
@@ -110,12 +110,12 @@ module _ {script : List ℕ} {from : ℕ} (first : 1 ≤ from) (inside : from �
       unfolding push withStack filled grown change opened make withStore withDictionary
       names-fit {μ = μ} R = subst (λ n. length (procedure ns μ .dictionary) ≤ n / 12) long (dictionary-fits (done R .0))
 
-      pub group-over : {s c : List ℕ} → length s < 2 * m .depth + 2 → TakesGroup script from m s s d d′ c c (Fail StackOverflow)
+      pub group-over : {s c : List ℕ} → length s < 2 * m .depth + 2 → TakesGroup script from m s s d d′ c c (Fail StackOverflow after)
       unfolding lent push withStack filled grown change opened make withStore withDictionary
       group-over {s} {c} over = record {
         takes = λ e l μ R.
             let deep : length s / 2 < length (procedure ns μ .stack) = omega (arith, items-length (R .items), over) in
-            (nested ns μ, after, read-is μ, room-stack (lent s e d c l) μ (procedure ns μ) (names-fit R) (exec-fits R) deep, refl, refl, stays R);
+            (nested ns μ, read-is μ, room-stack (lent s e d c l) μ (procedure ns μ) (names-fit R) (exec-fits R) deep, refl, refl, stays R, low);
       }
 
       module _ {s c : List ℕ} (room : 2 * m .depth + 2 ≤ length s) where
@@ -123,12 +123,12 @@ module _ {script : List ℕ} {from : ℕ} (first : 1 ≤ from) (inside : from �
         unfolding push withStack filled grown change opened make withStore withDictionary
         stack-fit R = omega (arith, items-length (R .items), room)
 
-        pub group-none : freeCells m c < count ns + 1 + wanted ns → TakesGroup script from m s s d d′ c c (Fail VmError)
+        pub group-none : freeCells m c < count ns + 1 + wanted ns → TakesGroup script from m s s d d′ c c (Fail VmError after)
         unfolding push withStack filled grown change opened make withStore withDictionary
         group-none few = record {
           takes = λ e l μ R.
               let many : freeCells m c < sumOf cells (group-news ns μ) = omega (arith, few, group-cells ns μ) in
-              (nested ns μ, after, read-is μ, room-none R (procedure ns μ) (group-news ns μ) (store-is ns μ) (names-fit R) (exec-fits R) (stack-fit R) many, refl, refl, stays R);
+              (nested ns μ, read-is μ, room-none R (procedure ns μ) (group-news ns μ) (store-is ns μ) (names-fit R) (exec-fits R) (stack-fit R) many, refl, refl, stays R, low);
         }
 
         module _ (enough : count ns + 1 + wanted ns ≤ freeCells m c) where
@@ -145,11 +145,11 @@ module _ {script : List ℕ} {from : ℕ} (first : 1 ≤ from) (inside : from �
               }
 
           pub group-ready : {size : ℕ} → length script ≤ scriptMost → size ≡ count ns → size ≤ 32768 → (e : List ℕ) × (l : List ℕ) × (μ : Floo.Machine) × Rep m s e d c l μ → ReadyGroup script from size q s d′ c
-          group-ready short is low (e, l, μ, R) = (inside, short, low, (e, l, withNames (names ns) μ, ns, after, roomy R, is))
+          group-ready short is few (e, l, μ, R) = (inside, short, few, (e, l, withNames (names ns) μ, ns, after, roomy R, is))
 
-          pub group-done : after ≤ length script → {r : Machine} {s′ c′ : List ℕ} → ConstructsGroup script from q r s s′ d′ c c′ → TakesGroup script from m s s′ d d′ c c′ (Done r after)
+          pub group-done : {r : Machine} {s′ c′ : List ℕ} → ConstructsGroup script from q r s s′ d′ c c′ → TakesGroup script from m s s′ d d′ c c′ (Done r after)
           unfolding made push withStack filled grown change opened make withStore withDictionary
-          group-done low {r} {s′} {c′} C = record {
+          group-done {r} {s′} {c′} C = record {
             takes = λ e l μ R.
                 let few : sumOf cells (group-news ns μ) ≤ freeCells m c = omega (arith, enough, group-cells ns μ) in
                 let log : length (procedure ns μ .log) ≤ length l = log-same l μ (log-fits R) in (

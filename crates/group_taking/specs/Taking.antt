@@ -31,16 +31,16 @@ abbrev pub Opened : List ℕ → ℕ → Machine → List ℕ → List ℕ → L
 Opened script from m s d c =
     (1 ≤ from) × (from ≤ length script) × (length script ≤ scriptMost) × ((e : List ℕ) × (l : List ℕ) × (μ : Floo.Machine) × Rep m s e d c l μ)
 
--- The machine after the group, and the offset after it; or the error of the test of room, or what is wrong with the group's text, where the words stand for
--- what they stood for.
+-- The machine after the group, and the offset after it; or the error of the test of room, with that offset, or what is wrong with the group's text, where the
+-- words stand for what they stood for.
 abbrev pub GroupedAs : List ℕ → ℕ → Machine → List ℕ → List ℕ → List ℕ → List ℕ → List ℕ → List ℕ → List ℕ → List ℕ → Floo.Machine → Grouped → Type 0
 GroupedAs script from m s s′ e d d′ c c′ l μ (Done r after) =
     (ν : Floo.Machine) × (groupRead script from μ ≡ taken (array true (made μ)) ν after)
     × (roomFor (lent s e d c l) μ (push (array true (made μ)) ν) ≡ ok (push (array true (made μ)) ν))
     × Rep r s′ e d′ c′ l (push (array true (made μ)) ν) × (after ≤ length script)
-GroupedAs script from m s s′ e d d′ c c′ l μ (Fail x) =
-    (ν : Floo.Machine) × (after : ℕ) × (groupRead script from μ ≡ taken (array true (made μ)) ν after)
-    × (roomFor (lent s e d c l) μ (push (array true (made μ)) ν) ≡ fault x) × (s′ ≡ s) × (c′ ≡ c) × Rep m s e d′ c l μ
+GroupedAs script from m s s′ e d d′ c c′ l μ (Fail x after) =
+    (ν : Floo.Machine) × (groupRead script from μ ≡ taken (array true (made μ)) ν after)
+    × (roomFor (lent s e d c l) μ (push (array true (made μ)) ν) ≡ fault x) × (s′ ≡ s) × (c′ ≡ c) × Rep m s e d′ c l μ × (after ≤ length script)
 GroupedAs script from m s s′ e d d′ c c′ l μ (Misread r f) = (groupRead script from μ ≡ fault f) × (s′ ≡ s) × (c′ ≡ c) × Rep m s e d′ c l μ
 
 pub record TakesGroup (script : List ℕ) (from : ℕ) (m : Machine) (s s′ d d′ c c′ : List ℕ) (r : Grouped) : Type 0 where

@@ -11,11 +11,11 @@ use semantics::Fault;
 use semantics::STACK_WIDTH;
 use taking::Named;
 
-// What taking a group came to: the machine and the offset after the group; the error; or the machine as it was, and what is wrong with the group's text. The last
-// has the machine where the first has it, so that the compiler keeps its words whole.
+// What taking a group came to: the machine and the offset after the group; the error and that offset, since a handled error counts the group as taken; or the
+// machine as it was, and what is wrong with the group's text. The last has the machine where the first has it, so that the compiler keeps its words whole.
 pub enum Grouped {
     Done(Machine, usize),
-    Fail(Error),
+    Fail(Error, usize),
     Misread(Machine, Fault),
 }
 
@@ -38,13 +38,13 @@ pub fn take_group(
     };
     let named = taking::add_names(m, dict, script, from, after);
     let Named::Done(with) = named else {
-        return Grouped::Fail(taking::fault_of(named));
+        return Grouped::Fail(taking::fault_of(named), after);
     };
     if stack.len() < STACK_WIDTH * m.depth + STACK_WIDTH {
-        return Grouped::Fail(Error::StackOverflow);
+        return Grouped::Fail(Error::StackOverflow, after);
     }
     if (elements::free_cells(m, cells) as usize) < size + 1 + wants {
-        return Grouped::Fail(Error::VmError);
+        return Grouped::Fail(Error::VmError, after);
     }
     Grouped::Done(
         construct(with, stack, dict, cells, script, from, size),

@@ -1,6 +1,7 @@
 pub mod Kinding
 pub mod Logs
 pub mod OutcomeFits
+pub mod RunHandlers
 pub mod RunStore
 pub mod StepGrowth
 pub mod StepStore

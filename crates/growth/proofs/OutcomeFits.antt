@@ -10,10 +10,9 @@ use Rattle.semantics.specs.Values.{Value, Object}
 use Rattle.semantics.specs.Machine.{Machine}
 use Rattle.semantics.specs.Steps.{Limits, run, initial}
 use Rattle.semantics.specs.Outcome.{outcome}
-use Rattle.semantics.specs.OutcomeLaws.{Short, plain, command-length, outcome-length}
+use Rattle.semantics.specs.OutcomeLaws.{Short, plain, outcome-length}
 use Rattle.semantics.specs.ListLaws.{all-weaker, all-any}
 use Rattle.walk.specs.Parts.{Parts, Good, a-word, a-truth, a-null, a-mark, an-operator, a-name, a-string, an-array, any-references}
-use Rattle.walk.proofs.StepsKeep.{Command, nothing-executed, executed}
 use Rattle.walk.proofs.RunsKeep.{run-keeps, initial-keeps}
 
 unfoldable names : Parts
@@ -49,12 +48,8 @@ short v (a-name h) = record { brief = h }
 short v (a-string h) = plain tt
 short v (an-array h) = plain tt
 
-command-short : {c : List ℕ} → Command names c → length c ≤ 124
-command-short nothing-executed = omega arith
-command-short (executed {v = v} h) = command-length v (short v h)
-
 pub outcome-fits : (l : Limits) (script : List ℕ) (fuel : ℕ) → length (outcome (run l script fuel initial)) ≤ headRoom + itemRoom * l .stackSlots
 unfolding names initial
 outcome-fits l script fuel =
-    let r = run-keeps names (λ (m : Machine). length (m .stack) ≤ l .stackSlots) l script (all-any script) tt (λ m w. w .stack) (λ m h. tt) fuel initial (initial-keeps names) (omega arith) in
-    outcome-length (l .stackSlots) (run l script fuel initial) (command-short (r .command)) (all-weaker short (r .parts .stack)) (r .room)
+    let r = run-keeps names (λ (m : Machine). length (m .stack) ≤ l .stackSlots) l script (all-any script) tt (λ a b w. w .stack) (λ m h. tt) fuel initial (initial-keeps names) (omega arith) in
+    outcome-length (l .stackSlots) (run l script fuel initial) (r .command) (all-weaker short (r .parts .stack)) (r .room)

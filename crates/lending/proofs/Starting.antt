@@ -22,7 +22,7 @@ use Rattle.machine.proofs.Rooted.{rooted}
 use Rattle.elements.specs.Elements.{freeCells}
 use Rattle.dictionary.specs.Names.{slotOf, Kept}
 use Rattle.dictionary.proofs.Adding.{kept-rep}
-use Rattle.dictionary.proofs.Dictionaries.{assign-sits}
+use Rattle.semantics.specs.SlotLaws.{assign-sits}
 use Rattle.dictionary.proofs.Lookups.{found, slotted-missing, slotted-has}
 use Rattle.start.specs.Begins.{Begins}
 use Rattle.run_loop.specs.History.{moment}
@@ -59,6 +59,7 @@ restacked R z few =
       items = no-items z (R .items);
       frames = R .frames;
       slots = R .slots;
+      handled = R .handled;
     }
 
 -- ---- on machines

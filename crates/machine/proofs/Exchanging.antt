@@ -17,7 +17,7 @@ use Rattle.store.proofs.Rooting.{rep-alike, rep-exchange, exchange-full, exchan
 use Rattle.machine.specs.Places.{frameValue, bound, roots, rootCount}
 use Rattle.machine.specs.Rep.{Rep, World, IsIn, Items, Frames}
 use Rattle.machine.specs.declared.Machine.{Machine}
-use Rattle.machine.proofs.Carrying.{Reached, items-map, frames-map, slots-map}
+use Rattle.machine.proofs.Carrying.{Reached, items-map, frames-map, slots-map, handled-map}
 use Rattle.machine.proofs.Rerooting.{withDepths}
 
 all-reached : {A : Type 0} (f : A → Value) (l : List A) → All (λ a. Reached (λ i. Unit {0}) (f a)) l
@@ -59,6 +59,7 @@ module _ {m : Machine} {st e d c l : List ℕ} {μ : Floo.Machine} (R : Rep m st
         items = items-map carry (all-reached (λ v. v) stack) items;
         frames = frames-map carry (λ i t p w. refl) (λ i t p a r q w s. s) (all-reached frameValue exec) frames;
         slots = slots-map carry (all-reached (λ (s : Slot). bound (s .binding)) (μ .dictionary)) (R .slots);
+        handled = handled-map carry (all-reached (λ (s : Slot). bound (s .binding)) (μ .handlers)) (R .handled);
         naming = R .naming;
         logging = R .logging;
         stopped = R .stopped;

@@ -1,5 +1,4 @@
 pub mod Naming
-pub mod Distinct
 pub mod Items
 pub mod Stacking
 pub mod Carrying

@@ -4,14 +4,14 @@ use mathlib.Core.Path.{_≡_, refl, sym, ap, _∙_}
 use mathlib.Core.List.{List, _∷_}
 use mathlib.Core.Logic.{⊎-elim}
 use lib.ListN.{length}
-use Prim.Native.Nat.{ℕ, zero, suc, _+_, _*_, _/_, _%_}
+use Prim.Native.Nat.{ℕ, zero, suc, _+_, _*_}
 use native.Mathlib.Omega.{arith}
 use Rattle.semantics.specs.Values.{Value, null}
 use Rattle.semantics.specs.Machine.{Machine}
 use Rattle.heap.specs.Upd.{upd}
 use Rattle.heap.proofs.Upds.{same?, upd-at, upd-other}
-use Rattle.machine.specs.Places.{fromEnd, frameValue, rootIn, roots}
-use Rattle.machine.proofs.Roots.{at-end, at-other}
+use Rattle.machine.specs.Places.{fromEnd, frameValue, bindingAt, rootIn, roots}
+use Rattle.machine.proofs.Roots.{region-changed, at-end, at-other}
 
 -- A list with one more at its front.
 pub front-at : {A : Type 0} (f : A → Value) (a : A) (l : List A) (n : ℕ) (v : Value)
@@ -33,27 +33,19 @@ rest-at f a l n e y =
     (λ (q : y ≡ n → ⊥). sym (at-other f a l y (λ z. q (z ∙ e))) ∙ sym (upd-other (fromEnd f (a ∷ l)) n null y q))
     (same? y n)
 
-module _ (μ τ : Machine) (dictionary : τ .dictionary ≡ μ .dictionary) where
+module _ (μ τ : Machine) (dictionary : τ .dictionary ≡ μ .dictionary) (handlers : τ .handlers ≡ μ .handlers) where
   -- Only the execution slot j has another value.
   pub exec-at : (j : ℕ) (v : Value)
       → τ .stack ≡ μ .stack
       → ((x : ℕ) → fromEnd frameValue (τ .exec) x ≡ upd (fromEnd frameValue (μ .exec)) j v x)
       → (r : ℕ)
       → roots τ r ≡ upd (roots μ) (4 * j + 1) v r
-  unfolding roots rootIn
-  exec-at j v stack exec r = by (r % 4) refl
+  unfolding rootIn
+  exec-at j v stack exec r = region-changed μ τ 1 j v (omega arith) exec other r
     where
-      by : (k : ℕ) → r % 4 ≡ k → rootIn τ k (r / 4) ≡ upd (roots μ) (4 * j + 1) v r
-      by zero q = ap (λ s. fromEnd (λ x. x) s (r / 4)) stack ∙ sym (upd-other (roots μ) (4 * j + 1) v r (λ e. omega arith) ∙ ap (λ k. rootIn μ k (r / 4)) q)
-      by (suc zero) q =
-          exec (r / 4)
-          ∙ ⊎-elim
-          (λ (e : r / 4 ≡ j). upd-at (fromEnd frameValue (μ .exec)) j v (r / 4) e ∙ sym (upd-at (roots μ) (4 * j + 1) v r (omega arith)))
-          (λ (e : r / 4 ≡ j → ⊥).
-          upd-other (fromEnd frameValue (μ .exec)) j v (r / 4) e
-          ∙ sym (upd-other (roots μ) (4 * j + 1) v r (λ z. e (omega arith)) ∙ ap (λ k. rootIn μ k (r / 4)) q))
-          (same? (r / 4) j)
-      by (suc (suc zero)) q =
-          ap (λ d. rootIn (record { stack = μ .stack; dictionary = d; exec = μ .exec; store = μ .store; log = μ .log; stopped = μ .stopped }) 2 (r / 4)) dictionary
-          ∙ sym (upd-other (roots μ) (4 * j + 1) v r (λ e. omega arith) ∙ ap (λ k. rootIn μ k (r / 4)) q)
-      by (suc (suc (suc k))) q = sym (upd-other (roots μ) (4 * j + 1) v r (λ e. omega arith) ∙ ap (λ k. rootIn μ k (r / 4)) q)
+      other : (k i : ℕ) → (k ≡ 1 → ⊥) → rootIn τ k i ≡ rootIn μ k i
+      other zero i n = ap (λ s. fromEnd (λ x. x) s i) stack
+      other (suc zero) i n = absurd (n refl)
+      other (suc (suc zero)) i n = ap (λ d. bindingAt d i) dictionary
+      other (suc (suc (suc zero))) i n = ap (λ d. bindingAt d i) handlers
+      other (suc (suc (suc (suc k)))) i n = refl

@@ -4,7 +4,7 @@
 use mathlib.Core.Path.{_≡_, refl, sym, subst}
 use mathlib.Core.Bool.{true}
 use mathlib.Core.List.{List, map}
-use Prim.Native.Nat.{ℕ, zero, suc, _+_, _*_, _/_, _%_, _≤_}
+use Prim.Native.Nat.{ℕ, _+_, _*_, _≤_}
 use native.Mathlib.Omega.{arith}
 use lib.ListN.{length}
 use Rattle.semantics.specs.Values.{Value, array, Object}
@@ -15,23 +15,17 @@ use Rattle.heap.specs.Chain.{on}
 use Rattle.heap.specs.declared.Lists.{Lists}
 use Rattle.store.specs.Rep.{isText, Names, Alive, objectAt}
 use Rattle.store.proofs.Deaths.{root-alive}
-use Rattle.machine.specs.Places.{frameValue, bound, rootIn, roots, keys}
+use Rattle.machine.specs.Places.{frameValue, bound, roots, keys}
 use Rattle.machine.specs.Rep.{Rep, World, Stored, Is, IsIn, Items}
 use Rattle.machine.specs.declared.Machine.{Machine}
-use Rattle.machine.proofs.Carrying.{Reached, all-from-end, all-bindings, items-map, slots-map, frames-map}
-use Rattle.machine.proofs.Roots.{stack-root, exec-root, binding-root}
+use Rattle.machine.proofs.Carrying.{Reached, all-from-end, all-bindings, items-map, slots-map, handled-map, frames-map}
+use Rattle.machine.proofs.Roots.{roots-alike, stack-root, exec-root, binding-root, handler-root}
 use Rattle.machine.proofs.Restacking.{withDepth}
 
 -- The objects are no root places.
 pub roots-store : (μ : Floo.Machine) (store : List Object) (r : ℕ) → roots (withStore store μ) r ≡ roots μ r
-unfolding roots rootIn withStore
-roots-store μ store r = by (r % 4) (r / 4)
-  where
-    by : (x j : ℕ) → rootIn (withStore store μ) x j ≡ rootIn μ x j
-    by zero j = refl
-    by (suc zero) j = refl
-    by (suc (suc zero)) j = refl
-    by (suc (suc (suc x))) j = refl
+unfolding withStore
+roots-store μ store r = roots-alike μ (withStore store μ) refl refl refl refl r
 
 module _ {m : Machine} {st e d c l : List ℕ} {μ : Floo.Machine} (R : Rep m st e d c l μ) (w : World) (stack : List Value) (store : List Object)
     {s : Lists} {c′ : List ℕ} (H : Stored w s c′ (keys μ) store (roots (withStack stack (withStore store μ))))
@@ -61,6 +55,10 @@ module _ {m : Machine} {st e d c l : List ℕ} {μ : Floo.Machine} (R : Rep m st
   unfolding withStack withStore
   slots-reached = all-bindings (μ .dictionary) (λ j i a. reached (4 * j + 2) i (subst (λ x. Names x i) (sym (binding-root after j)) a))
 
+  handlers-reached : All (λ (s : Slot). Reached (Alive (w .ρ) (w .ghost)) (bound (s .binding))) (μ .handlers)
+  unfolding withStack withStore
+  handlers-reached = all-bindings (μ .handlers) (λ j i a. reached (4 * j + 3) i (subst (λ x. Names x i) (sym (handler-root after j)) a))
+
   -- The new machine, in the world w.
   pub rehoused-in : (st′ : List ℕ) (n : ℕ)
       → length st′ ≡ length st
@@ -75,6 +73,7 @@ module _ {m : Machine} {st e d c l : List ℕ} {μ : Floo.Machine} (R : Rep m st
       items = items;
       frames = frames-map carry long stays frames-reached (R .frames);
       slots = slots-map carry slots-reached (R .slots);
+      handled = handled-map carry handlers-reached (R .handled);
       naming = R .naming;
       logging = R .logging;
       stopped = R .stopped;

@@ -117,6 +117,7 @@ module _ {m : Machine} {st e d c l : List ℕ} {μ : Floo.Machine} (R : Rep m st
         items = items-set (R .items) 0 k h words (λ j a b. getD-set-other st (2 * k) j t 0 a);
         frames = R .frames;
         slots = R .slots;
+        handled = R .handled;
         naming = R .naming;
         logging = R .logging;
         stopped = R .stopped;

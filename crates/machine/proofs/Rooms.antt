@@ -5,9 +5,10 @@ use mathlib.Core.Path.{_≡_, refl, sym, ap, _∙_}
 use mathlib.Core.List.{List}
 use Prim.Native.Nat.{ℕ, suc, _/_, _≤_, _<_}
 use native.Mathlib.Omega.{arith}
-use lib.ListN.{length, drop-of-length-le}
+use lib.ListN.{length, drop-of-length-le, length-take, length-map}
 use lib.Seq.{length-take-le}
 use borrow.Author.Tests.{le-leb, lt-leb}
+use Rattle.semantics.specs.Sizes.{operatorCount}
 use Rattle.semantics.specs.Values.{Value, Result, ok, fault, _>>=_, check, Object}
 use Rattle.semantics.specs.Machine as Floo
 use Rattle.semantics.specs.Machine.{withStack}
@@ -15,6 +16,8 @@ use Rattle.semantics.specs.Held.{sumOf}
 use Rattle.semantics.specs.Steps.{Limits, roomFor, newCells, cellsFor}
 use Rattle.semantics.specs.declared.Error.{Error}
 use Rattle.semantics.specs.declared.Error.the-variants.{ExecStackOverflow, StackOverflow}
+use Rattle.store.proofs.Standing.{titles-count}
+use Rattle.machine.specs.Places.{keys}
 use Rattle.machine.specs.Rep.{Rep, OnStack, OnHeap, Frames, frame}
 use Rattle.machine.specs.Room.{lent, fitted, DoesStack, DoesHeap}
 use Rattle.machine.specs.declared.Machine.{Machine}
@@ -37,6 +40,12 @@ module _ {m : Machine} {s e d c l : List ℕ} {μ : Floo.Machine} (R : Rep m s e
 
   pub dictionary-fits : length (μ .dictionary) ≤ length d / 12
   dictionary-fits = omega (arith, R .naming .many, R .rooms .dict-fits)
+
+  pub keys-enough : operatorCount ≤ length (keys μ)
+  keys-enough = omega (arith, ap length (R .naming .titled), titles-count, length-take operatorCount (keys μ))
+
+  pub names-enough : operatorCount ≤ m .names
+  names-enough = omega (arith, keys-enough, R .naming .many, length-map (μ .dictionary) (λ (s : Floo.Slot). s .key))
 
   pub logged-length : length (μ .log) ≡ m .written
   logged-length = ap length (sym (R .logging .logged)) ∙ length-take-le (m .written) l (R .logging .fits)

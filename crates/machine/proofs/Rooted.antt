@@ -1,4 +1,4 @@
--- The root places name what the definition's roots list: both are the values of the stack, the bindings and the execution slots, in another order.
+-- The root places name what the definition's roots list: both are the values of the stack, the bindings, the execution slots and the handlers, in another order.
 -- Assumes nothing.
 use mathlib.Core.Path.{_≡_, refl, sym, ap, _∙_, subst}
 use mathlib.Core.List.{List, [], _∷_, _++_, map, append-assoc}
@@ -18,7 +18,7 @@ use Rattle.store.proofs.Standing.{null-names}
 use Rattle.store.proofs.Holding.{Roots, names-gather, gather-names}
 use Rattle.machine.specs.Places.{fromEnd, frameValue, bound, bindingAt, rootIn, roots}
 use Rattle.machine.proofs.Naming.{past-end}
-use Rattle.machine.proofs.Roots.{stack-root, exec-root, binding-root, at-front}
+use Rattle.machine.proofs.Roots.{stack-root, exec-root, binding-root, handler-root, at-front}
 
 -- ---- a list of values that names i
 
@@ -69,7 +69,7 @@ binding-value (s ∷ d) zero = refl
 binding-value (s ∷ d) (suc j) = binding-value d j
 
 abbrev pub rootValues : Machine → List Value
-rootValues μ = μ .stack ++ bindings (μ .dictionary) ++ map frameValue (μ .exec)
+rootValues μ = μ .stack ++ bindings (μ .dictionary) ++ map frameValue (μ .exec) ++ bindings (μ .handlers)
 
 gather-append : (a b : List Value) → gather ofValue (a ++ b) ≡ gather ofValue a ++ gather ofValue b
 unfolding gather
@@ -94,16 +94,21 @@ unfolding ofBinding ofValue
 binding-names none = refl
 binding-names (some v) = refl
 
+bindings-named : (d : List Slot) → gather (λ (s : Slot). ofBinding (s .binding)) d ≡ gather ofValue (bindings d)
+bindings-named d = gather-map (λ (s : Slot). bound (s .binding)) (λ s. ofBinding (s .binding)) (λ s. binding-names (s .binding)) d
+
 pub listed : (μ : Machine) → Held.roots μ ≡ gather ofValue (rootValues μ)
 unfolding Held.roots
 listed μ =
     let b = bindings (μ .dictionary) in
     let f = map frameValue (μ .exec) in
-    ap (λ x. gather ofValue (μ .stack) ++ x ++ gather ofFrame (μ .exec))
-    (gather-map (λ (s : Slot). bound (s .binding)) (λ s. ofBinding (s .binding)) (λ s. binding-names (s .binding)) (μ .dictionary))
-    ∙ ap (λ x. gather ofValue (μ .stack) ++ gather ofValue b ++ x) (gather-map frameValue ofFrame frame-names (μ .exec))
-    ∙ ap (λ x. x ++ gather ofValue f) (sym (gather-append (μ .stack) b))
-    ∙ sym (gather-append (μ .stack ++ b) f)
+    let h = bindings (μ .handlers) in
+    ap (λ x. gather ofValue (μ .stack) ++ x ++ gather ofFrame (μ .exec) ++ gather (λ (s : Slot). ofBinding (s .binding)) (μ .handlers)) (bindings-named (μ .dictionary))
+    ∙ ap (λ x. gather ofValue (μ .stack) ++ gather ofValue b ++ x ++ gather (λ (s : Slot). ofBinding (s .binding)) (μ .handlers)) (gather-map frameValue ofFrame frame-names (μ .exec))
+    ∙ ap (λ x. gather ofValue (μ .stack) ++ gather ofValue b ++ gather ofValue f ++ x) (bindings-named (μ .handlers))
+    ∙ ap (λ x. x ++ gather ofValue f ++ gather ofValue h) (sym (gather-append (μ .stack) b))
+    ∙ ap (λ x. x ++ gather ofValue h) (sym (gather-append (μ .stack ++ b) f))
+    ∙ sym (gather-append (μ .stack ++ b ++ f) h)
 
 pub map-self : (l : List Value) → map (λ v. v) l ≡ l
 map-self [] = refl
@@ -116,7 +121,9 @@ module _ (μ : Machine) where
   place-of i q n =
       let b = bindings (μ .dictionary) in
       let f = map frameValue (μ .exec) in
+      let h = bindings (μ .handlers) in
       ⊎-elim
+      (λ u. ⊎-elim
       (λ x. ⊎-elim
       (λ y. let z = to-end i (λ v. v) (μ .stack) (y .0) (subst (λ l. Names (getD l (y .0) null) i) (sym (map-self (μ .stack))) (y .1)) in
       (4 * z .0, subst (λ v. Names v i) (sym (stack-root μ (z .0))) (z .1)))
@@ -124,21 +131,28 @@ module _ (μ : Machine) where
       (either i (μ .stack) b (x .0) (x .1)))
       (λ x. let z = to-end i frameValue (μ .exec) (x .0) (x .1) in
       (4 * z .0 + 1, subst (λ v. Names v i) (sym (exec-root μ (z .0))) (z .1)))
-      (either i (μ .stack ++ b) f q n)
+      (either i (μ .stack ++ b) f (u .0) (u .1)))
+      (λ u. (4 * u .0 + 3, subst (λ v. Names v i) (sym (handler-root μ (u .0) ∙ binding-value (μ .handlers) (u .0))) (u .1)))
+      (either i (μ .stack ++ b ++ f) h q n)
+
+  before-handlers : (i : ℕ) → Naming (μ .stack ++ bindings (μ .dictionary) ++ map frameValue (μ .exec)) i → Naming (rootValues μ) i
+  before-handlers i x = on-left i (μ .stack ++ bindings (μ .dictionary) ++ map frameValue (μ .exec)) (bindings (μ .handlers)) (x .0) (x .1)
 
   value-of : (i k j : ℕ) → Names (rootIn μ k j) i → Naming (rootValues μ) i
   unfolding rootIn
   value-of i zero j n =
       let x = from-end i (λ v. v) (μ .stack) j n in
       let y = on-left i (μ .stack) (bindings (μ .dictionary)) (x .0) (subst (λ l. Names (getD l (x .0) null) i) (map-self (μ .stack)) (x .1)) in
-      on-left i (μ .stack ++ bindings (μ .dictionary)) (map frameValue (μ .exec)) (y .0) (y .1)
+      before-handlers i (on-left i (μ .stack ++ bindings (μ .dictionary)) (map frameValue (μ .exec)) (y .0) (y .1))
   value-of i (suc zero) j n =
       let x = from-end i frameValue (μ .exec) j n in
-      on-right i (μ .stack ++ bindings (μ .dictionary)) (map frameValue (μ .exec)) (x .0) (x .1)
+      before-handlers i (on-right i (μ .stack ++ bindings (μ .dictionary)) (map frameValue (μ .exec)) (x .0) (x .1))
   value-of i (suc (suc zero)) j n =
       let y = on-right i (μ .stack) (bindings (μ .dictionary)) j (subst (λ v. Names v i) (binding-value (μ .dictionary) j) n) in
-      on-left i (μ .stack ++ bindings (μ .dictionary)) (map frameValue (μ .exec)) (y .0) (y .1)
-  value-of i (suc (suc (suc k))) j n = absurd (null-names n refl)
+      before-handlers i (on-left i (μ .stack ++ bindings (μ .dictionary)) (map frameValue (μ .exec)) (y .0) (y .1))
+  value-of i (suc (suc (suc zero))) j n =
+      on-right i (μ .stack ++ bindings (μ .dictionary) ++ map frameValue (μ .exec)) (bindings (μ .handlers)) j (subst (λ v. Names v i) (binding-value (μ .handlers) j) n)
+  value-of i (suc (suc (suc (suc k)))) j n = absurd (null-names n refl)
 
   pub rooted : Roots μ (roots μ)
   unfolding roots

@@ -37,6 +37,54 @@ module _ (μ : Machine) (j : ℕ) where
   unfolding rootIn
   binding-root = region 2 (omega arith)
 
+  pub handler-root : roots μ (4 * j + 3) ≡ bindingAt (μ .handlers) j
+  unfolding rootIn
+  handler-root = region 3 (omega arith)
+
+-- ---- other machines
+
+-- Places of the same stacks, bindings and handlers hold the same.
+pub roots-alike : (μ τ : Machine)
+    → τ .stack ≡ μ .stack
+    → τ .exec ≡ μ .exec
+    → τ .dictionary ≡ μ .dictionary
+    → τ .handlers ≡ μ .handlers
+    → (r : ℕ)
+    → roots τ r ≡ roots μ r
+unfolding roots rootIn
+roots-alike μ τ stack exec dictionary handlers r = by (r % 4)
+  where
+    by : (k : ℕ) → rootIn τ k (r / 4) ≡ rootIn μ k (r / 4)
+    by zero = ap (λ s. fromEnd (λ v. v) s (r / 4)) stack
+    by (suc zero) = ap (λ s. fromEnd frameValue s (r / 4)) exec
+    by (suc (suc zero)) = ap (λ d. bindingAt d (r / 4)) dictionary
+    by (suc (suc (suc zero))) = ap (λ d. bindingAt d (r / 4)) handlers
+    by (suc (suc (suc (suc k)))) = refl
+
+-- One place of one region changes, and no other region.
+pub region-changed : (μ τ : Machine) (q j : ℕ) (v : Value)
+    → q < 4
+    → ((i : ℕ) → rootIn τ q i ≡ upd (rootIn μ q) j v i)
+    → ((k i : ℕ) → (k ≡ q → ⊥) → rootIn τ k i ≡ rootIn μ k i)
+    → (r : ℕ)
+    → roots τ r ≡ upd (roots μ) (4 * j + q) v r
+unfolding roots
+region-changed μ τ q j v low here other r = ⊎-elim inside outside (same? (r % 4) q)
+  where
+    inside : r % 4 ≡ q → rootIn τ (r % 4) (r / 4) ≡ upd (roots μ) (4 * j + q) v r
+    inside e =
+        ap (λ k. rootIn τ k (r / 4)) e
+        ∙ here (r / 4)
+        ∙ ⊎-elim
+        (λ (z : r / 4 ≡ j). upd-at (rootIn μ q) j v (r / 4) z ∙ sym (upd-at (roots μ) (4 * j + q) v r (omega arith)))
+        (λ (z : r / 4 ≡ j → ⊥).
+        upd-other (rootIn μ q) j v (r / 4) z
+        ∙ sym (upd-other (roots μ) (4 * j + q) v r (λ w. z (omega arith)) ∙ ap (λ k. rootIn μ k (r / 4)) e))
+        (same? (r / 4) j)
+
+    outside : (r % 4 ≡ q → ⊥) → rootIn τ (r % 4) (r / 4) ≡ upd (roots μ) (4 * j + q) v r
+    outside n = other (r % 4) (r / 4) n ∙ sym (upd-other (roots μ) (4 * j + q) v r (λ w. n (omega arith)))
+
 -- ---- the stack with one place changed
 
 pub roots-at : (μ : Machine) (new : List Value) (k : ℕ) (v : Value)
@@ -54,7 +102,8 @@ roots-at μ new k v other here r = ⊎-elim yes no (same? r (4 * k))
     by zero h = other (r / 4) (λ e. h e refl)
     by (suc zero) h = refl
     by (suc (suc zero)) h = refl
-    by (suc (suc (suc x))) h = refl
+    by (suc (suc (suc zero))) h = refl
+    by (suc (suc (suc (suc x)))) h = refl
 
     no : (r ≡ 4 * k → ⊥) → roots (withStack new μ) r ≡ upd (roots μ) (4 * k) v r
     no e = by (r % 4) (λ q z. e (omega arith)) ∙ sym (upd-other (roots μ) (4 * k) v r e)

@@ -41,6 +41,7 @@ module _ {m : Machine} {st e d c l : List ℕ} {μ : Floo.Machine} (R : Rep m st
         items = items;
         frames = R .frames;
         slots = R .slots;
+        handled = R .handled;
         naming = R .naming;
         logging = R .logging;
         stopped = R .stopped;

@@ -97,7 +97,7 @@ module _ {m : Machine} {st e d c l : List ℕ} {μ : Floo.Machine} (R : Rep m st
   drop-rep {s′} {c′} K =
       subst (λ fs. Rep (withDepths (m .depth) k s′ m) st e d c′ l (withExec (drop 1 fs) μ)) (sym (slot .split))
       (rerooted R (4 * k + 1) inside old nothing K (μ .stack) (slot .rest)
-      (exec-at μ (withExec (slot .rest) μ) refl k null refl without)
+      (exec-at μ (withExec (slot .rest) μ) refl refl k null refl without)
       refl refl (R .rooms .stack-fits) (omega (arith, R .rooms .exec-fits)) (R .items) (slot .below))
 
   -- ---- its value goes to the stack
@@ -111,7 +111,7 @@ module _ {m : Machine} {st e d c l : List ℕ} {μ : Floo.Machine} (R : Rep m st
     changed r =
         let first = withStack (value ∷ μ .stack) μ in
         let free : roots μ (4 * m .depth) ≡ null = stack-root μ (m .depth) ∙ at-end (λ x. x) (μ .stack) (m .depth) (omega (arith, depth)) in
-        exec-at first (withExec (slot .rest) first) refl k null refl without r
+        exec-at first (withExec (slot .rest) first) refl refl k null refl without r
         ∙ upd-alike (roots first) (upd (roots μ) (4 * m .depth) value) (4 * k + 1) null r
         (roots-at μ (value ∷ μ .stack) (m .depth) value
         (λ j q. at-other (λ x. x) value (μ .stack) j (λ z. q (z ∙ depth)))

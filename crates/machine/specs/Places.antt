@@ -1,13 +1,13 @@
--- Root places: the stack's items, the execution slots and the dictionary's bindings, and the value in each.
+-- Root places: the stack's items, the execution slots, the dictionary's bindings and the handlers, and the value in each.
 -- Assumes nothing.
-use mathlib.Core.Path.{_≡_}
 use mathlib.Core.Bool.{Bool, true, false}
 use mathlib.Core.List.{List, [], _∷_, map}
 use mathlib.Core.Option.{Option, none, some}
 use Prim.Native.Nat.{ℕ, zero, suc, _/_, _%_}
-use lib.ListN.{length, getElem?}
+use lib.ListN.{length}
 use lib.Dec.{T}
 use Rattle.semantics.specs.Values.{Value, integer, boolean, null, mark, operator, name, string, array}
+use Rattle.semantics.specs.SlotLaws.{keysOf}
 use Rattle.semantics.specs.Machine.{Machine, Frame, pending, running, looping, repeating, counting, Slot}
 use Rattle.heap.specs.Upd.{upd}
 use Rattle.store.specs.Rep.{isText}
@@ -51,12 +51,13 @@ bindingAt [] i = null
 bindingAt (s ∷ d) zero = bound (s .binding)
 bindingAt (s ∷ d) (suc i) = bindingAt d i
 
--- Root place 4 i is stack item i from the bottom, 4 i + 1 execution slot i, 4 i + 2 the binding of dictionary slot i.
+-- Root place 4 i is stack item i from the bottom, 4 i + 1 execution slot i, 4 i + 2 the binding of dictionary slot i, 4 i + 3 the handler of error i.
 unfoldable pub rootIn : Machine → ℕ → ℕ → Value
 rootIn σ zero i = fromEnd (λ v. v) (σ .stack) i
 rootIn σ (suc zero) i = fromEnd frameValue (σ .exec) i
 rootIn σ (suc (suc zero)) i = bindingAt (σ .dictionary) i
-rootIn σ (suc (suc (suc k))) i = null
+rootIn σ (suc (suc (suc zero))) i = bindingAt (σ .handlers) i
+rootIn σ (suc (suc (suc (suc k)))) i = null
 
 unfoldable pub roots : Machine → ℕ → Value
 roots σ r = rootIn σ (r % 4) (r / 4)
@@ -65,15 +66,8 @@ roots σ r = rootIn σ (r % 4) (r / 4)
 abbrev pub rootCount : ℕ
 rootCount = 2048
 
-abbrev pub keysOf : List Slot → List (List ℕ)
-keysOf dictionary = map (λ (s : Slot). s .key) dictionary
-
 abbrev pub keys : Machine → List (List ℕ)
 keys σ = keysOf (σ .dictionary)
 
 abbrev pub texts : Machine → List Bool
 texts σ = map isText (σ .store)
-
--- No name has two slots.
-abbrev pub Distinct : List (List ℕ) → Type 0
-Distinct ks = (i j : ℕ) (n : List ℕ) → getElem? ks i ≡ some n → getElem? ks j ≡ some n → i ≡ j

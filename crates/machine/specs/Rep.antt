@@ -6,12 +6,13 @@ use mathlib.Core.List.{List, [], _∷_}
 use mathlib.Core.Option.{Option, none, some}
 use Prim.Native.Nat.{ℕ, suc, _+_, _*_, _/_, _%_, _≤_, _<_}
 use lib.IntN.{ℤ}
-use lib.ListN.{length, getD, take}
+use lib.ListN.{length, getD, getElem?, take}
 use Rattle.semantics.specs.Sizes.{operatorCount, nameMost, stackWidth, execWidth, dictionaryWidth, stackWordsMost, execWordsMost, dictionaryWordsMost}
 use Rattle.semantics.specs.Words.{signed, word, inRange}
 use Rattle.semantics.specs.Values.{Value, array, Object, Result, ok, fault}
 use Rattle.semantics.specs.Machine as Floo
-use Rattle.semantics.specs.Machine.{Frame, pending, running, looping, repeating, counting, Slot, elementsOf}
+use Rattle.semantics.specs.Machine.{Frame, pending, running, looping, repeating, counting, Slot, Latest, elementsOf}
+use Rattle.semantics.specs.Errors.{errorNames}
 use Rattle.semantics.specs.Steps.{beyond}
 use Rattle.heap.specs.Chain.{on}
 use Rattle.heap.specs.Shape.{Ghost, Full, NoOut, cells}
@@ -19,8 +20,10 @@ use Rattle.heap.specs.Assign.{Alives}
 use Rattle.heap.specs.declared.Lists.{Lists}
 use Rattle.store.specs.Rep as Store
 use Rattle.store.specs.Rep.{Stands, byteOf, titles}
-use Rattle.machine.specs.Words.{itemTag, itemPayload, frameKind, frameTag, framePayload, frameCell, frameLeft, frameFinal, bindingTag, bindingPayload}
-use Rattle.machine.specs.Places.{roots, rootCount, keysOf, keys, texts, Distinct}
+use Rattle.machine.specs.Words.{itemTag, itemPayload, frameKind, frameTag, framePayload, frameCell, frameLeft, frameFinal, bindingTag, bindingPayload, handlerTag, handlerPayload, handlerName, latestError, latestCommand}
+use Rattle.semantics.specs.NameLaws.{Distinct}
+use Rattle.semantics.specs.SlotLaws.{keysOf}
+use Rattle.machine.specs.Places.{roots, rootCount, keys, texts}
 use Rattle.machine.specs.declared.Machine.{Machine}
 use Rattle.machine.specs.declared.Did.{Did}
 use Rattle.machine.specs.declared.Did.the-variants.{Ok, Fail}
@@ -77,6 +80,28 @@ pub data Slots (IsValue : Value → ℕ → ℕ → Type 0) (words : List ℕ) :
   end : {d : ℕ} → Slots IsValue words d []
   slot : {d : ℕ} {s : Slot} {ss : List Slot} → SlotIs IsValue words d s → Slots IsValue words (suc d) ss → Slots IsValue words d (s ∷ ss)
 
+-- The words of an error's row: its handler, if it has one, and then the slot of the error's name.
+pub record RowIs (IsValue : Value → ℕ → ℕ → Type 0) (names : List (List ℕ)) (words : List ℕ) (j : ℕ) (s : Slot) : Type 0 where
+  pub handler : Bound IsValue (s .binding) (handlerTag words j) (handlerPayload words j)
+  pub named : (v : Value) → s .binding ≡ some v → getElem? names (handlerName words j) ≡ some (s .key)
+
+-- The rows from row j on.
+pub data Rows (IsValue : Value → ℕ → ℕ → Type 0) (names : List (List ℕ)) (words : List ℕ) : ℕ → List Slot → Type 0 where
+  end : {j : ℕ} → Rows IsValue names words j []
+  row : {j : ℕ} {s : Slot} {ss : List Slot} → RowIs IsValue names words j s → Rows IsValue names words (suc j) ss → Rows IsValue names words j (s ∷ ss)
+
+-- A stored name: none, or one more than its slot.
+pub data Noted (names : List (List ℕ)) : Option (List ℕ) → ℕ → Type 0 where
+  nothing : Noted names none 0
+  noted : {k : ℕ} {n : List ℕ} → getElem? names k ≡ some n → Noted names (some n) (suc k)
+
+-- The handlers, a row for each error's name, and the latest error's names (02, W1).
+pub record Handled (IsValue : Value → ℕ → ℕ → Type 0) (names : List (List ℕ)) (words : List ℕ) (handlers : List Slot) (latest : Latest) : Type 0 where
+  pub rows : Rows IsValue names words 0 handlers
+  pub errors : keysOf handlers ≡ errorNames
+  pub errorname : Noted names (latest .errorname) (latestError words)
+  pub command : Noted names (latest .command) (latestCommand words)
+
 -- What all parts share: which names have slots, which objects are strings, and which header stands for which object.
 pub record World : Type 0 where
   pub ρ : ℕ → ℕ
@@ -128,6 +153,7 @@ pub record Rep (m : Machine) (stack exec dict cs log : List ℕ) (μ : Floo.Mach
   pub items : Items (IsIn world μ) stack (m .depth) (μ .stack)
   pub frames : Frames (IsIn world μ) (world .ghost) (μ .store) exec (m .frames) (μ .exec)
   pub slots : Slots (IsIn world μ) dict 0 (μ .dictionary)
+  pub handled : Handled (IsIn world μ) (keys μ) dict (μ .handlers) (μ .latest)
 
 -- ---- promises
 

@@ -1,4 +1,4 @@
--- The words of slots by their names: of a stack item, of an execution slot, of a dictionary slot's binding. Items and slots are counted from the bottom.
+-- The words of slots by their names: of a stack item, of an execution slot, of a dictionary slot's binding, of an error's handler. Items and slots are counted from the bottom.
 -- Assumes nothing.
 use mathlib.Core.List.{List}
 use Prim.Native.Nat.{ℕ, _+_, _*_}
@@ -48,3 +48,26 @@ bindingTag words k = getD words (dictionaryWidth * k + 9) 0
 
 abbrev pub bindingPayload : List ℕ → ℕ → ℕ
 bindingPayload words k = getD words (dictionaryWidth * k + 10) 0
+
+-- ---- a handler (02, W1)
+
+-- The last words of dictionary slots serve no name. Those of three slots are the row of an error, by its place among the errors' names: the handler's
+-- value, and the slot of the error's name.
+abbrev pub handlerWidth : ℕ
+handlerWidth = 36
+
+abbrev pub handlerTag : List ℕ → ℕ → ℕ
+handlerTag words j = getD words (handlerWidth * j + 11) 0
+
+abbrev pub handlerPayload : List ℕ → ℕ → ℕ
+handlerPayload words j = getD words (handlerWidth * j + 23) 0
+
+abbrev pub handlerName : List ℕ → ℕ → ℕ
+handlerName words j = getD words (handlerWidth * j + 35) 0
+
+-- The names of the latest error and of its command: 0 for none, else one more than the name's slot.
+abbrev pub latestError : List ℕ → ℕ
+latestError words = getD words 623 0
+
+abbrev pub latestCommand : List ℕ → ℕ
+latestCommand words = getD words 635 0

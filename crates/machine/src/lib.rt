@@ -39,6 +39,19 @@ pub const BINDING_TAG: usize = 9;
 
 pub const BINDING_PAYLOAD: usize = 10;
 
+// An error's row, in the words that serve no name: its handler, and the slot of its name. Then the names of the latest error and of its command.
+pub const HANDLER_WIDTH: usize = 36;
+
+pub const HANDLER_TAG: usize = 11;
+
+pub const HANDLER_PAYLOAD: usize = 23;
+
+pub const HANDLER_NAME: usize = 35;
+
+pub const LATEST_ERROR: usize = 623;
+
+pub const LATEST_COMMAND: usize = 635;
+
 // A value is two words.
 pub const TAG_NULL: u32 = 0;
 

@@ -184,7 +184,7 @@ fn outputs(
     cells: &mut [u32],
     log: &mut [u8],
 ) -> Did
-    requires { ⌜ (51 ≤ k) × (k < operatorCount) × SomewhereLog m (now stack) (now dict) (now cells) (now log) ⌝ }
+    requires { ⌜ (51 ≤ k) × (k < 54) × SomewhereLog m (now stack) (now dict) (now cells) (now log) ⌝ }
     ensures { λ r. ⌜ DoesLog (performAt k) m (now (stack .entry)) (now (dict .entry)) (now (cells .entry)) (now (cells .exit)) (now (log .entry)) (now (log .exit)) r ⌝ }
 {
     match k {
@@ -204,6 +204,18 @@ fn converters(k: u32, m: Machine, stack: &mut [u32], dict: &mut [u32], cells: &m
         48 => stack_operators::cvx(m, stack),
         49 => stack_operators::cvlit(m, stack),
         _ => dictionary_operators::cvn(m, stack, dict, cells),
+    }
+}
+
+// onerror, errorname and command.
+fn errors(k: u32, m: Machine, stack: &mut [u32], dict: &mut [u32], cells: &mut [u32]) -> Did
+    requires { ⌜ (54 ≤ k) × (k < operatorCount) × Represented m (now stack) (now dict) (now cells) ⌝ }
+    ensures { λ r. ⌜ DoesDictionary (performAt k) m (now (stack .entry)) (now (stack .exit)) (now (dict .entry)) (now (dict .exit)) (now (cells .entry)) (now (cells .exit)) r ⌝ }
+{
+    match k {
+        54 => error_operators::onerror(m, stack, dict, cells),
+        55 => error_operators::errorname(m, stack, dict, cells),
+        _ => error_operators::command(m, stack, dict, cells),
     }
 }
 
@@ -260,7 +272,10 @@ pub fn rare(
     if k < 51 {
         return converters(k, m, stack, dict, cells);
     }
-    outputs(k, m, stack, dict, cells, log)
+    if k < 54 {
+        return outputs(k, m, stack, dict, cells, log);
+    }
+    errors(k, m, stack, dict, cells)
 }
 
 // The same answer, made anew field by field: the compiler then keeps the fields of the state apart.

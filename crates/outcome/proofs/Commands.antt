@@ -11,7 +11,7 @@ use Rattle.semantics.specs.Sizes.{operatorCount, nameMost}
 use Rattle.semantics.specs.Text.{bytes}
 use Rattle.semantics.specs.Values.{name}
 use Rattle.semantics.specs.Machine as Floo
-use Rattle.semantics.specs.Printing.{nameText, shown, echoedTo}
+use Rattle.semantics.specs.Printing.{escaped, nameText, shown, echoedTo}
 use Rattle.semantics.specs.Steps as Steps
 use Rattle.semantics.specs.Errors.{errorText, faultText, whereText}
 use Rattle.semantics.specs.Outcome.{line, endingLines, whereOf}
@@ -28,14 +28,13 @@ use Rattle.printing.specs.Shown as Shown
 use Rattle.printing.specs.Shown.{WithRoom, Writes}
 use Rattle.ending.specs.Endings.{commandText, IsCommand, endingOf, IsEnding}
 use Rattle.ending.specs.declared.Command.{Command}
-use Rattle.ending.specs.declared.Command.the-variants.{Nothing, Operator, Name, Token}
+use Rattle.ending.specs.declared.Command.the-variants.{Nothing, Operator, Name, Token, Taken}
 use Rattle.ending.specs.declared.Ending.{Ending}
 use Rattle.ending.specs.declared.Ending.the-variants.{Finished, Stopped, OutOfFuel, Failed, Misread}
 use Rattle.machine.specs.Places.{keys}
 use Rattle.machine.specs.Rep.{Rep, IsIn}
 use Rattle.machine.specs.declared.Machine.{Machine}
 use Rattle.outcome.specs.Reports.{Known, EndingRoom, WritesEnding, FailureRoom, WritesFailure, CommandRoom, WritesCommand, WritesWhere}
-use Rattle.outcome.proofs.Beginnings.{title-plain}
 
 -- ---- a name by its slot
 
@@ -61,48 +60,45 @@ module _ {m : Machine} {s e d c l : List ℕ} {μ : Floo.Machine} (R : Rep m s e
 
 -- ---- the command
 
--- The name that is written of an operator or a slot, and what the definition writes.
-record Slotted (script : List ℕ) (command : Command) (μ : Floo.Machine) (k : ℕ) : Type 0 where
-  text : List ℕ
-  slot : getElem? (keys μ) k ≡ some text
-  same : commandText script (keys μ) command ≡ echoedTo 0 μ (name true text)
-
-abbrev Slotting : List ℕ → List ℕ → List ℕ → Command → ℕ → Type 0
-Slotting script d c command k =
-    (m : Machine) (s e l : List ℕ) (μ : Floo.Machine) → Rep m s e d c l μ → IsCommand script (keys μ) command → Slotted script command μ k
+-- The command is the name in slot k.
+record Slotted (script d c : List ℕ) (command : Command) (k : ℕ) : Type 0 where
+  slot : {m : Machine} {s e l : List ℕ} {μ : Floo.Machine}
+      → Rep m s e d c l μ
+      → IsCommand script (keys μ) command
+      → getElem? (keys μ) k ≡ some (commandText script (keys μ) command)
 
 module _ {script d c : List ℕ} {command : Command} {k : ℕ} where
-  operator-slot : command ≡ Operator k → Slotting script d c command k
-  unfolding commandText echoedTo shown
-  operator-slot q m s e l μ R h =
-      let few : k < operatorCount = subst (λ x. IsCommand script (keys μ) x) q h in
-      let title = title-there k few in
+  operator-slot : command ≡ Operator k → Slotted script d c command k
+  unfolding commandText
+  operator-slot q =
       record {
-        text = getD titles k [];
-        slot = title-slot R k (getD titles k []) title;
-        same = ap (commandText script (keys μ)) q ∙ sym (title-plain k (getD titles k []) title);
+        slot = λ {m} {s} {e} {l} {μ} R h.
+            let few : k < operatorCount = subst (λ x. IsCommand script (keys μ) x) q h in
+            title-slot R k (getD titles k []) (title-there k few) ∙ ap (λ x. some (commandText script (keys μ) x)) (sym q);
       }
 
-  name-slot : command ≡ Name k → Slotting script d c command k
-  unfolding commandText echoedTo shown
-  name-slot q m s e l μ R h =
-      let few : k < length (keys μ) = subst (λ x. IsCommand script (keys μ) x) q h in
-      record { text = getD (keys μ) k []; slot = an-element (keys μ) k [] few; same = ap (commandText script (keys μ)) q }
+  name-slot : command ≡ Name k → Slotted script d c command k
+  unfolding commandText
+  name-slot q =
+      record {
+        slot = λ {m} {s} {e} {l} {μ} R h.
+            let few : k < length (keys μ) = subst (λ x. IsCommand script (keys μ) x) q h in
+            an-element (keys μ) k [] few ∙ ap (λ x. some (commandText script (keys μ) x)) (sym q);
+      }
 
   -- Both are written as the executable name in that slot.
-  module _ (slotted : Slotting script d c command k) where
+  module _ (S : Slotted script d c command k) where
     slot-room : {at : ℕ} {out : List ℕ} → CommandRoom script d c command at out → WithRoom d c 6 k 0 at out
     slot-room N =
         let K = N .known in
-        let S = slotted (K .small) (K .stack) (K .exec) (K .log) (K .machine) (K .rep) (K .holds) in
-        record { known = executable-known (K .rep) k (S .slot); fits = omega (arith, N .fits, executable-length (K .rep) k (S .slot)) }
+        let there = S .slot (K .rep) (K .holds) in
+        record { known = executable-known (K .rep) k there; fits = omega (arith, N .fits, executable-length (K .rep) k there) }
 
     slot-written : {at r : ℕ} {old new : List ℕ} → Writes d c 6 k 0 at old new r → WritesCommand script d c command at old new r
+    unfolding echoedTo shown
     slot-written W =
         record {
-          says = λ m s e l μ R h.
-              let S = slotted m s e l μ R h in
-              respelt (S .same) (W .says m s e l μ R (name true (S .text)) (executable-words R k (S .slot)));
+          says = λ m s e l μ R h. W .says m s e l μ R (name true (commandText script (keys μ) command)) (executable-words R k (S .slot R h));
         }
 
   module _ (q : command ≡ Operator k) where
@@ -120,9 +116,14 @@ module _ {script d c : List ℕ} {command : Command} {k : ℕ} where
     name-written W = slot-written (name-slot q) W
 
 pub nothing-written : {script d c : List ℕ} {command : Command} {at : ℕ} {out : List ℕ} → command ≡ Nothing → WritesCommand script d c command at out out at
-unfolding commandText
+unfolding commandText nameText escaped
 nothing-written {script} {at = at} {out = out} q =
-    record { says = λ m s e l μ R h. respelt (ap (commandText script (keys μ)) q) (nothing at out) }
+    record { says = λ m s e l μ R h. respelt (ap (λ x. nameText true (commandText script (keys μ) x)) q) (nothing at out) }
+
+pub token-silent : {script d c : List ℕ} {command : Command} {after at : ℕ} {out : List ℕ} → command ≡ Taken after → WritesCommand script d c command at out out at
+unfolding commandText nameText escaped
+token-silent {script} {at = at} {out = out} q =
+    record { says = λ m s e l μ R h. respelt (ap (λ x. nameText true (commandText script (keys μ) x)) q) (nothing at out) }
 
 -- A name of the script.
 module _ {script d c : List ℕ} {command : Command} (start size : ℕ) (q : command ≡ Token start size) where
@@ -146,18 +147,18 @@ module _ {script d c : List ℕ} {command : Command} (start size : ℕ) (q : com
   unfolding commandText
   token-written W =
       let whole : size ≡ start + size - start = omega arith in
-      record { says = λ m s e l μ R h. respelt (ap (commandText script (keys μ)) q ∙ ap (λ j. nameText true (take j (drop start script))) whole) W }
+      record { says = λ m s e l μ R h. respelt (ap (λ x. nameText true (commandText script (keys μ) x)) q ∙ ap (λ j. nameText true (take j (drop start script))) whole) W }
 
 command-length : {m : Machine} {s e d c l : List ℕ} {μ : Floo.Machine} (script : List ℕ) (command : Command)
     → Rep m s e d c l μ
     → IsCommand script (keys μ) command
-    → length (commandText script (keys μ) command) ≤ 124
+    → length (commandText script (keys μ) command) ≤ nameMost
 unfolding commandText
 command-length script Nothing R h = omega arith
-command-length {m} {s} {e} {l = l} {μ = μ} script (Operator k) R h = let S = operator-slot {script = script} {k = k} refl m s e l μ R h in omega (arith, ap length (S .same), executable-length R k (S .slot))
-command-length {m} {s} {e} {l = l} {μ = μ} script (Name k) R h = let S = name-slot {script = script} {k = k} refl m s e l μ R h in omega (arith, ap length (S .same), executable-length R k (S .slot))
-command-length script (Token start size) R h =
-    omega (arith, h .1, executable-text (take size (drop start script)), length-take size (drop start script))
+command-length script (Operator k) R h = omega (arith, size-is R k _ (operator-slot {script = script} {k = k} refl .slot R h))
+command-length script (Name k) R h = omega (arith, size-is R k _ (name-slot {script = script} {k = k} refl .slot R h))
+command-length script (Taken after) R h = omega arith
+command-length script (Token start size) R h = omega (arith, h .1, length-take size (drop start script))
 
 -- ---- an error
 
@@ -165,9 +166,9 @@ seam : (h a n k t f : List ℕ) → h ++ (a ++ n) ++ (k ++ t ++ f) ≡ h ++ a ++
 seam h a n k t f = simp append-assoc
 
 failure-text : (e : Error) (command : List ℕ)
-    → endingLines (Steps.failed e command) ≡ bytes "ending=error\nerror=" ++ errorText e ++ bytes "\ncommand=" ++ command ++ (10 ∷ [])
+    → endingLines (Steps.failed e command) ≡ bytes "ending=error\nerror=" ++ errorText e ++ bytes "\ncommand=" ++ nameText true command ++ (10 ∷ [])
 unfolding endingLines line bytes
-failure-text e command = seam (bytes "ending=error\nerror=") (errorText e) (bytes "\n") (bytes "command=") command (bytes "\n")
+failure-text e command = seam (bytes "ending=error\nerror=") (errorText e) (bytes "\n") (bytes "command=") (nameText true command) (bytes "\n")
 
 module _ {script d c : List ℕ} {command : Command} {out : List ℕ} (N : FailureRoom script d c command out)
     {o₁ : List ℕ} {start : ℕ} (head : Written 0 (bytes "ending=error\nerror=") out o₁ start) (k₁ : length o₁ ≡ length out) where
@@ -201,6 +202,7 @@ module _ {script d c : List ℕ} {command : Command} {out : List ℕ} (N : Failu
               next-few,
               text .says (K .small) (K .stack) (K .exec) (K .log) (K .machine) (K .rep) (K .holds) .end,
               command-length script command (K .rep) (K .holds),
+              executable-text (commandText script (keys (K .machine)) command),
             )
 
         pub last-room : after < length o₄

@@ -18,7 +18,7 @@ use Rattle.store.specs.Rep.{titles, Stands, a-null, an-integer, a-boolean, a-ma
 use Rattle.names.proofs.Spelling.{title-slot, size-is, byte-is}
 use Rattle.ending.specs.Endings.{commandText, IsCommand, endingOf, IsEnding}
 use Rattle.ending.specs.declared.Command.{Command}
-use Rattle.ending.specs.declared.Command.the-variants.{Nothing, Operator, Name, Token}
+use Rattle.ending.specs.declared.Command.the-variants.{Nothing, Operator, Name, Token, Taken}
 use Rattle.ending.specs.declared.Ending.{Ending}
 use Rattle.ending.specs.declared.Ending.the-variants.{Finished, Stopped, OutOfFuel, Failed, Misread}
 use Rattle.machine.specs.Places.{keys, texts}
@@ -58,19 +58,20 @@ module _ {m : Machine} {s e d c l : List ℕ} {μ : Floo.Machine} (R : Rep m s e
   all-plain (item h r) = cons (plain (h .stands)) (all-plain r)
 
   module _ {script : List ℕ} (script-bytes : Bytes script) where
-    command-ascii : (command : Command) → IsCommand script (keys μ) command → Ascii (commandText script (keys μ) command)
+    command-bytes : (command : Command) → IsCommand script (keys μ) command → Bytes (commandText script (keys μ) command)
     unfolding commandText
-    command-ascii Nothing h = nil
-    command-ascii (Operator k) h = title-ascii k (getD titles k []) (title-there k h)
-    command-ascii (Name k) h = name-ascii true (key-bytes k (getD (keys μ) k []) (an-element (keys μ) k [] h))
-    command-ascii (Token at size) h = name-ascii true (all-take size (all-drop at script-bytes))
+    command-bytes Nothing h = nil
+    command-bytes (Operator k) h = let n = getD titles k [] in key-bytes k n (title-slot R k n (title-there k h))
+    command-bytes (Name k) h = key-bytes k (getD (keys μ) k []) (an-element (keys μ) k [] h)
+    command-bytes (Taken after) h = nil
+    command-bytes (Token at size) h = all-take size (all-drop at script-bytes)
 
     plain-ending : (ending : Ending) → IsEnding script (keys μ) ending → PlainEnding (endingOf script (keys μ) ending)
     unfolding endingOf
     plain-ending Finished h = tt
     plain-ending Stopped h = tt
     plain-ending OutOfFuel h = tt
-    plain-ending (Failed error command) h = command-ascii command h
+    plain-ending (Failed error command) h = command-bytes command h
     plain-ending (Misread f) h = tt
 
     pub readable : (ending : Ending) (next at steps : ℕ)

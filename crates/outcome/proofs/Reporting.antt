@@ -16,7 +16,7 @@ use Rattle.text.specs.Writing.{Written}
 use Rattle.text.proofs.Pasting.{then, respelt}
 use Rattle.ending.specs.Endings.{IsCommand, endingOf, IsEnding}
 use Rattle.ending.specs.declared.Command.{Command}
-use Rattle.ending.specs.declared.Command.the-variants.{Nothing, Operator, Name, Token}
+use Rattle.ending.specs.declared.Command.the-variants.{Nothing, Operator, Name, Token, Taken}
 use Rattle.ending.specs.declared.Ending.{Ending}
 use Rattle.ending.specs.declared.Ending.the-variants.{Finished, Stopped, OutOfFuel, Failed, Misread}
 use Rattle.machine.specs.Places.{keys}
@@ -36,6 +36,7 @@ command-moves script a b Nothing q h = tt
 command-moves script a b (Operator k) q h = h
 command-moves script a b (Name k) q h = omega (arith, q, h)
 command-moves script a b (Token start size) q h = h
+command-moves script a b (Taken after) q h = h
 
 ending-moves : (script : List ℕ) (a b : List (List ℕ)) (ending : Ending) → length b ≡ length a → IsEnding script a ending → IsEnding script b ending
 ending-moves script a b Finished q h = tt

@@ -1,7 +1,7 @@
 -- What the writers of the outcome's parts ask for and write: the definition's text, in every machine that the words stand for.
 -- Assumes nothing.
 use mathlib.Core.Path.{_≡_}
-use mathlib.Core.Bool.{cond}
+use mathlib.Core.Bool.{true, cond}
 use mathlib.Core.List.{List, [], _++_, reverse}
 use Prim.Native.Nat.{ℕ, _+_, _*_, _/_, _≤_, _<_}
 use lib.ListN.{length, getD}
@@ -11,7 +11,7 @@ use Rattle.semantics.specs.Text.{bytes, decimal}
 use Rattle.semantics.specs.Values.{null, string, current}
 use Rattle.semantics.specs.Machine as Floo
 use Rattle.semantics.specs.Machine.{object, bytesOf}
-use Rattle.semantics.specs.Printing.{item}
+use Rattle.semantics.specs.Printing.{nameText, item}
 use Rattle.semantics.specs.Held.{heldCells}
 use Rattle.semantics.specs.Steps as Steps
 use Rattle.semantics.specs.Outcome.{line, endingLines, whereOf, items, outcome}
@@ -86,7 +86,7 @@ pub record WritesCommand (script d c : List ℕ) (command : Command) (at : ℕ) 
   pub says : (m : Machine) (s e l : List ℕ) (μ : Floo.Machine)
       → Rep m s e d c l μ
       → IsCommand script (keys μ) command
-      → Written at (commandText script (keys μ) command) old new r
+      → Written at (nameText true (commandText script (keys μ) command)) old new r
 
 -- ---- the numbers
 

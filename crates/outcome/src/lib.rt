@@ -130,7 +130,7 @@ fn write_error(out: &mut [u8], at: usize, error: Error) -> usize
     }
 }
 
-// An operator's name is in the slot of its number, and has no byte to escape.
+// The bytes of a name, escaped. An operator's name is in the slot of its number.
 fn write_command(
     command: Command,
     script: &[u8],
@@ -152,6 +152,7 @@ fn write_command(
             true,
             &script[start..start + size],
         ),
+        Command::Taken(_) => at,
     }
 }
 

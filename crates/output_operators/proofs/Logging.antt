@@ -3,7 +3,7 @@
 -- Assumes nothing.
 use mathlib.Core.Path.{_≡_, refl, sym, ap, _∙_, subst}
 use mathlib.Core.List.{List, _++_}
-use Prim.Native.Nat.{ℕ, zero, suc, _+_, _/_, _%_, _≤_, _<_}
+use Prim.Native.Nat.{ℕ, _+_, _/_, _≤_, _<_}
 use native.Mathlib.Omega.{arith}
 use borrow.Author.Tests.{le-leb, lt-leb}
 use lib.ListN.{length, take, drop, length-append, length-drop}
@@ -19,13 +19,14 @@ use Rattle.store.specs.Rep.{Names}
 use Rattle.store.proofs.Rooting.{rep-alike}
 use Rattle.text.specs.Writing.{Written}
 use Rattle.text.proofs.Pasting.{kept}
-use Rattle.machine.specs.Places.{rootIn, roots}
+use Rattle.machine.specs.Places.{roots}
 use Rattle.machine.specs.Rep.{Rep, MovesHeap}
 use Rattle.machine.specs.Room.{lent, fitted}
 use Rattle.machine.specs.declared.Machine.{Machine}
 use Rattle.machine.specs.declared.Did.the-variants.{Ok, Fail}
 use Rattle.machine.proofs.Rooms.{dictionary-fits, exec-fits, stack-fits, room-passes, logged-length, no-new-cells}
 use Rattle.machine.specs.Moves.{dropped}
+use Rattle.machine.proofs.Roots.{roots-alike}
 use Rattle.output_operators.specs.Output.{DoesLog}
 
 -- ---- a text is written
@@ -34,14 +35,8 @@ abbrev pub withWritten : ℕ → Machine → Machine
 withWritten r m = record { depth = m .depth; frames = m .frames; names = m .names; written = r; lists = m .lists; stopped = m .stopped }
 
 same-roots : (t : List ℕ) (μ : Floo.Machine) (r : ℕ) → roots (write t μ) r ≡ roots μ r
-unfolding roots rootIn write
-same-roots t μ r = by (r % 4) (r / 4)
-  where
-    by : (k i : ℕ) → rootIn (write t μ) k i ≡ rootIn μ k i
-    by zero i = refl
-    by (suc zero) i = refl
-    by (suc (suc zero)) i = refl
-    by (suc (suc (suc k))) i = refl
+unfolding write
+same-roots t μ r = roots-alike μ (write t μ) refl refl refl refl r
 
 head-long : (at : ℕ) (t l l′ : List ℕ) (r : ℕ) → at ≤ length l → Written at t l l′ r → length (take at l ++ t) ≡ r
 head-long at t l l′ r h w = length-append (take at l) t ∙ ap (λ n. n + length t) (length-take-le at l h) ∙ sym (w .end)
@@ -79,6 +74,7 @@ module _ {m : Machine} {s e d c l : List ℕ} {μ : Floo.Machine} (R : Rep m s e
         items = R .items;
         frames = R .frames;
         slots = R .slots;
+        handled = R .handled;
         naming = R .naming;
         logging = record { logged = taken (m .written) t l l′ r (R .logging .fits) w ∙ ap (λ (x : List ℕ). x ++ t) (R .logging .logged); fits = omega (arith, w .end, room, kept room w) };
         stopped = R .stopped;

@@ -15,7 +15,7 @@ use Rattle.semantics.specs.RunLaws.{step-stepped, went}
 use Rattle.semantics.specs.declared.Error.{Error}
 use Rattle.semantics.specs.declared.Fault.{Fault}
 use Rattle.heap.specs.Shape.{cells}
-use Rattle.ending.specs.Endings.{endingOf, IsEnding}
+use Rattle.ending.specs.Endings.{endingOf, IsEnding, afterOf}
 use Rattle.ending.specs.declared.Command.{Command}
 use Rattle.ending.specs.declared.Ending.{Ending}
 use Rattle.ending.specs.declared.Ending.the-variants as ending
@@ -29,11 +29,17 @@ use Rattle.exactness.proofs.Lists.{along-snoc}
 use Rattle.exactness.proofs.Reaching.{Reached, reached-start, reached-goes, over-finished, over-spent, over-fails, over-misreads, over-stops, Over}
 use Rattle.growth.proofs.Logs.{rest-on}
 use Rattle.growth.proofs.StepGrowth.{step-log-length}
-use Rattle.step.specs.Stepping.{stateOf, SteppedAs, LogLeft, Steps, Ready, Finished}
+use Rattle.handover.specs.Handover.{MayHand, HandsOver}
+use Rattle.handover.specs.declared.Handed.{Handed}
+use Rattle.handover.specs.declared.Handed.the-variants as handed
+use Rattle.machine.specs.declared.Machine.{Machine}
+use Rattle.step.specs.Stepping.{stateOf, SteppedAs, LogLeft, Steps, Tries, Ready, Finished, handedBy}
+use Rattle.step.proofs.Moving.{settled, may-hand}
 use Rattle.step.specs.declared.State.{State}
 use Rattle.step.specs.declared.Stepped.{Stepped}
 use Rattle.step.specs.declared.Stepped.the-variants.{Goes, Fails, Misreads}
 use Rattle.run_loop.specs.History.{Moment, moment, limitsOf, leftBy, Leads, Chain, start, then, Exactly, Begun, EndsFrom, Ends}
+use Rattle.run_loop.specs.Halting.{RunningFrom, Running, Fell, HaltsAs, MayHalt, Halts}
 
 -- ---- one moment
 
@@ -61,16 +67,62 @@ pub record Went (script : List ℕ) (st : State) (s s′ e e′ d d′ c c′ l 
   pub lc : length c′ ≡ length c
   pub ll : length l′ ≡ length l
 
-pub went-by : {script : List ℕ} {st : State} {s s₁ s′ e e₁ e′ d d₁ d′ c c₁ c′ l l₁ l′ : List ℕ} {a answer : Stepped}
-    → Went script st s s₁ e e₁ d d₁ c c₁ l l₁ a
+-- What was tried, before its error is handed over.
+pub record Attempt (script : List ℕ) (st : State) (s s′ e e′ d d′ c c′ l l′ : List ℕ) (answer : Stepped) : Type 0 where
+  pub tries : Tries script st s s′ e e′ d d′ c c′ l l′ answer
+  pub ls : length s′ ≡ length s
+  pub le : length e′ ≡ length e
+  pub ld : length d′ ≡ length d
+  pub lc : length c′ ≡ length c
+  pub ll : length l′ ≡ length l
+
+module _ {script : List ℕ} {st : State} {s s′ e e′ d d′ c c′ l l′ : List ℕ} {answer : Stepped} (A : Attempt script st s s′ e e′ d d′ c c′ l l′ answer) where
+  told : {a : Stepped} → answer ≡ a → Attempt script st s s′ e e′ d d′ c c′ l l′ a
+  told g = subst (Attempt script st s s′ e e′ d d′ c c′ l l′) g A
+
+  pub went-goes : {τ : State} → answer ≡ Goes τ → Went script st s s′ e e′ d d′ c c′ l l′ (Goes τ)
+  went-goes g =
+      let B = told g in
+      record { steps = record { steps = λ μ R. B .tries .tries μ R; left = B .tries .left }; ls = A .ls; le = A .le; ld = A .ld; lc = A .lc; ll = A .ll }
+
+  pub went-misread : {τ : State} {command : Command} {f : Fault} → answer ≡ Misreads τ command f → Went script st s s′ e e′ d d′ c c′ l l′ (Misreads τ command f)
+  went-misread g =
+      let B = told g in
+      record { steps = record { steps = λ μ R. B .tries .tries μ R; left = B .tries .left }; ls = A .ls; le = A .le; ld = A .ld; lc = A .lc; ll = A .ll }
+
+  pub fell : {fuel from left : ℕ} {first : Moment} {τ : State} {x : Error} {command : Command}
+      → Running script fuel first (moment st s e d c l) left
+      → from ≤ st .steps
+      → 0 < left
+      → {r : Bool} → Finished script st r → r ≡ false
+      → answer ≡ Fails τ x command
+      → Fell script fuel from first s′ e′ d′ c′ l′ τ x command
+  fell {left = left} R later some F t g =
+      record {
+        here = moment st s e d c l;
+        left = left;
+        running = R;
+        later = later;
+        some-left = some;
+        more = subst (Finished script st) t F;
+        tries = told g .tries;
+        ls = A .ls;
+        le = A .le;
+        ld = A .ld;
+        lc = A .lc;
+        ll = A .ll;
+      }
+
+pub tried-by : {script : List ℕ} {st : State} {s s₁ s′ e e₁ e′ d d₁ d′ c c₁ c′ l l₁ l′ : List ℕ} {a answer : Stepped}
+    → Attempt script st s s₁ e e₁ d d₁ c c₁ l l₁ a
     → s′ ≡ s₁
     → e′ ≡ e₁
     → d′ ≡ d₁
     → c′ ≡ c₁
     → l′ ≡ l₁
     → answer ≡ a
-    → Went script st s s′ e e′ d d′ c c′ l l′ answer
-went-by W p q r t u v = rw (p, q, r, t, u, v) W
+    → Attempt script st s s′ e e′ d d′ c c′ l l′ answer
+tried-by W p q r t u v = rw (p, q, r, t, u, v) W
 
 pub went-room : {script : List ℕ} {st : State} {s s′ e e′ d d′ c c′ l l′ : List ℕ} {answer : Stepped}
     → Went script st s s′ e e′ d d′ c c′ l l′ answer
@@ -78,33 +130,7 @@ pub went-room : {script : List ℕ} {st : State} {s s′ e e′ d d′ c c′ l 
 went-room {s = s} {s′ = s′} {e = e} {e′ = e′} {d = d} {d′ = d′} {c = c} {c′ = c′} {l = l} {l′ = l′} W =
     lent-same s s′ e e′ d d′ c c′ l l′ (W .ls) (W .le) (W .ld) (W .lc) (W .ll)
 
--- ---- the invariant
-
--- The run so far, from one machine that the first words stand for.
-pub record RunningFrom (script : List ℕ) (fuel : ℕ) (μ₀ : Floo.Machine) (first here : Moment) (left : ℕ) : Type 0 where
-  pub machine : Floo.Machine
-  pub rep : Rep (here .state .machine) (here .stack) (here .exec) (here .dict) (here .cells) (here .log) machine
-  pub before : List steps.State
-  pub reached : Reached (limitsOf first) script fuel (stateOf (first .state) μ₀) before left (stateOf (here .state) machine)
-  pub moments : List Moment
-  pub chain : Chain script first moments here
-  pub exact : Along Exactly moments (before ++ (stateOf (here .state) machine ∷ []))
-  pub rest : drop (here .state .machine .written) (here .log) ≡ drop (here .state .machine .written) (first .log)
-
--- There is such a machine, and the run so far is from each.
-pub record Running (script : List ℕ) (fuel : ℕ) (first here : Moment) (left : ℕ) : Type 0 where
-  pub short : length script ≤ scriptMost
-  pub fueled : first .state .steps + fuel ≤ fuelMost
-  pub inside : here .state .next ≤ length script
-  pub within : here .state .at ≤ length script
-  pub count : here .state .steps + left ≡ first .state .steps + fuel
-  pub ls : length (here .stack) ≡ length (first .stack)
-  pub le : length (here .exec) ≡ length (first .exec)
-  pub ld : length (here .dict) ≡ length (first .dict)
-  pub lc : length (here .cells) ≡ length (first .cells)
-  pub ll : length (here .log) ≡ length (first .log)
-  pub some : (μ : Floo.Machine) × Rep (first .state .machine) (first .stack) (first .exec) (first .dict) (first .cells) (first .log) μ
-  pub from : (μ : Floo.Machine) → Rep (first .state .machine) (first .stack) (first .exec) (first .dict) (first .cells) (first .log) μ → RunningFrom script fuel μ first here left
+-- ---- the beginning
 
 pub begin : {script : List ℕ} {fuel : ℕ} {st σ : State} {s e d c l : List ℕ}
     → Begun script fuel st s e d c l
@@ -366,3 +392,148 @@ module _ {script : List ℕ} {fuel : ℕ} {st₀ : State} {s₀ e₀ d₀ c₀ l
 
     pub end-misread : {f : Fault} {command : Command} {τ : State} → answer ≡ Misreads τ command f → Ends script fuel st₀ s₀ s′ e₀ e′ d₀ d′ c₀ c′ l₀ l′ τ (ending.Misread f)
     end-misread g = record { ends = λ μ M. from-misread (R .from μ M) F t some W g }
+
+-- ---- the loop of steps, for every run that has come to its beginning
+
+pub record Going (script : List ℕ) (limit : ℕ) (st₀ : State) (s₀ e₀ d₀ c₀ l₀ : List ℕ) (here : Moment) : Type 0 where
+  pub on : (fuel : ℕ) (first : Moment)
+      → first .state .steps + fuel ≡ limit
+      → Running script fuel first (moment st₀ s₀ e₀ d₀ c₀ l₀) (limit - st₀ .steps)
+      → Running script fuel first here (limit - here .state .steps)
+  pub later : st₀ .steps ≤ here .state .steps
+  pub ls : length (here .stack) ≡ length s₀
+  pub le : length (here .exec) ≡ length e₀
+  pub ld : length (here .dict) ≡ length d₀
+  pub lc : length (here .cells) ≡ length c₀
+  pub ll : length (here .log) ≡ length l₀
+
+pub going : {script : List ℕ} {limit : ℕ} {st : State} {s e d c l : List ℕ} → Going script limit st s e d c l (moment st s e d c l)
+going = record { on = λ fuel first q R. R; later = omega arith; ls = refl; le = refl; ld = refl; lc = refl; ll = refl }
+
+-- From a state that is the same.
+pub may-from : {script : List ℕ} {limit : ℕ} {st σ : State} {s e d c l : List ℕ} → σ ≡ st → MayHalt script limit st s e d c l → MayHalt script limit σ s e d c l
+may-from {script} {limit} {s = s} {e = e} {d = d} {c = c} {l = l} same M = subst (λ σ. MayHalt script limit σ s e d c l) (sym same) M
+
+pub halts-from : {script : List ℕ} {limit : ℕ} {st σ τ : State} {s s′ e e′ d d′ c c′ l l′ : List ℕ} {ending : Ending}
+    → σ ≡ st
+    → Halts script limit σ s s′ e e′ d d′ c c′ l l′ τ ending
+    → Halts script limit st s s′ e e′ d d′ c c′ l l′ τ ending
+halts-from {script} {limit} {τ = τ} {s = s} {s′ = s′} {e = e} {e′ = e′} {d = d} {d′ = d′} {c = c} {c′ = c′} {l = l} {l′ = l′} {ending = ending} same H =
+    subst (λ σ. Halts script limit σ s s′ e e′ d d′ c c′ l l′ τ ending) same H
+
+-- One run is enough for what is asked.
+pub one-run : {script : List ℕ} {limit : ℕ} {st₀ : State} {s₀ e₀ d₀ c₀ l₀ : List ℕ} {here : Moment}
+    → Going script limit st₀ s₀ e₀ d₀ c₀ l₀ here
+    → (M : MayHalt script limit st₀ s₀ e₀ d₀ c₀ l₀)
+    → Running script (M .0) (M .1) here (limit - here .state .steps)
+one-run G M = G .on (M .0) (M .1) (M .2) (M .3)
+
+pub steps-left : {script : List ℕ} {limit : ℕ} {st₀ : State} {s₀ e₀ d₀ c₀ l₀ : List ℕ} {here : Moment}
+    → Going script limit st₀ s₀ e₀ d₀ c₀ l₀ here
+    → MayHalt script limit st₀ s₀ e₀ d₀ c₀ l₀
+    → here .state .steps + (limit - here .state .steps) ≡ limit
+steps-left G M = one-run G M .count ∙ M .2
+
+module _ {script : List ℕ} {limit : ℕ} {st₀ : State} {s₀ e₀ d₀ c₀ l₀ : List ℕ} {st : State} {s e d c l : List ℕ}
+    (G : Going script limit st₀ s₀ e₀ d₀ c₀ l₀ (moment st s e d c l)) where
+  pub halts-finished : {r : Bool} → Finished script st r → r ≡ true → {τ : State}
+      → τ ≡ record { machine = st .machine; next = st .next; at = length script; steps = st .steps }
+      → Halts script limit st₀ s₀ s e₀ e d₀ d c₀ c l₀ l τ ending.Finished
+  halts-finished F t q = record { halts = λ fuel first m R. end-finished (G .on fuel first m R) F t q }
+
+  pub halts-spent : {r : Bool} → Finished script st r → r ≡ false → limit - st .steps ≡ 0 → Halts script limit st₀ s₀ s e₀ e d₀ d c₀ c l₀ l st ending.OutOfFuel
+  halts-spent F t z = record { halts = λ fuel first m R. end-spent (G .on fuel first m R) F t z }
+
+  module _ {r : Bool} (F : Finished script st r) (t : r ≡ false) (some : 0 < limit - st .steps) {answer : Stepped} {s′ e′ d′ c′ l′ : List ℕ} (A : Attempt script st s s′ e e′ d d′ c c′ l l′ answer) where
+    pub halts-stopped : {τ : State} → answer ≡ Goes τ → τ .machine .stopped ≡ true → Halts script limit st₀ s₀ s′ e₀ e′ d₀ d′ c₀ c′ l₀ l′ τ ending.Stopped
+    halts-stopped g stop = record { halts = λ fuel first m R. end-stopped (G .on fuel first m R) F t some (went-goes A g) refl stop }
+
+    pub halts-misread : {f : Fault} {command : Command} {τ : State} → answer ≡ Misreads τ command f → Halts script limit st₀ s₀ s′ e₀ e′ d₀ d′ c₀ c′ l₀ l′ τ (ending.Misread f)
+    halts-misread g = record { halts = λ fuel first m R. end-misread (G .on fuel first m R) F t some (went-misread A g) refl }
+
+    pub halts-failed : {x : Error} {command : Command} {τ : State} → answer ≡ Fails τ x command → Halts script limit st₀ s₀ s′ e₀ e′ d₀ d′ c₀ c′ l₀ l′ τ (ending.Failed x command)
+    halts-failed g = record { halts = λ fuel first m R. fell A (G .on fuel first m R) (G .later) some F t g }
+
+    module _ {τ ρ : State} (g : answer ≡ Goes τ) (same : ρ ≡ τ) (M : MayHalt script limit st₀ s₀ e₀ d₀ c₀ l₀) where
+      pub steps-less : limit - ρ .steps < limit - st .steps
+      steps-less =
+          let m = M .2 in
+          let less = goes-less (one-run G M) F t some (went-goes A g) refl same in
+          omega (arith, m, less)
+
+      pub going-on : τ .machine .stopped ≡ false → Going script limit st₀ s₀ e₀ d₀ c₀ l₀ (moment ρ s′ e′ d′ c′ l′)
+      going-on runs =
+          record {
+            on = λ fuel first m R.
+                subst (λ n. Running script fuel first (moment ρ s′ e′ d′ c′ l′) (n - ρ .steps)) m (go-on (G .on fuel first m R) F t some (went-goes A g) refl same runs);
+            later = omega (arith, G .later, steps-less);
+            ls = A .ls ∙ G .ls;
+            le = A .le ∙ G .le;
+            ld = A .ld ∙ G .ld;
+            lc = A .lc ∙ G .lc;
+            ll = A .ll ∙ G .ll;
+          }
+
+-- ---- what the loop of steps came to, for one run
+
+pub halts-as : {script : List ℕ} {limit fuel : ℕ} {first : Moment} {st τ : State} {s s′ e e′ d d′ c c′ l l′ : List ℕ} {x y : Ending}
+    → Halts script limit st s s′ e e′ d d′ c c′ l l′ τ x
+    → first .state .steps + fuel ≡ limit
+    → Running script fuel first (moment st s e d c l) (limit - st .steps)
+    → x ≡ y
+    → HaltsAs script fuel (st .steps) first s′ e′ d′ c′ l′ τ y
+halts-as {script} {fuel = fuel} {first = first} {st = st} {τ = τ} {s′ = s′} {e′ = e′} {d′ = d′} {c′ = c′} {l′ = l′} H q R g =
+    subst (HaltsAs script fuel (st .steps) first s′ e′ d′ c′ l′ τ) g (H .halts fuel first q R)
+
+-- ---- an error is handed over
+
+module _ {script : List ℕ} {fuel from : ℕ} {first : Moment} {s e d c l : List ℕ} {τ : State} {x : Error} {command : Command} (L : Fell script fuel from first s e d c l τ x command) where
+  abbrev here : Moment
+  here = L .here
+
+  one-machine : (μ : Floo.Machine) × Rep (here .state .machine) (here .stack) (here .exec) (here .dict) (here .cells) (here .log) μ
+  one-machine = let G = L .running .from (L .running .some .0) (L .running .some .1) in (G .machine, G .rep)
+
+  pub hand-asks : MayHand script command (τ .machine) e d c
+  hand-asks = may-hand (L .tries) (L .le) (L .ld) (one-machine .0) (one-machine .1)
+
+  pub after-low : afterOf (τ .next) command ≤ scriptMost
+  after-low =
+      let A = L .tries .tries (one-machine .0) (one-machine .1) in
+      let low = subst (λ n. afterOf n command ≤ length script) (sym (ap (λ (t : State). t .next) (A .6))) (A .4) in
+      omega (arith, low, L .running .short)
+
+  module _ {e′ d′ c′ : List ℕ} {h : Handed} (H : HandsOver script x command (τ .machine) e e′ d d′ c c′ h) (le : length e′ ≡ length e) (ld : length d′ ≡ length d) (lc : length c′ ≡ length c) where
+    went-settled : {a : Handed} → h ≡ a → Went script (here .state) (here .stack) s (here .exec) e′ (here .dict) d′ (here .cells) c′ (here .log) l (handedBy τ x command a)
+    went-settled {a} g =
+        record {
+          steps = settled (L .tries) (L .le) (L .ld) a (subst (HandsOver script x command (τ .machine) e e′ d d′ c c′) g H);
+          ls = L .ls;
+          le = le ∙ L .le;
+          ld = ld ∙ L .ld;
+          lc = lc ∙ L .lc;
+          ll = L .ll;
+        }
+
+    pub ends-unhandled : h ≡ handed.Not → Ends script fuel (first .state) (first .stack) s (first .exec) e′ (first .dict) d′ (first .cells) c′ (first .log) l τ (ending.Failed x command)
+    ends-unhandled g = end-failed (L .running) (L .more) refl (L .some-left) (went-settled g) refl
+
+    module _ {q : Machine} {n : ℕ} (g : h ≡ handed.Over q) (next-is : n ≡ afterOf (τ .next) command) where
+      abbrev left-at : ℕ → State
+      left-at k = record { machine = q; next = k; at = τ .at; steps = τ .steps }
+
+      same : left-at n ≡ left-at (afterOf (τ .next) command)
+      same = ap left-at next-is
+
+      pub ends-halted : q .stopped ≡ true → Ends script fuel (first .state) (first .stack) s (first .exec) e′ (first .dict) d′ (first .cells) c′ (first .log) l (left-at n) ending.Stopped
+      ends-halted stop =
+          subst (λ σ. Ends script fuel (first .state) (first .stack) s (first .exec) e′ (first .dict) d′ (first .cells) c′ (first .log) l σ ending.Stopped) (sym same)
+          (end-stopped (L .running) (L .more) refl (L .some-left) (went-settled g) refl stop)
+
+      pub handed-on : q .stopped ≡ false → Running script fuel first (moment (left-at n) s e′ d′ c′ l) (first .state .steps + fuel - τ .steps)
+      handed-on runs = go-on (L .running) (L .more) refl (L .some-left) (went-settled g) refl same runs
+
+      pub handed-less : first .state .steps + fuel - τ .steps < first .state .steps + fuel - from
+      handed-less =
+          let less = goes-less (L .running) (L .more) refl (L .some-left) (went-settled g) refl same in
+          omega (arith, less, L .later, L .running .count)

@@ -152,12 +152,12 @@ place-ascii outOfFuel = nil
 place-ascii (failed e c) = nil
 place-ascii (misread f) = where-ascii f
 
--- The command of an error is ASCII.
+-- The command of an error consists of bytes.
 abbrev pub PlainEnding : Ending → Type 0
 PlainEnding finished = Unit {0}
 PlainEnding stopped = Unit {0}
 PlainEnding outOfFuel = Unit {0}
-PlainEnding (failed e c) = Ascii c
+PlainEnding (failed e c) = Bytes c
 PlainEnding (misread f) = Unit {0}
 
 ending-ascii : (e : Ending) → PlainEnding e → Ascii (endingLines e)
@@ -167,7 +167,7 @@ ending-ascii stopped h = words-ascii _ tt
 ending-ascii outOfFuel h = words-ascii _ tt
 ending-ascii (failed e c) h =
     all-append (all-append (words-ascii (bytes "ending=error\n") tt) (line-ascii (words-ascii (bytes "error") tt) (error-ascii e)))
-    (line-ascii (words-ascii (bytes "command") tt) h)
+    (line-ascii (words-ascii (bytes "command") tt) (name-ascii true h))
 ending-ascii (misread f) h =
     all-append (all-append (words-ascii (bytes "ending=error\n") tt) (line-ascii (words-ascii (bytes "error") tt) (fault-ascii f)))
     (words-ascii (bytes "command=\n") tt)

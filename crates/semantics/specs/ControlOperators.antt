@@ -1,13 +1,15 @@
 -- The dictionary and the flow of control (000, 6.5 and 6.6; 01, Steps and House rules).
 -- Assumes nothing.
-use mathlib.Core.Bool.{true, false, cond}
+use mathlib.Core.Bool.{Bool, true, false, cond, _||_}
 use mathlib.Core.List.{List, [], _∷_, map}
 use mathlib.Core.Option.{Option, none, some}
+use Prim.Native.Nat.{ℕ}
+use Rattle.semantics.specs.Text.{same}
 use Rattle.semantics.specs.Words.{word}
-use Rattle.semantics.specs.Values.{ok, _>>=_, given, Value, integer, boolean, null, mark, operator, name, string, array, elements, int, bool, literalName, procedureId, count}
-use Rattle.semantics.specs.Machine.{Machine, Frame, pending, running, looping, repeating, counting, withExec, withDictionary, halt, push, enter, pop1, pop2, pop3, pop4, object, elementsOf, change, lookup, assign}
+use Rattle.semantics.specs.Values.{ok, _>>=_, check, given, Value, integer, boolean, null, mark, operator, name, string, array, elements, int, bool, literalName, procedureId, count}
+use Rattle.semantics.specs.Machine.{Machine, Frame, pending, running, looping, repeating, counting, Slot, withExec, withDictionary, withHandlers, nameOrNull, halt, push, enter, pop1, pop2, pop3, pop4, object, elementsOf, change, lookup, assign}
 use Rattle.semantics.specs.StackOperators.{Operator}
-use Rattle.semantics.specs.declared.Error.the-variants.{Undefined}
+use Rattle.semantics.specs.declared.Error.the-variants.{Undefined, RangeCheck}
 
 -- ---- dictionary
 
@@ -117,7 +119,28 @@ continue m = elim (fromLoop (m .exec)) [ [] ↦ ok (halt m) | f ∷ fs ↦ ok (w
 unfoldable pub stop : Operator
 stop m = ok (halt m)
 
+-- ---- errors (02, W1)
+
+-- Whether a slot has the name n.
+unfoldable pub hasSlot : List ℕ → List Slot → Bool
+hasSlot n [] = false
+hasSlot n (s ∷ d) = same n (s .key) || hasSlot n d
+
+-- The name is below, and is one of the runner's errors byte for byte (W1.1, W1.2); any object may handle it (W1.3).
+unfoldable pub onerror : Operator
+onerror m = do
+  (x, v, τ) ← pop2 m
+  n ← literalName x
+  _ ← check (hasSlot n (τ .handlers)) RangeCheck
+  ok (withHandlers (assign n v (τ .handlers)) τ)
+
+unfoldable pub errorname : Operator
+errorname m = ok (push (nameOrNull (m .latest .errorname)) m)
+
+unfoldable pub command : Operator
+command m = ok (push (nameOrNull (m .latest .command)) m)
+
 -- Opens every definition of this file.
 unfoldable pub control-operators : Unit {0}
-unfolding def load operatorOr bound bind exec if′ ifelse loop repeat for fromLoop exit continue stop
+unfolding def load operatorOr bound bind exec if′ ifelse loop repeat for fromLoop exit continue stop hasSlot onerror errorname command
 control-operators = tt

@@ -1,6 +1,6 @@
--- The paper's names of errors and faults (01, Order within a step; 02, W4).
+-- The paper's names of errors and faults (01, Order within a step; 02, W4 and W1).
 -- Assumes nothing.
-use mathlib.Core.List.{List, []}
+use mathlib.Core.List.{List, [], _∷_}
 use Prim.Native.Nat.{ℕ}
 use Rattle.semantics.specs.Text.{bytes, decimal}
 use Rattle.semantics.specs.declared.Error.{Error}
@@ -40,7 +40,28 @@ whereText (BadBrace at) = decimal at
 whereText (BadByte at) = decimal at
 whereText OverLimit = []
 
+-- Every name that an error can have, in the order of 01, the faults of tokens first: a handler can be set for each (W1.2).
+unfoldable pub errorNames : List (List ℕ)
+errorNames =
+    bytes "badnumber"
+    ∷ bytes "badescape"
+    ∷ bytes "openstring"
+    ∷ bytes "badbrace"
+    ∷ bytes "badbyte"
+    ∷ bytes "limitcheck"
+    ∷ bytes "undefined"
+    ∷ bytes "stackunderflow"
+    ∷ bytes "typecheck"
+    ∷ bytes "rangecheck"
+    ∷ bytes "undefinedresult"
+    ∷ bytes "unmatchedmark"
+    ∷ bytes "execstackoverflow"
+    ∷ bytes "stackoverflow"
+    ∷ bytes "VMerror"
+    ∷ bytes "ioerror"
+    ∷ []
+
 -- Opens every definition of this file.
 unfoldable pub errors : Unit {0}
-unfolding errorText faultText whereText
+unfolding errorText faultText whereText errorNames
 errors = tt

@@ -1,11 +1,11 @@
--- The starred cases of 01's "Checked by hand" and its worked example, computed by the definition; setup and token reading at some edges; and what is wrong with
--- tokens, and where (02, W4).
+-- The starred cases of 01's "Checked by hand" and its worked example, computed by the definition; setup and token reading at some edges; handlers (02,
+-- W1); and what is wrong with tokens, and where (02, W4).
 -- Assumes nothing.
 use mathlib.Core.Path.{_≡_, refl}
 use mathlib.Core.List.{List, [], _∷_, _++_, map, reverse}
 use Prim.Native.Nat.{ℕ, _*_}
 use Prim.Native.String.{String}
-use Rattle.semantics.specs.Sizes.{nameWords, dictionaryWordsMost}
+use Rattle.semantics.specs.Sizes.{execWidth, dictionaryWidth, nameWords, dictionaryWordsMost}
 use Rattle.semantics.specs.Text.{bytes, textual}
 use Rattle.semantics.specs.Words.{words}
 use Rattle.semantics.specs.Values.{values}
@@ -40,6 +40,11 @@ c gives e = record { computed = c; expected = bytes e }
 whole : ℕ → ℕ → String → List ℕ
 whole cells fuel script = printed (bytes script) fuel (lent cells dictionaryWordsMost)
 
+-- The same with so many execution slots and names.
+narrow : ℕ → ℕ → String → List ℕ
+narrow exec names script =
+    printed (bytes script) 1000 (record { stackWords = 512; execWords = execWidth * exec; dictionaryWords = dictionaryWidth * names; cellWords = 4 * 4096; logBytes = 8192; outcomeBytes = 35072 })
+
 -- The items that a line of program leaves, bottom first.
 itemsOf : Run → List ℕ
 itemsOf r = joined (bytes " ") (map (item (r .final .machine)) (reverse (r .final .machine .stack)))
@@ -71,6 +76,14 @@ cases =
     ∷ (whole 4096 1000 "#FLOO\n{ a { b \"c\\q\" } }" gives "ending=error\nerror=badescape\ncommand=\nat=6\nwhere=17\nsteps=1\ndepth=0\nheld=0\nlog=0\n")
     ∷ (whole 4096 1000 "#FLOO\n{ 1 { 2 } { 3 \"x\"" gives "ending=error\nerror=badbrace\ncommand=\nat=6\nwhere=16\nsteps=1\ndepth=0\nheld=0\nlog=0\n")
     ∷ (whole 4096 1000 "#FLOO\n1 } 2" gives "ending=error\nerror=badbrace\ncommand=\nat=8\nwhere=8\nsteps=2\ndepth=1\nheld=0\nlog=0\nitem=integer:1\n")
+    ∷ (whole 4096 1000 "#FLOO\n/undefined { errorname command } onerror 1 frob 2"
+    gives "ending=finished\nerror=none\ncommand=\nat=55\nwhere=\nsteps=13\ndepth=4\nheld=3\nlog=0\nitem=integer:1\nitem=name:/undefined\nitem=name:/frob\nitem=integer:2\n")
+    ∷ (whole 4096 40 "#FLOO\n/undefined /frob cvx onerror frob" gives "ending=fuel\nerror=none\ncommand=\nat=35\nwhere=\nsteps=40\ndepth=0\nheld=0\nlog=0\n")
+    ∷ (whole 4096 1000 "#FLOO\n/stackunderflow { 7 } onerror pop 8" gives "ending=finished\nerror=none\ncommand=\nat=41\nwhere=\nsteps=10\ndepth=2\nheld=2\nlog=0\nitem=integer:7\nitem=integer:8\n")
+    ∷ (whole 4096 1000 "#FLOO\n/stackunderflow { 7 } onerror { pop 8 } bind exec" gives "ending=finished\nerror=none\ncommand=\nat=55\nwhere=\nsteps=16\ndepth=2\nheld=2\nlog=0\nitem=integer:7\nitem=integer:8\n")
+    ∷ (narrow 4 512 "#FLOO\n/undefined { frob } onerror frob" gives "ending=error\nerror=undefined\ncommand=frob\nat=34\nwhere=\nsteps=13\ndepth=0\nheld=2\nlog=0\n")
+    ∷ (narrow 128 62 "#FLOO\n/undefined { errorname command } onerror frob"
+    gives "ending=finished\nerror=none\ncommand=\nat=51\nwhere=\nsteps=11\ndepth=2\nheld=3\nlog=0\nitem=name:/undefined\nitem=null\n")
     ∷ (whole 4096 1000 "#FLOO\n99999999999" gives "ending=error\nerror=limitcheck\ncommand=\nat=6\nwhere=\nsteps=1\ndepth=0\nheld=0\nlog=0\n")
     ∷ []
 
@@ -80,15 +93,15 @@ Hold [] = Unit {0}
 Hold (c ∷ cs) = (c .computed ≡ c .expected) × Hold cs
 
 checked : Hold cases
-unfolding textual words values errors tokens machinery printing operators holding grouping stepping outcomes settings lent _gives_ whole itemsOf left cases
-checked = (refl, (refl, (refl, (refl, (refl, (refl, (refl, (refl, (refl, (refl, (refl, (refl, (refl, (refl, (refl, (refl, (refl, (refl, (refl, (refl, (refl, (refl, (refl, tt)))))))))))))))))))))))
+unfolding textual words values errors tokens machinery printing operators holding grouping stepping outcomes settings lent _gives_ whole narrow itemsOf left cases
+checked = (refl, (refl, (refl, (refl, (refl, (refl, (refl, (refl, (refl, (refl, (refl, (refl, (refl, (refl, (refl, (refl, (refl, (refl, (refl, (refl, (refl, (refl, (refl, (refl, (refl, (refl, (refl, (refl, (refl, tt)))))))))))))))))))))))))))))
 
 -- ---- setup and the token reading
 
 refusals : (refusal (bytes "#FLOO") 1000000 (lent 4096 dictionaryWordsMost) ≡ 0)
-    × (refusal (bytes "#FLO") 1000001 (lent 4096 695) ≡ 2)
-    × (refusal (bytes "#FLOO") 1000001 (lent 4096 695) ≡ 3)
-    × (refusal (bytes "#FLOO") 0 (lent 4096 695) ≡ 6)
+    × (refusal (bytes "#FLO") 1000001 (lent 4096 731) ≡ 2)
+    × (refusal (bytes "#FLOO") 1000001 (lent 4096 731) ≡ 3)
+    × (refusal (bytes "#FLOO") 0 (lent 4096 731) ≡ 6)
     × (refusal (bytes "#FLOO") 0 (lent 4096 nameWords) ≡ 0)
     × (printed (bytes "#FLOO") 0 (lent 0 nameWords) ≡ bytes "refused=7\n")
 unfolding textual settings outcomes lent

@@ -12,7 +12,7 @@ use Rattle.semantics.specs.Machine.{Machine, Frame, pending, running, lo
 
 -- ---- what a place names
 
--- A place is a stack item, a dictionary binding, an array element, or an execution slot; circles stay held (R89).
+-- A place is a stack item, a dictionary binding, a handler (02, W1), an array element, or an execution slot; circles stay held (R89).
 unfoldable pub ofValue : Value → List ℕ
 ofValue (integer w) = []
 ofValue (boolean b) = []
@@ -46,7 +46,11 @@ ofObject (text bs) = []
 -- ---- held
 
 unfoldable pub roots : Machine → List ℕ
-roots m = gather ofValue (m .stack) ++ gather (λ s. ofBinding (s .binding)) (m .dictionary) ++ gather ofFrame (m .exec)
+roots m =
+    gather ofValue (m .stack)
+    ++ gather (λ s. ofBinding (s .binding)) (m .dictionary)
+    ++ gather ofFrame (m .exec)
+    ++ gather (λ s. ofBinding (s .binding)) (m .handlers)
 
 -- What the roots and the elements of these objects name.
 unfoldable pub namedBy : Machine → List ℕ → List ℕ

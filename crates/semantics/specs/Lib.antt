@@ -33,5 +33,7 @@ pub mod OutcomeLaws
 pub mod AsciiLaws
 pub mod EchoLaws
 pub mod NameLaws
+pub mod SlotLaws
+pub mod ErrorLaws
 pub mod HeldLaws
 pub mod WhereLaws

@@ -7,7 +7,7 @@ use Prim.Native.Nat.{ℕ}
 use lib.IntN.{ℤ}
 use lib.ListN.{length, getD, set}
 use Rattle.semantics.specs.Text.{same}
-use Rattle.semantics.specs.Values.{Result, ok, fault, Value, Object, elements, text}
+use Rattle.semantics.specs.Values.{Result, ok, fault, Value, null, name, Object, elements, text}
 use Rattle.semantics.specs.declared.Error.the-variants.{StackUnderflow}
 
 -- A slot of the execution stack.
@@ -23,31 +23,44 @@ pub record Slot : Type 0 where
   pub key : List ℕ
   pub binding : Option Value
 
+-- The names of the latest error that was handled, and of its command (02, W1). None shows as null.
+pub record Latest : Type 0 where
+  pub errorname : Option (List ℕ)
+  pub command : Option (List ℕ)
+
 pub record Machine : Type 0 where
   pub stack : List Value  -- the top first
   pub dictionary : List Slot
   pub exec : List Frame  -- the top first
   pub store : List Object  -- every object made so far
+  pub handlers : List Slot  -- by the errors' names: what handles the error, if anything does
+  pub latest : Latest
   pub log : List ℕ
   pub stopped : Bool  -- by stop, or by exit or continue with no loop
 
 unfoldable pub withStack : List Value → Machine → Machine
-withStack s m = record { stack = s; dictionary = m .dictionary; exec = m .exec; store = m .store; log = m .log; stopped = m .stopped }
+withStack s m = record { stack = s; dictionary = m .dictionary; exec = m .exec; store = m .store; handlers = m .handlers; latest = m .latest; log = m .log; stopped = m .stopped }
 
 unfoldable pub withDictionary : List Slot → Machine → Machine
-withDictionary d m = record { stack = m .stack; dictionary = d; exec = m .exec; store = m .store; log = m .log; stopped = m .stopped }
+withDictionary d m = record { stack = m .stack; dictionary = d; exec = m .exec; store = m .store; handlers = m .handlers; latest = m .latest; log = m .log; stopped = m .stopped }
 
 unfoldable pub withExec : List Frame → Machine → Machine
-withExec e m = record { stack = m .stack; dictionary = m .dictionary; exec = e; store = m .store; log = m .log; stopped = m .stopped }
+withExec e m = record { stack = m .stack; dictionary = m .dictionary; exec = e; store = m .store; handlers = m .handlers; latest = m .latest; log = m .log; stopped = m .stopped }
 
 unfoldable pub withStore : List Object → Machine → Machine
-withStore o m = record { stack = m .stack; dictionary = m .dictionary; exec = m .exec; store = o; log = m .log; stopped = m .stopped }
+withStore o m = record { stack = m .stack; dictionary = m .dictionary; exec = m .exec; store = o; handlers = m .handlers; latest = m .latest; log = m .log; stopped = m .stopped }
+
+unfoldable pub withHandlers : List Slot → Machine → Machine
+withHandlers h m = record { stack = m .stack; dictionary = m .dictionary; exec = m .exec; store = m .store; handlers = h; latest = m .latest; log = m .log; stopped = m .stopped }
+
+unfoldable pub withLatest : Latest → Machine → Machine
+withLatest t m = record { stack = m .stack; dictionary = m .dictionary; exec = m .exec; store = m .store; handlers = m .handlers; latest = t; log = m .log; stopped = m .stopped }
 
 unfoldable pub write : List ℕ → Machine → Machine
-write t m = record { stack = m .stack; dictionary = m .dictionary; exec = m .exec; store = m .store; log = m .log ++ t; stopped = m .stopped }
+write t m = record { stack = m .stack; dictionary = m .dictionary; exec = m .exec; store = m .store; handlers = m .handlers; latest = m .latest; log = m .log ++ t; stopped = m .stopped }
 
 unfoldable pub halt : Machine → Machine
-halt m = record { stack = m .stack; dictionary = m .dictionary; exec = m .exec; store = m .store; log = m .log; stopped = true }
+halt m = record { stack = m .stack; dictionary = m .dictionary; exec = m .exec; store = m .store; handlers = m .handlers; latest = m .latest; log = m .log; stopped = true }
 
 -- ---- stacks
 
@@ -133,7 +146,12 @@ slotted n (s ∷ d) = elim (same n (s .key)) [ true ↦ s ∷ d | false ↦ s �
 unfoldable pub intern : List ℕ → Machine → Machine
 intern n m = withDictionary (slotted n (m .dictionary)) m
 
+-- A literal name, or null.
+unfoldable pub nameOrNull : Option (List ℕ) → Value
+nameOrNull none = null
+nameOrNull (some n) = name false n
+
 -- Opens every definition of this file.
 unfoldable pub machinery : Unit {0}
-unfolding withStack withDictionary withExec withStore write halt push enter pop1 pop2 pop3 pop4 object elementsOf bytesOf make made change lookup assign slotted intern
+unfolding withStack withDictionary withExec withStore withHandlers withLatest write halt push enter pop1 pop2 pop3 pop4 object elementsOf bytesOf make made change lookup assign slotted intern nameOrNull
 machinery = tt

@@ -1,12 +1,13 @@
 -- The outcome's text (01, Outcome).
 -- Assumes nothing.
+use mathlib.Core.Bool.{true}
 use mathlib.Core.List.{List, [], _∷_, _++_, reverse}
 use Prim.Native.Nat.{ℕ}
 use lib.ListN.{length}
 use Rattle.semantics.specs.Text.{bytes, decimal}
 use Rattle.semantics.specs.Values.{Value}
 use Rattle.semantics.specs.Machine.{Machine}
-use Rattle.semantics.specs.Printing.{item}
+use Rattle.semantics.specs.Printing.{nameText, item}
 use Rattle.semantics.specs.Errors.{errorText, faultText, whereText}
 use Rattle.semantics.specs.Held.{heldCells}
 use Rattle.semantics.specs.Steps.{Ending, finished, stopped, outOfFuel, failed, misread, Run}
@@ -19,7 +20,7 @@ unfoldable pub endingLines : Ending → List ℕ
 endingLines finished = bytes "ending=finished\nerror=none\ncommand=\n"
 endingLines stopped = bytes "ending=stopped\nerror=none\ncommand=\n"
 endingLines outOfFuel = bytes "ending=fuel\nerror=none\ncommand=\n"
-endingLines (failed e c) = bytes "ending=error\n" ++ line (bytes "error") (errorText e) ++ line (bytes "command") c
+endingLines (failed e c) = bytes "ending=error\n" ++ line (bytes "error") (errorText e) ++ line (bytes "command") (nameText true c)
 endingLines (misread f) = bytes "ending=error\n" ++ line (bytes "error") (faultText f) ++ bytes "command=\n"
 
 -- Where a token is wrong (02, W4).

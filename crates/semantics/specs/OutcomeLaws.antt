@@ -15,7 +15,7 @@ use Rattle.semantics.specs.Machine.{Machine, object, elementsOf, bytesOf
 use Rattle.semantics.specs.Printing.{truth, escaped, nameByte, nameText, item}
 use Rattle.semantics.specs.Held.{heldCells}
 use Rattle.semantics.specs.Tokens.{within}
-use Rattle.semantics.specs.Steps.{commandOf, Ending, finished, stopped, outOfFuel, failed, misread, Run}
+use Rattle.semantics.specs.Steps.{Ending, finished, stopped, outOfFuel, failed, misread, Run}
 use Rattle.semantics.specs.Errors.{errorText, faultText, whereText}
 use Rattle.semantics.specs.Outcome.{line, endingLines, whereOf, items, outcome}
 use Rattle.semantics.specs.TextLaws.{decimal-length}
@@ -60,18 +60,6 @@ pub nameText-length : (x : Bool) (n : List ℕ) → length (nameText x n) ≤ 1 
 unfolding nameText bytes
 nameText-length true n = omega (arith, escaped-length n)
 nameText-length false n = omega (arith, escaped-length n)
-
-pub command-length : (v : Value) → Short v → length (commandOf v) ≤ 124
-unfolding commandOf nameText
-command-length (integer w) h = omega arith
-command-length (boolean b) h = omega arith
-command-length null h = omega arith
-command-length mark h = omega arith
-command-length (operator o) h = omega arith
-command-length (name true n) h = omega (arith, escaped-length n)
-command-length (name false n) h = omega arith
-command-length (string i) h = omega arith
-command-length (array x i) h = omega arith
 
 -- ---- items and lines
 
@@ -150,18 +138,18 @@ commandIn (failed e c) = c
 commandIn (misread f) = []
 
 -- How the run ended, and where its token is wrong: a token fault has no command.
-pub ending-length : (e : Ending) → length (commandIn e) ≤ 124 → length (endingLines e) + length (whereOf e) ≤ 170
-unfolding endingLines whereOf bytes
+pub ending-length : (e : Ending) → length (commandIn e) ≤ nameMost → length (endingLines e) + length (whereOf e) ≤ 170
+unfolding endingLines whereOf nameText bytes
 ending-length finished h = omega arith
 ending-length stopped h = omega arith
 ending-length outOfFuel h = omega arith
 ending-length (failed e c) h =
-    simp length-append (omega (arith, line-length (bytes "error") (errorText e), line-length (bytes "command") c, error-length e))
+    simp length-append (omega (arith, line-length (bytes "error") (errorText e), line-length (bytes "command") (nameText true c), escaped-length c, error-length e))
 ending-length (misread f) h = simp length-append (omega (arith, line-length (bytes "error") (faultText f), fault-length f, where-length f))
 
 -- What a run whose names are short comes to.
 pub outcome-length : (slots : ℕ) (r : Run)
-    → length (commandIn (r .ending)) ≤ 124
+    → length (commandIn (r .ending)) ≤ nameMost
     → All Short (r .final .machine .stack)
     → length (r .final .machine .stack) ≤ slots
     → length (outcome r) ≤ headRoom + itemRoom * slots

@@ -2,13 +2,17 @@
 -- Assumes nothing.
 use mathlib.Core.Path.{_≡_, refl}
 use mathlib.Core.List.{List, [], _∷_}
+use mathlib.Core.Option.{Option, none, some}
 use Prim.Native.Nat.{ℕ, zero, suc, _+_, _≤_}
 use native.Mathlib.Omega.{arith}
-use Rattle.semantics.specs.Values.{Result, ok, fault}
-use Rattle.semantics.specs.Machine.{Machine, Frame}
+use lib.Dec.{leb}
+use lib.ListN.{length}
+use Rattle.semantics.specs.Values.{Result, ok, fault, Value}
+use Rattle.semantics.specs.Errors.{errorText}
+use Rattle.semantics.specs.Machine.{Machine, Frame, lookup}
 use Rattle.semantics.specs.Tokens.{Lexing}
 use Rattle.semantics.specs.Groups.{Taken, skip, takeToken}
-use Rattle.semantics.specs.Steps.{Limits, State, Step, goes, fails, misreads, unmoved, ended, moved, tokenStep, stepOn, step, Run, stopped, outOfFuel, isFinished, finish, goOn, run}
+use Rattle.semantics.specs.Steps.{Limits, State, Step, goes, fails, misreads, unmoved, failing, ended, moved, tokenStep, stepOn, step, Run, stopped, outOfFuel, isFinished, finish, goOn, run}
 use Rattle.semantics.specs.ResultLaws.{choose}
 use Rattle.semantics.specs.declared.Error.{Error}
 use Rattle.semantics.specs.declared.Fault.{Fault}
@@ -27,19 +31,27 @@ pub data Stepped (σ : State) : Step → Type 0 where
       → τ .steps ≡ suc (σ .steps)
       → Stepped σ (misreads f τ)
 
-ended-stepped : (σ : State) (at next : ℕ) (command : List ℕ) (r : Result Machine) → Stepped σ (ended σ at next command r)
-unfolding ended unmoved
-ended-stepped σ at next command (ok m) = went refl
-ended-stepped σ at next command (fault e) = stuck refl refl refl
+failing-stepped : (l : Limits) (σ : State) (at next : ℕ) (left : List Frame) (e : Error) (command : List ℕ) (h : Option Value)
+    → Stepped σ (failing l σ at next left e command h)
+unfolding failing unmoved
+failing-stepped l σ at next left e command none = stuck refl refl refl
+failing-stepped l σ at next left e command (some h) =
+    choose (Stepped σ) (leb (suc (length left)) (l .execSlots)) _ _ (λ t. went refl) (λ t. stuck refl refl refl)
+
+ended-stepped : (l : Limits) (σ : State) (at next : ℕ) (left : List Frame) (command : List ℕ) (r : Result Machine)
+    → Stepped σ (ended l σ at next left command r)
+unfolding ended
+ended-stepped l σ at next left command (ok m) = went refl
+ended-stepped l σ at next left command (fault e) = failing-stepped l σ at next left e command (lookup (errorText e) (σ .machine .handlers))
 
 token-stepped : (l : Limits) (σ : State) (start : ℕ) (t : Lexing Taken) → Stepped σ (tokenStep l σ start t)
 unfolding tokenStep moved unmoved
 token-stepped l σ start (fault f) = unread refl refl refl
-token-stepped l σ start (ok t) = ended-stepped σ _ _ _ _
+token-stepped l σ start (ok t) = ended-stepped l σ _ _ _ _ _
 
 stepOn-stepped : (l : Limits) (script : List ℕ) (σ : State) (fs : List Frame) → Stepped σ (stepOn l script σ fs)
 unfolding stepOn moved
-stepOn-stepped l script σ (f ∷ fs) = ended-stepped σ _ _ _ _
+stepOn-stepped l script σ (f ∷ fs) = ended-stepped l σ _ _ _ _ _
 stepOn-stepped l script σ [] = token-stepped l σ (skip script (σ .next)) (takeToken script (skip script (σ .next)) (σ .machine))
 
 pub step-stepped : (l : Limits) (script : List ℕ) (σ : State) → Stepped σ (step l script σ)

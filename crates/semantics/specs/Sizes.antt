@@ -5,11 +5,15 @@ use Prim.Native.Nat.{ℕ, _*_}
 -- ---- names (01, House rules and Tokens)
 
 abbrev pub operatorCount : ℕ
-operatorCount = 54
+operatorCount = 57
 
 -- The operators, and [, true, false and null.
 abbrev pub nameCount : ℕ
-nameCount = 58
+nameCount = 61
+
+-- The names of errors (01, Order within a step; 02, W4).
+abbrev pub errorCount : ℕ
+errorCount = 16
 
 -- The bytes of a name.
 abbrev pub nameMost : ℕ

@@ -2,7 +2,7 @@
 -- Assumes nothing.
 use mathlib.Core.Bool.{Bool, true, false}
 use mathlib.Core.List.{List, [], _∷_, _++_, map}
-use mathlib.Core.Option.{none, some}
+use mathlib.Core.Option.{Option, none, some}
 use Prim.Native.Nat.{ℕ, zero, suc, _-_}
 use lib.IntN.{ℤ, _+ℤ_}
 use lib.Signed.{ltZ, nonNeg}
@@ -11,8 +11,8 @@ use lib.Dec.{leb, eqb}
 use Rattle.semantics.specs.Text.{bytes}
 use Rattle.semantics.specs.Words.{signed, word}
 use Rattle.semantics.specs.Values.{Result, ok, fault, _>>=_, check, given, Value, integer, boolean, null, mark, operator, name, string, array, text, cells}
-use Rattle.semantics.specs.Machine.{Machine, Frame, pending, running, looping, repeating, counting, Slot, withDictionary, withExec, push, enter, object, elementsOf, make, made, lookup, assign}
-use Rattle.semantics.specs.Printing.{nameText}
+use Rattle.semantics.specs.Machine.{Machine, Frame, pending, running, looping, repeating, counting, Slot, Latest, withDictionary, withExec, withLatest, push, enter, object, elementsOf, make, made, lookup, assign, slotted}
+use Rattle.semantics.specs.Errors.{errorText, errorNames}
 use Rattle.semantics.specs.Operators.{perform, table, Entry}
 use Rattle.semantics.specs.Held.{heldCells, sumOf}
 use Rattle.semantics.specs.Tokens.{Lexing}
@@ -35,21 +35,21 @@ pub record State : Type 0 where
   pub at : ℕ  -- the offset of the token last taken
   pub steps : ℕ
 
--- What a step does to the machine; and the operator or executable name that it executes, as text, else nothing.
+-- What a step does to the machine; and the name of the operator or executable name that it executes, else nothing.
 pub record Move : Type 0 where
   pub command : List ℕ
   pub result : Result Machine
 
 -- ---- executing
 
--- Pushed literals have none (R50, R51); an operator's is its own name, whatever name led to it (R53). Names are escaped, without a slash (R55).
+-- Pushed literals have none (R50, R51); an operator's is its own name, whatever name led to it (R53).
 unfoldable pub commandOf : Value → List ℕ
 commandOf (integer w) = []
 commandOf (boolean b) = []
 commandOf null = []
 commandOf mark = []
 commandOf (operator o) = o
-commandOf (name true n) = nameText true n
+commandOf (name true n) = n
 commandOf (name false n) = []
 commandOf (string i) = []
 commandOf (array x i) = []
@@ -115,6 +115,14 @@ resume (counting n i f b) m =
       | false ↦ silent (ok (enter (pending b) (enter (counting (following n i) i f b) (push (integer (word n)) m))))
     ]
 
+-- What is left of the execution stack when the object or repetition that the frame took has failed and counts as taken (02, W1).
+unfoldable pub passed : Frame → List Frame → List Frame
+passed (pending v) fs = fs
+passed (running i k) fs = running i (suc k) ∷ fs
+passed (looping b) fs = looping b ∷ fs
+passed (repeating n b) fs = repeating (n - 1) b ∷ fs
+passed (counting n i f b) fs = counting (following n i) i f b ∷ fs
+
 -- ---- room
 
 -- The cells of the objects that the step makes, inner groups and strings too (R92); an empty one takes a cell (R93).
@@ -149,24 +157,48 @@ pub data Step : Type 0 where
 unfoldable pub unmoved : State → ℕ → State
 unmoved σ at = record { machine = σ .machine; next = σ .next; at = at; steps = suc (σ .steps) }
 
-unfoldable pub ended : State → ℕ → ℕ → List ℕ → Result Machine → Step
-ended σ at next command (ok m) = goes (record { machine = m; next = next; at = at; steps = suc (σ .steps) })
-ended σ at next command (fault e) = fails e command (unmoved σ at)
+-- A name to be stored, and the dictionary then: an unknown one takes its slot, and is none if no slot is free (W1.10).
+unfoldable pub noted : ℕ → List ℕ → List Slot → Option (List ℕ) × List Slot
+noted slots [] d = (none, d)
+noted slots (b ∷ n) d =
+    elim (leb (length (slotted (b ∷ n) d)) slots) [ true ↦ (some (b ∷ n), slotted (b ∷ n) d) | false ↦ (none, d) ]
 
-unfoldable pub moved : Limits → State → ℕ → ℕ → Move → Step
-moved l σ at next v = ended σ at next (v .command) (v .result >>= roomFor l (σ .machine))
+-- An error of a command is handled by h: both names are stored, and the handler becomes pending on what is left of the execution stack (02, W1).
+unfoldable pub handling : Limits → Value → Error → List ℕ → List Frame → Machine → Machine
+handling l h e command left m =
+    let x = noted (l .dictionarySlots) (errorText e) (m .dictionary) in
+    let y = noted (l .dictionarySlots) command (x .1) in
+    withLatest (record { errorname = x .0; command = y .0 }) (withDictionary (y .1) (withExec (pending h ∷ left) m))
+
+-- A step fails: the error's handler takes over, if there is one and an execution slot is free for it (W1.7).
+unfoldable pub failing : Limits → State → ℕ → ℕ → List Frame → Error → List ℕ → Option Value → Step
+failing l σ at next left e command none = fails e command (unmoved σ at)
+failing l σ at next left e command (some h) =
+    elim (leb (suc (length left)) (l .execSlots)) [
+      | true ↦ goes (record { machine = handling l h e command left (σ .machine); next = next; at = at; steps = suc (σ .steps) })
+      | false ↦ fails e command (unmoved σ at)
+    ]
+
+-- The step's end. Where it fails and what failed counts as taken, `left` is left of the execution stack, and the bytes from `next` on.
+unfoldable pub ended : Limits → State → ℕ → ℕ → List Frame → List ℕ → Result Machine → Step
+ended l σ at next left command (ok m) = goes (record { machine = m; next = next; at = at; steps = suc (σ .steps) })
+ended l σ at next left command (fault e) = failing l σ at next left e command (lookup (errorText e) (σ .machine .handlers))
+
+unfoldable pub moved : Limits → State → ℕ → ℕ → List Frame → Move → Step
+moved l σ at next left v = ended l σ at next left (v .command) (v .result >>= roomFor l (σ .machine))
 
 -- What a token that is taken comes to.
 unfoldable pub tokenMove : Taken → Move
 tokenMove t = record { command = commandOf (t .value); result = treat (t .value) (t .machine) }
 
+-- A fault of the token ends the run, whatever handlers there are.
 unfoldable pub tokenStep : Limits → State → ℕ → Lexing Taken → Step
 tokenStep l σ start (fault f) = misreads f (unmoved σ start)
-tokenStep l σ start (ok t) = moved l σ start (t .after) (tokenMove t)
+tokenStep l σ start (ok t) = moved l σ start (t .after) [] (tokenMove t)
 
 -- One step acts once on the top of the execution stack. With an empty one the next script token is taken.
 unfoldable pub stepOn : Limits → List ℕ → State → List Frame → Step
-stepOn l script σ (f ∷ fs) = moved l σ (σ .at) (σ .next) (resume f (withExec fs (σ .machine)))
+stepOn l script σ (f ∷ fs) = moved l σ (σ .at) (σ .next) (passed f fs) (resume f (withExec fs (σ .machine)))
 stepOn l script σ [] =
     let start = skip script (σ .next) in
     tokenStep l σ start (takeToken script start (σ .machine))
@@ -228,9 +260,13 @@ predefined =
 abbrev pub startOf : Machine → State
 startOf m = record { machine = m; next = 0; at = 0; steps = 0 }
 
--- Both stacks empty, the predefined names and no object.
+-- No error has a handler.
+unfoldable pub unhandled : List Slot
+unhandled = map (λ n. record { key = n; binding = none }) errorNames
+
+-- Both stacks empty, the predefined names, no object, no handler and no error.
 unfoldable pub initial : State
-initial = startOf (record { stack = []; dictionary = predefined; exec = []; store = []; log = []; stopped = false })
+initial = startOf (record { stack = []; dictionary = predefined; exec = []; store = []; handlers = unhandled; latest = record { errorname = none; command = none }; log = []; stopped = false })
 
 -- A string is made and bound to a name before step 1 (02, W3).
 unfoldable pub lending : List ℕ → List ℕ → Machine → Machine
@@ -240,5 +276,5 @@ lending n contents m =
 
 -- Opens every definition of this file.
 unfoldable pub stepping : Unit {0}
-unfolding commandOf execute isProcedure treat silent beyond following resume newCells cellsFor roomFor unmoved ended moved tokenMove tokenStep stepOn step isEmpty isFinished finish goOn run slot predefined initial lending
+unfolding commandOf execute isProcedure treat silent beyond following resume passed newCells cellsFor roomFor unmoved noted handling failing ended moved tokenMove tokenStep stepOn step isEmpty isFinished finish goOn run slot predefined unhandled initial lending
 stepping = tt

@@ -3,6 +3,7 @@
 use mathlib.Core.Path.{_≡_, refl, ap, subst}
 use mathlib.Core.Bool.{Bool, true, false, cond, _||_, _&&_}
 use mathlib.Core.List.{List, [], _∷_}
+use mathlib.Core.Option.{Option, none, some}
 use Prim.Native.Nat.{ℕ, zero, suc, _+_, _-_, _*_, _^_, _≤_, _<_}
 use native.Mathlib.Omega.{arith}
 use lib.IntN.{pos, negℤ}
@@ -10,15 +11,17 @@ use lib.ListN.{length, take, drop, length-drop}
 use lib.Dec.{eqb, ltb, leb, nltb→le}
 use Rattle.semantics.specs.Words.{word}
 use Rattle.semantics.specs.Values.{Attempt, Result, ok, fault, _>>=_, check, Value}
-use Rattle.semantics.specs.Machine.{Machine, Frame, made}
+use Rattle.semantics.specs.Machine.{Machine, Frame, made, lookup}
 use Rattle.semantics.specs.Tokens.{Lexing, digit, digitsFrom, digits, startsNumber, upTo, Form, negative, hexadecimal, plain, formOf, number, Met, nothing, Act, byte, go, close, cut, bad, act, Quoted, quotedOn, quoted, Class, nameByte, bracket, openBrace, closeBrace, quote, slash, other, classOf, run, Token, Lexeme, lexeme, nameOf, runToken, signs, slashToken, lexAs, lex}
 use Rattle.semantics.specs.Groups.{Taken, taken, skip, Reader, opened, closed, element, group, tokenValue, takeToken}
 use Rattle.semantics.specs.Steps as steps
-use Rattle.semantics.specs.Steps.{Limits, State, Step, goes, misreads, unmoved, ended, moved, tokenMove, tokenStep, stepOn, step, Ending, misread, Run, isFinished, finish, goOn}
+use Rattle.semantics.specs.Steps.{Limits, State, Step, goes, misreads, unmoved, failing, ended, moved, tokenMove, tokenStep, stepOn, step, Ending, misread, Run, isFinished, finish, goOn}
 use Rattle.semantics.specs.Setup.{Reading, refused, faulty, read, isTooLong, readingOf, reading}
 use Rattle.semantics.specs.ResultLaws.{choose, Gives, gives, fails, gives-then, gives-weaker, gives-any}
 use Rattle.semantics.specs.TokenLaws.{Fits, skip-le, run-length, signs-le, lex-fits}
 use Rattle.semantics.specs.GroupLaws.{Inside, group-inside, token-fits}
+use Rattle.semantics.specs.Errors.{errorText}
+use Rattle.semantics.specs.declared.Error.{Error}
 use Rattle.semantics.specs.declared.Fault.{Fault}
 use Rattle.semantics.specs.declared.Fault.the-variants.{BadNumber, BadEscape, OpenString, BadBrace, BadByte, OverLimit}
 
@@ -238,15 +241,24 @@ module _ (script : List ℕ) where
     over : {e : _} {c : List ℕ} {τ : State} → Led (steps.fails e c τ)
     astray : {f : Fault} {τ : State} → Where (τ .at) (length script) f → Led (misreads f τ)
 
-  ended-led : (σ : State) (at next : ℕ) (c : List ℕ) (r : Result Machine) → next ≤ length script → Led (ended σ at next c r)
+  failing-led : (l : Limits) (σ : State) (at next : ℕ) (left : List Frame) (e : Error) (c : List ℕ) (v : Option Value)
+      → next ≤ length script
+      → Led (failing l σ at next left e c v)
+  unfolding failing
+  failing-led l σ at next left e c none h = over
+  failing-led l σ at next left e c (some v) h = choose Led (leb (suc (length left)) (l .execSlots)) _ _ (λ t. on h) (λ t. over)
+
+  ended-led : (l : Limits) (σ : State) (at next : ℕ) (left : List Frame) (c : List ℕ) (r : Result Machine)
+      → next ≤ length script
+      → Led (ended l σ at next left c r)
   unfolding ended
-  ended-led σ at next c (ok m) h = on h
-  ended-led σ at next c (fault e) h = over
+  ended-led l σ at next left c (ok m) h = on h
+  ended-led l σ at next left c (fault e) h = failing-led l σ at next left e c (lookup (errorText e) (σ .machine .handlers)) h
 
   token-led : (l : Limits) (σ : State) (start : ℕ) {r : Lexing Taken}
       → Lies start (length script) r → Gives (λ (x : Taken). x .after ≤ length script) r → Led (tokenStep l σ start r)
   unfolding tokenStep moved unmoved
-  token-led l σ start right (gives {a = t} h) = ended-led σ start (t .after) _ _ h
+  token-led l σ start right (gives {a = t} h) = ended-led l σ start (t .after) [] _ _ h
   token-led l σ start (wrong w) h = astray w
 
   step-led : (l : Limits) (σ : State) → σ .next ≤ length script → Led (step l script σ)
@@ -254,7 +266,7 @@ module _ (script : List ℕ) where
   step-led l σ h = by (σ .machine .exec)
     where
       by : (fs : List Frame) → Led (stepOn l script σ fs)
-      by (f ∷ fs) = ended-led σ _ _ _ _ h
+      by (f ∷ fs) = ended-led l σ _ _ _ _ _ h
       by [] =
           let s = skip-le script (σ .next) h in
           token-led l σ (skip script (σ .next)) (taken-lies (skip script (σ .next)) (σ .machine) (s .1)) (taken-inside (skip script (σ .next)) (σ .machine) (s .1))

@@ -2,9 +2,11 @@
 // against the definition.
 
 // Counts and limits, as specs/Sizes has them.
-pub const OPERATOR_COUNT: usize = 54;
+pub const OPERATOR_COUNT: usize = 57;
 
-pub const NAME_COUNT: usize = 58;
+pub const NAME_COUNT: usize = 61;
+
+pub const ERROR_COUNT: usize = 16;
 
 pub const NAME_MOST: usize = 31;
 

@@ -10,7 +10,7 @@ use native.Mathlib.Omega.{arith}
 use lib.ListN.{length, take, getElem?}
 use Rattle.semantics.specs.Sizes.{operatorCount, nameCount, cellsMost, nameWords, dictionaryWordsMost}
 use Rattle.semantics.specs.Machine.{Slot}
-use Rattle.semantics.specs.Operators.{_is_, table}
+use Rattle.semantics.specs.Operators.{table}
 use Rattle.semantics.specs.Steps as Steps
 use Rattle.semantics.specs.Steps.{predefined, initial}
 use Rattle.semantics.specs.ListLaws.{every, some-one, none-some}
@@ -19,16 +19,18 @@ use Rattle.heap.specs.Shape.{Empty, blank, cells}
 use Rattle.heap.specs.declared.Lists.{Lists}
 use Rattle.heap.proofs.Chains.{fresh-live, fresh-on}
 use Rattle.store.specs.Rep.{Names, titles}
-use Rattle.machine.specs.Places.{roots, rootIn, fromEnd, rootCount, keys, Distinct}
+use Rattle.semantics.specs.NameLaws.{Distinct}
+use Rattle.machine.specs.Places.{roots, rootIn, fromEnd, rootCount, keys}
 use Rattle.machine.specs.Rep as Words
 use Rattle.machine.specs.Rep.{World, Stored, Is, Slots, SlotIs, slot}
 use Rattle.machine.specs.declared.Machine.{Machine}
-use Rattle.machine.proofs.Distinct.{distinct}
+use Rattle.semantics.specs.NameLaws.{distinct}
 use Rattle.dictionary.proofs.Slots.{slots-from}
-use Rattle.start.specs.Predefined.{names, Filled}
+use Rattle.start.specs.Predefined.{names, Filled, Unhandled}
 use Rattle.start.specs.Begins.{Begins}
 use Rattle.start.proofs.Bindings.{bound-at, no-object, null-names}
-use Rattle.start.proofs.Filling.{name-short}
+use Rattle.start.proofs.Filling.{name-short, filled-still}
+use Rattle.start.proofs.Unhandling.{handled-none, none-handled}
 
 -- ---- the parts of `Rep`
 
@@ -51,7 +53,8 @@ no-root r i = by (r % 4)
     by zero n = null-names n
     by (suc zero) n = null-names n
     by (suc (suc zero)) n = no-object (r / 4) i n
-    by (suc (suc (suc k))) n = null-names n
+    by (suc (suc (suc zero))) n = null-names (subst (λ v. Names v i) (none-handled (r / 4)) n)
+    by (suc (suc (suc (suc k)))) n = null-names n
 
 abbrev world : World
 world = record { ρ = λ _. 0; ghost = blank }
@@ -104,15 +107,17 @@ slots {d′ = d′} ks ts F =
 abbrev fresh-state : Lists → Machine
 fresh-state lists = record { depth = 0; frames = 0; names = nameCount; written = 0; lists = lists; stopped = false }
 
-pub begins : {d d′ c : List ℕ} {lists : Lists}
+pub begins : {d d₁ d′ c : List ℕ} {lists : Lists}
     → Empty lists
     → cells c ≤ cellsMost
     → nameWords ≤ length d′
     → length d′ ≤ dictionaryWordsMost
-    → Filled d d′
+    → Filled d d₁
+    → Unhandled d₁ d′
     → Begins d d′ c (fresh-state lists)
 unfolding initial
-begins E few large small F =
+begins E few large small W U =
+    let F = filled-still W U in
     record {
       stands = λ s e l sl el.
           record {
@@ -121,6 +126,7 @@ begins E few large small F =
             items = Words.bottom;
             frames = Words.bottom;
             slots = slots (keys (initial .machine)) [] F;
+            handled = handled-none U;
             naming = record {
               many = sym name-count;
               titled = titled;

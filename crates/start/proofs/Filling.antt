@@ -2,29 +2,28 @@
 -- slot k on has changed.
 -- Assumes nothing.
 use mathlib.Core.Path.{_≡_, refl, sym, ap, _∙_, subst}
-use mathlib.Core.Bool.{Bool, true, not, _&&_}
+use mathlib.Core.Bool.{true}
 use mathlib.Core.List.{List, [], _∷_, _++_}
 use mathlib.Core.Logic.{⊎-elim}
 use mathlib.Core.Option.{some}
-use Prim.Native.Nat.{ℕ, zero, suc, _+_, _-_, _*_, _/_, _%_, _≤_, _<_}
+use Prim.Native.Nat.{ℕ, suc, _+_, _-_, _*_, _/_, _%_, _≤_, _<_}
 use native.Mathlib.Omega.{arith}
-use lib.Dec.{T, leb, eqb, leb→le}
 use lib.ListN.{length, getD, take, drop, set, getElem?, length-set, length-map}
 use lib.Seq.{drop-cons, getD-set-same, getD-set-other}
-use borrow.Author.Tests.{eq-eqb}
 use Rattle.semantics.specs.Sizes.{nameCount, nameMost, nameWords}
 use Rattle.semantics.specs.Text.{textual}
 use Rattle.semantics.specs.Machine.{Slot}
 use Rattle.semantics.specs.Operators.{_is_, table}
 use Rattle.semantics.specs.Steps as Steps
 use Rattle.semantics.specs.Steps.{predefined}
-use Rattle.semantics.specs.ListLaws.{All, nil, cons, every, all-every, an-element, inside-list, at-all, some-one, both}
+use Rattle.semantics.specs.ListLaws.{every, an-element, inside-list, some-one}
 use Rattle.semantics.specs.NameLaws.{name-count}
 use Rattle.heap.proofs.Since.{lt-or-le}
 use Rattle.store.specs.Rep.{byteOf}
 use Rattle.dictionary.specs.Packing.{Spells}
-use Rattle.start.specs.Predefined.{names, listed, tagOf, payloadOf, Written, Filled, Ends}
-use Rattle.start.proofs.Blanks.{Plain, room, name-end, name-slice, name-after}
+use Rattle.start.specs.Predefined.{names, tagOf, payloadOf, Written, Filled, Unhandled}
+use Rattle.dictionary.specs.Listing.{listed, Ends}
+use Rattle.dictionary.proofs.Blanks.{Plain, plain, plain-at, room, name-end, name-slice, name-after}
 
 -- ---- the names
 
@@ -32,34 +31,18 @@ names-count : length names ≡ nameCount
 unfolding names
 names-count = length-map predefined (λ (s : Slot). s .key) ∙ name-count
 
-abbrev plain : List ℕ → Bool
-plain n = leb (length n) nameMost && every (λ b. not (eqb b 32)) n
-
 all-plain : every plain names ≡ true
 unfolding names predefined Steps.slot table _is_ textual
 all-plain = refl
 
-no-blank : {n : List ℕ} → All (λ b. T (not (eqb b 32))) n → (i : ℕ) → i < length n → getD n i 0 ≡ 32 → ⊥
-no-blank nil i l e = absurd (omega arith)
-no-blank (cons {a = b} p ps) zero l e = subst (λ t. T (not t)) (eq-eqb b 32 e) p
-no-blank (cons p ps) (suc i) l e = no-blank ps i (omega arith) e
-
-is-plain : (n : List ℕ) → T (plain n) → Plain n
-is-plain n t =
-    let parts = both (leb (length n) nameMost) (every (λ b. not (eqb b 32)) n) t in
-    record { short = leb→le (length n) nameMost (parts .0); whole = no-blank (all-every (λ b. not (eqb b 32)) n (parts .1)) }
-
 abbrev name : ℕ → List ℕ
 name k = getD names k []
 
-plain-at : (k : ℕ) (n : List ℕ) → getElem? names k ≡ some n → Plain n
-plain-at k n e = is-plain n (at-all (all-every plain names (subst T (sym all-plain) tt)) k n e)
-
 pub name-short : (k : ℕ) (n : List ℕ) → getElem? names k ≡ some n → length n ≤ nameMost
-name-short k n e = plain-at k n e .short
+name-short k n e = plain-at names all-plain k n e .short
 
 name-plain : (k : ℕ) → k < nameCount → Plain (name k)
-name-plain k l = plain-at k (name k) (an-element names k [] (omega (arith, names-count)))
+name-plain k l = plain-at names all-plain k (name k) (an-element names k [] (omega (arith, names-count)))
 
 -- ---- the loop
 
@@ -159,4 +142,12 @@ fill-end {k = k} F l =
     record {
       slots = λ i n e. F .slots i n (omega (arith, names-count, inside-list names i e)) e;
       kept = λ i x. F .kept i (omega (arith, F .few));
+    }
+
+-- Handlers have words of their own.
+pub filled-still : {d d₁ d′ : List ℕ} → Filled d d₁ → Unhandled d₁ d′ → Filled d d′
+filled-still F U =
+    record {
+      slots = λ k n e. written-same (λ j a b. U .kept j (λ x y. omega arith)) (F .slots k n e);
+      kept = λ i x. U .kept i (λ y z. omega arith) ∙ F .kept i x;
     }

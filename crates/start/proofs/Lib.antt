@@ -1,4 +1,4 @@
-pub mod Blanks
 pub mod Bindings
 pub mod Filling
+pub mod Unhandling
 pub mod Beginning

@@ -1,4 +1,4 @@
--- The words of the predefined names' slots.
+-- The words of the predefined names' slots, and of no handler.
 -- Assumes nothing.
 use mathlib.Core.Path.{_≡_}
 use mathlib.Core.List.{List, [], _∷_, _++_, map}
@@ -6,8 +6,8 @@ use mathlib.Core.Option.{some}
 use Prim.Native.Nat.{ℕ, _+_, _*_, _/_, _%_, _≤_, _<_}
 use lib.ListN.{length, getD, getElem?}
 use lib.Dec.{ltb, leb, eqb}
-use Rattle.machine.specs.Words.{bindingTag, bindingPayload}
-use Rattle.semantics.specs.Sizes.{operatorCount, nameWords}
+use Rattle.machine.specs.Words.{bindingTag, bindingPayload, handlerTag, latestError, latestCommand}
+use Rattle.semantics.specs.Sizes.{operatorCount, errorCount, nameWords}
 use Rattle.semantics.specs.Machine.{Slot}
 use Rattle.semantics.specs.Steps.{predefined}
 use Rattle.heap.specs.Upd.{pick}
@@ -15,18 +15,6 @@ use Rattle.store.specs.Rep.{byteOf}
 
 unfoldable pub names : List (List ℕ)
 names = map (λ (s : Slot). s .key) predefined
-
--- Names one after another, each with a blank after it.
-unfoldable pub listed : List (List ℕ) → List ℕ
-listed [] = []
-listed (n ∷ ns) = n ++ (32 ∷ listed ns)
-
--- The first blank from `at` on is at r; r is the end where there is none.
-pub record Ends (list : List ℕ) (at r : ℕ) : Type 0 where
-  pub after : at ≤ r
-  pub within : r ≤ length list
-  pub none : (i : ℕ) → at ≤ i → i < r → getD list i 0 ≡ 32 → ⊥
-  pub here : r < length list → getD list r 0 ≡ 32
 
 -- The words of the binding of name k.
 unfoldable pub tagOf : ℕ → ℕ
@@ -46,3 +34,10 @@ pub record Written (words : List ℕ) (k : ℕ) (n : List ℕ) : Type 0 where
 pub record Filled (d d′ : List ℕ) : Type 0 where
   pub slots : (k : ℕ) (n : List ℕ) → getElem? names k ≡ some n → Written d′ k n
   pub kept : (i : ℕ) → nameWords ≤ i → getD d′ i 0 ≡ getD d i 0
+
+-- No error has a handler, and no name of an error is stored; all words but those are as they were.
+pub record Unhandled (d d′ : List ℕ) : Type 0 where
+  pub none : (j : ℕ) → j < errorCount → handlerTag d′ j ≡ 7
+  pub error : latestError d′ ≡ 0
+  pub command : latestCommand d′ ≡ 0
+  pub kept : (i : ℕ) → (i % 12 ≡ 11 → i < nameWords → ⊥) → getD d′ i 0 ≡ getD d i 0

@@ -1,4 +1,4 @@
-// The machine at the start of a run: the predefined names in the first slots of the dictionary, and no item, execution slot or object. Only the words
+// The machine at the start of a run: the predefined names in the first slots of the dictionary, and no item, execution slot, object or handler. Only the words
 // of those slots are written.
 ghost use mathlib.Core.Path.{_≡_};
 ghost use Prim.Native.Nat.{_≤_};
@@ -6,14 +6,21 @@ ghost use lib.ListN.{length};
 ghost use Rattle.semantics.specs.Sizes.{cellsMost, nameWords, dictionaryWordsMost};
 ghost use Rattle.heap.specs.Shape as Heap;
 ghost use Rattle.start.specs.Begins.{Begins};
-ghost use Rattle.start.specs.Predefined.{names, listed, tagOf, payloadOf, Filled, Ends};
+ghost use Rattle.start.specs.Predefined.{names, tagOf, payloadOf, Filled, Unhandled};
+ghost use Rattle.dictionary.specs.Listing.{listed};
 use machine::BINDING_PAYLOAD;
 use machine::BINDING_TAG;
+use machine::HANDLER_TAG;
+use machine::HANDLER_WIDTH;
+use machine::LATEST_COMMAND;
+use machine::LATEST_ERROR;
 use machine::Machine;
 use machine::TAG_BOOLEAN;
 use machine::TAG_NULL;
 use machine::TAG_OPERATOR;
+use machine::TAG_UNBOUND;
 use semantics::DICTIONARY_WIDTH;
+use semantics::ERROR_COUNT;
 use semantics::NAME_COUNT;
 use semantics::OPERATOR_COUNT;
 
@@ -29,8 +36,9 @@ pub fn begin(dict: &mut [u32], cells: &[u32]) -> Machine
         dict,
         b"dup exch pop index copy roll add sub mul idiv mod abs neg bitshift not and or xor eq ne lt le gt ge def load \
             bind exec if ifelse loop repeat for exit continue stop array mark ] length get put getinterval putinterval \
-            aload astore string cvs cvx cvlit cvn echo echostack print [ true false null ",
+            aload astore string cvs cvx cvlit cvn echo echostack print onerror errorname command [ true false null ",
     );
+    forget_handlers(dict);
     Machine {
         depth: 0,
         frames: 0,
@@ -49,7 +57,7 @@ fn write_names(dict: &mut [u32], list: &[u8])
     let mut at = 0;
     let mut k = 0;
     while k < NAME_COUNT {
-        let end = blank_from(list, at);
+        let end = dictionary::blank_from(list, at);
         dictionary::spell(dict, k, &list[at..end]);
         dict[DICTIONARY_WIDTH * k + BINDING_TAG] = binding_tag(k);
         dict[DICTIONARY_WIDTH * k + BINDING_PAYLOAD] = binding_payload(k);
@@ -58,19 +66,19 @@ fn write_names(dict: &mut [u32], list: &[u8])
     }
 }
 
-// The place of the next blank; the end where there is none.
-fn blank_from(list: &[u8], at: usize) -> usize
-    requires { ⌜ at ≤ length (now list) ⌝ }
-    ensures { λ r. ⌜ Ends (now (list .entry)) at r ⌝ }
+// No error has a handler, and none has been handled.
+// Ruled out: a handler that an earlier run set.
+fn forget_handlers(dict: &mut [u32])
+    requires { ⌜ (nameWords ≤ length (now dict)) × (length (now dict) ≤ dictionaryWordsMost) ⌝ }
+    ensures { λ _. ⌜ Unhandled (now (dict .entry)) (now (dict .exit)) ⌝ }
 {
-    let mut end = at;
-    while end < list.len() {
-        if list[end] == b' ' {
-            return end;
-        }
-        end = end + 1;
+    let mut j = 0;
+    while j < ERROR_COUNT {
+        dict[HANDLER_WIDTH * j + HANDLER_TAG] = TAG_UNBOUND;
+        j = j + 1;
     }
-    end
+    dict[LATEST_ERROR] = 0;
+    dict[LATEST_COMMAND] = 0;
 }
 
 // The operators come first, then [, true, false and null.

@@ -21,11 +21,13 @@ use Rattle.machine.proofs.Rooms.{frames-length}
 use Rattle.operators.specs.Titles.{DoesAll}
 use Rattle.turns.specs.Turns.{resumed}
 use Rattle.commands.specs.Commands.{Commands}
-use Rattle.step.specs.Stepping.{stateOf, LogLeft, Steps, StepsToken, endedBy}
+use Rattle.handover.specs.Handover.{leftOf, Passable}
+use Rattle.handover.proofs.Passing.{passable}
+use Rattle.step.specs.Stepping.{stateOf, LogLeft, Tries, TriesToken, endedBy}
 use Rattle.step.specs.declared.State.{State}
 use Rattle.step.specs.declared.Stepped.{Stepped}
 use Rattle.step.specs.declared.Stepped.the-variants.{Goes, Fails, Misreads}
-use Rattle.step.proofs.Moving.{ends-step, frame-step}
+use Rattle.step.proofs.Moving.{never, tries-step, frame-step}
 
 -- ---- a token
 
@@ -35,20 +37,12 @@ same-left l (Fails τ x command) = refl
 same-left l (Misreads τ command f) = refl
 
 -- Taking a token leaves the log.
-pub token-steps : {script : List ℕ} {σ : State} {s s′ e e′ d d′ c c′ : List ℕ} (l : List ℕ) (r : Stepped)
-    → StepsToken script σ s s′ e e′ d d′ c c′ r
-    → Steps script σ s s′ e e′ d d′ c c′ l l r
-token-steps l r T = record { steps = λ μ R. T .steps l μ R; left = same-left l r }
+pub token-tries : {script : List ℕ} {σ : State} {s s′ e e′ d d′ c c′ : List ℕ} (l : List ℕ) (r : Stepped)
+    → TriesToken script σ s s′ e e′ d d′ c c′ r
+    → Tries script σ s s′ e e′ d d′ c c′ l l r
+token-tries l r T = record { tries = λ μ R. T .tries l μ R; left = same-left l r }
 
 -- ---- the topmost slot
-
--- Whether it failed.
-abbrev failed : Did → ℕ
-failed (Ok r) = 0
-failed (Fail x) = 1
-
-never : {q : Machine} {x : Error} {A : Type 0} → Ok q ≡ Fail x → A
-never u = let z : _≡_ {A = ℕ} 0 1 = ap failed u in absurd (omega arith)
 
 module _ {m : Machine} {s s′ e e′ d d′ c c′ l l′ : List ℕ} where
   -- Where it failed, no word has changed.
@@ -69,18 +63,18 @@ module _ {m : Machine} {s s′ e e′ d d′ c c′ l l′ : List ℕ} where
 acts : (script : List ℕ) (σ : State) {s e d c l : List ℕ} {μ : Floo.Machine}
     → 1 ≤ σ .machine .frames
     → (R : Rep (σ .machine) s e d c l μ)
-    → steps.step (lent s e d c l) script (stateOf σ μ) ≡ steps.moved (lent s e d c l) (stateOf σ μ) (σ .at) (σ .next) (resume (topFrame μ) (frameDropped μ))
+    → steps.step (lent s e d c l) script (stateOf σ μ) ≡ steps.moved (lent s e d c l) (stateOf σ μ) (σ .at) (σ .next) (leftOf (μ .exec)) (resume (topFrame μ) (frameDropped μ))
 acts script σ {s} {e} {d} {c} {l} {μ} some R = frame-step (lent s e d c l) script (stateOf σ μ) (μ .exec) refl (omega (arith, some, frames-length (R .frames)))
 
 module _ {script : List ℕ} {σ : State} {s s′ e e′ d d′ c c′ l l′ : List ℕ} (some : 1 ≤ σ .machine .frames) (inside : σ .next ≤ length script) (within : σ .at ≤ length script) {did : Did}
     (D : DoesAll resumed (σ .machine) s s′ e e′ d d′ c c′ l l′ did) where
-  pub acted : {q : Machine} → did ≡ Ok q → {r : Stepped} → r ≡ endedBy σ (σ .at) (σ .next) command.Nothing (Ok q) → Steps script σ s s′ e e′ d d′ c c′ l l′ r
+  pub acted : {q : Machine} → did ≡ Ok q → {r : Stepped} → r ≡ endedBy σ (σ .at) (σ .next) command.Nothing (Ok q) → Tries script σ s s′ e e′ d d′ c c′ l l′ r
   unfolding fitted resumed
   acted {q} g is =
       let D′ = subst (DoesAll resumed (σ .machine) s s′ e e′ d d′ c c′ l l′) g D in
-      subst (Steps script σ s s′ e e′ d d′ c c′ l l′) (sym is)
+      subst (Tries script σ s s′ e e′ d d′ c c′ l l′) (sym is)
       (record {
-        steps = λ μ R. ends-step {σ = σ} {command = command.Nothing} (Ok q) (record {
+        tries = λ μ R. tries-step {σ = σ} {command = command.Nothing} (Ok q) (λ x u. never u) (record {
           move = resume (topFrame μ) (frameDropped μ);
           is = acts script σ some R;
           inside = inside;
@@ -93,16 +87,16 @@ module _ {script : List ℕ} {σ : State} {s s′ e e′ d d′ c c′ l l′ : 
 
   pub failing : {x : Error} → did ≡ Fail x → (μ : Floo.Machine) → Rep (σ .machine) s e d c l μ → {name : Command} → Commands (σ .machine) e′ c′ name → {r : Stepped}
       → r ≡ endedBy σ (σ .at) (σ .next) name (Fail x)
-      → Steps script σ s s′ e e′ d d′ c c′ l l′ r
+      → Tries script σ s s′ e e′ d d′ c c′ l l′ r
   unfolding fitted resumed
   failing {x} g μ₀ R₀ {name} C is =
       let D′ = subst (DoesAll resumed (σ .machine) s s′ e e′ d d′ c c′ l l′) g D in
-      subst (Steps script σ s s′ e e′ d d′ c c′ l l′) (sym is)
+      subst (Tries script σ s s′ e e′ d d′ c c′ l l′) (sym is)
       (record {
-        steps = λ μ R.
+        tries = λ μ R.
             let there = same-rep D′ R in
             let N = C .says script s′ d′ l′ μ there in
-            ends-step (Fail x) (record {
+            tries-step (Fail x) (λ y u. (C .stays (σ .next), subst (Passable (σ .machine)) (sym (D′ .does μ R .1 .1)) (passable R (D′ .does μ R .0)))) (record {
               move = resume (topFrame μ) (frameDropped μ);
               is = acts script σ some R;
               inside = inside;

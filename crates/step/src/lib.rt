@@ -1,10 +1,11 @@
 // One step of a run: `resume` where there is an execution slot, which acts, else `take`, which takes the next token of the script. The answer is the definition's
-// step, errors and their order, the count of steps and the offsets included; where it fails, the words stand for what they stood for.
+// step, errors and their order, the count of steps and the offsets included. An error is handed over by the caller, out of the loop of steps: here the words
+// stand for what they stood for.
 ghost use mathlib.Core.Path.{_≡_};
 ghost use Prim.Native.Nat.{_<_, _≤_};
 ghost use lib.ListN.{length};
 ghost use Rattle.semantics.specs.Sizes.{fuelMost};
-ghost use Rattle.step.specs.Stepping.{ReadySlot, ReadyToken, StepsSlot, StepsToken, Finished, endedBy, groupedBy, misreadBy};
+ghost use Rattle.step.specs.Stepping.{ReadySlot, ReadyToken, TriesSlot, TriesToken, Finished, endedBy, groupedBy, misreadBy};
 use ending::Command;
 use group_taking::Grouped;
 use machine::Did;
@@ -41,7 +42,7 @@ impl State {
         log: &mut [u8],
     ) -> Stepped
         requires { ⌜ (1 ≤ self .machine .frames) × ReadySlot self (now stack) (now exec) (now dict) (now cells) (now log) ⌝ }
-        ensures { λ r. ⌜ StepsSlot self (now (stack .entry)) (now (stack .exit)) (now (exec .entry)) (now (exec .exit)) (now (dict .entry)) (now (dict .exit)) (now (cells .entry)) (now (cells .exit)) (now (log .entry)) (now (log .exit)) r ⌝ }
+        ensures { λ r. ⌜ TriesSlot self (now (stack .entry)) (now (stack .exit)) (now (exec .entry)) (now (exec .exit)) (now (dict .entry)) (now (dict .exit)) (now (cells .entry)) (now (cells .exit)) (now (log .entry)) (now (log .exit)) r ⌝ }
     {
         let m = self.machine;
         match acting::act(m, stack, exec, dict, cells, log) {
@@ -55,7 +56,7 @@ impl State {
     }
 
     // With no execution slot the next token is taken.
-    // Ruled out: a token that is taken twice; the offset moved past a token that failed.
+    // Ruled out: a token that is taken twice; a token that failed taken for one that is still to be met.
     pub fn take(
         self,
         script: &[u8],
@@ -65,7 +66,7 @@ impl State {
         cells: &mut [u32],
     ) -> Stepped
         requires { ⌜ ReadyToken (now script) self (now stack) (now exec) (now dict) (now cells) ⌝ }
-        ensures { λ r. ⌜ StepsToken (now (script .entry)) self (now (stack .entry)) (now (stack .exit)) (now (exec .entry)) (now (exec .exit)) (now (dict .entry)) (now (dict .exit)) (now (cells .entry)) (now (cells .exit)) r ⌝ }
+        ensures { λ r. ⌜ TriesToken (now (script .entry)) self (now (stack .entry)) (now (stack .exit)) (now (exec .entry)) (now (exec .exit)) (now (dict .entry)) (now (dict .exit)) (now (cells .entry)) (now (cells .exit)) r ⌝ }
     {
         let start = token::skip(script, self.next);
         let lexed = token::token_at(script, start);
@@ -77,12 +78,12 @@ impl State {
             Token::Integer(w) => self.ended(
                 start,
                 next,
-                Command::Nothing,
+                Command::Taken(next),
                 taking::take_integer(m, stack, w),
             ),
             Token::String(at, size) => {
                 let did = taking::take_string(m, stack, cells, script, at, size);
-                self.ended(start, next, Command::Nothing, did)
+                self.ended(start, next, Command::Taken(next), did)
             }
             Token::ExecutableName(at, size) => {
                 let did = taking::take_executable(m, exec, dict, cells, &script[at..at + size]);
@@ -90,7 +91,7 @@ impl State {
             }
             Token::LiteralName(at, size) => {
                 let did = taking::take_literal(m, stack, dict, &script[at..at + size]);
-                self.ended(start, next, Command::Nothing, did)
+                self.ended(start, next, Command::Taken(next), did)
             }
             Token::OpenBrace => {
                 let grouped = group_taking::take_group(m, stack, dict, cells, script, next);
@@ -175,7 +176,7 @@ impl State {
     {
         match answer {
             Grouped::Done(r, next) => self.ended(at, next, Command::Nothing, Did::Ok(r)),
-            Grouped::Fail(e) => self.ended(at, at, Command::Nothing, Did::Fail(e)),
+            Grouped::Fail(e, next) => self.ended(at, next, Command::Taken(next), Did::Fail(e)),
             Grouped::Misread(_, f) => self.misread(at, f),
         }
     }

@@ -2,9 +2,8 @@
 -- where the execution stack has room.
 -- Assumes nothing.
 use mathlib.Core.Path.{_≡_, refl, ap, _∙_}
-use mathlib.Core.Bool.{Bool}
 use mathlib.Core.List.{List}
-use mathlib.Core.Option.{Option, none, some}
+use mathlib.Core.Option.{none, some}
 use Prim.Native.Nat.{ℕ, _+_, _*_, _/_, _≤_, _<_}
 use native.Mathlib.Omega.{arith}
 use lib.ListN.{length}
@@ -14,10 +13,7 @@ use Rattle.semantics.specs.Machine as Floo
 use Rattle.semantics.specs.Machine.{pending, withExec, enter, lookup}
 use Rattle.semantics.specs.Steps.{roomFor}
 use Rattle.semantics.specs.declared.Error.the-variants.{Undefined, ExecStackOverflow}
-use Rattle.store.specs.Rep.{Stands, a-null, an-integer, a-boolean, a-mark, an-operator, a-literal, an-executable, a-string, an-array, a-procedure}
 use Rattle.machine.specs.Words.{bindingTag}
-use Rattle.machine.specs.Places.{keys}
-use Rattle.machine.specs.Rep.{Is, World, Bound, unbound, bound}
 use Rattle.machine.specs.Room.{lent, fitted}
 use Rattle.machine.specs.declared.Machine.{Machine}
 use Rattle.machine.specs.declared.Did.{Did}
@@ -26,33 +22,9 @@ use Rattle.machine.proofs.Rooms.{fitted-fails, room-exec, rep-fits, dictionary-
 use Rattle.dictionary.specs.Names.{Finds}
 use Rattle.dictionary.specs.Bindings.{BoundFrames, PendsBinding}
 use Rattle.dictionary.proofs.Lookups.{lookup-missing, find-key, find-none}
-use Rattle.dictionary.proofs.Rebinding.{slot-room, binding-at}
+use Rattle.dictionary.proofs.Rebinding.{slot-room, binding-at, bound-none, bound-some}
 use Rattle.taking.specs.Effects.{executableTaken}
 use Rattle.taking.specs.Promises.{Bindings, NamedBindings, DoesBinding, DoesNamed}
-
--- ---- the tag of a binding
-
--- No value has the tag of an unbound name.
-no-value : {keys : List (List ℕ)} {texts : List Bool} {ρ : ℕ → ℕ} {v : Value} {t p : ℕ} → Stands keys texts ρ v t p → t ≡ 7 → ⊥
-no-value a-null e = omega arith
-no-value an-integer e = omega arith
-no-value a-boolean e = omega arith
-no-value a-mark e = omega arith
-no-value (an-operator q) e = omega arith
-no-value (a-literal q) e = omega arith
-no-value (an-executable q) e = omega arith
-no-value (a-string q k) e = omega arith
-no-value (an-array q k) e = omega arith
-no-value (a-procedure q k) e = omega arith
-
-module _ {w : World} {names : List (List ℕ)} {strings : List Bool} where
-  none-bound : {o : Option Value} {t p : ℕ} → Bound (Is w names strings) o t p → t ≡ 7 → o ≡ none
-  none-bound unbound e = refl
-  none-bound (bound h) e = absurd (no-value (h .stands) e)
-
-  some-bound : {o : Option Value} {t p : ℕ} → Bound (Is w names strings) o t p → (t ≡ 7 → ⊥) → (v : Value) × (o ≡ some v)
-  some-bound unbound e = absurd (e refl)
-  some-bound (bound {v = v} h) e = (v, refl)
 
 -- ---- what the definition makes of it
 
@@ -73,7 +45,7 @@ module _ {k : ℕ} {m : Machine} {e d c : List ℕ} where
 
   pub name-unbound : bindingTag d k ≡ 7 → DoesNamed k m e e d c c (Fail Undefined)
   name-unbound tag = record {
-    does = λ s l μ R n key. (fitted-fails (lent s e d c l) (executableTaken n) μ (undefined n μ (none-bound (binding-at R k n key .0) tag)), (refl, refl));
+    does = λ s l μ R n key. (fitted-fails (lent s e d c l) (executableTaken n) μ (undefined n μ (bound-none (binding-at R k n key .0) tag)), (refl, refl));
   }
 
   module _ (tag : bindingTag d k ≡ 7 → ⊥) where
@@ -81,21 +53,21 @@ module _ {k : ℕ} {m : Machine} {e d c : List ℕ} where
     unfolding fitted lent enter withExec _>>=_
     name-full full = record {
       does = λ s l μ R n key.
-          let x = some-bound (binding-at R k n key .0) tag in
+          let x = bound-some (binding-at R k n key .0) tag in
           let over : length e / 8 < length (enter (pending (x .0)) μ .exec) = omega (arith, frames-length (R .frames)) in
           (ap (λ q. q >>= roomFor (lent s e d c l) μ) (defined n μ (x .1)) ∙ room-exec (lent s e d c l) μ (enter (pending (x .0)) μ) (dictionary-fits R) over, (refl, refl));
     }
 
     pub name-bound : NamedBindings k m e d c → BoundFrames k m e d c
     name-bound (s, l, μ, n, key, R) =
-        let x = some-bound (binding-at R k n key .0) tag in
+        let x = bound-some (binding-at R k n key .0) tag in
         (s, l, μ, n, x .0, record { slot = key; value = x .1 }, R)
 
     pub name-done : {r : Machine} {e′ c′ : List ℕ} → PendsBinding k m r e e′ d c c′ → length e′ ≡ length e → DoesNamed k m e e′ d c c′ (Ok r)
     unfolding fitted enter withExec _>>=_
     name-done P long = record {
       does = λ s l μ R n key.
-          let x = some-bound (binding-at R k n key .0) tag in
+          let x = bound-some (binding-at R k n key .0) tag in
           let after = P .moves s l μ R n (x .0) key (x .1) in
           (enter (pending (x .0)) μ, ap (λ q. q >>= roomFor (lent s e d c l) μ) (defined n μ (x .1)) ∙ rep-fits after μ s e c refl long refl, after);
     }

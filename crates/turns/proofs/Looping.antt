@@ -64,7 +64,7 @@ module _ {m : Machine} {e c : List ℕ} (some : 1 ≤ m .frames) (kind : frameKi
 -- ---- repeat
 
 -- The words of a slot that has been reset.
-repeat-reset : {m : Machine} {e e′ : List ℕ} {n b : ℕ} → 1 ≤ m .frames → Resets 3 n b m e e′
+pub repeat-reset : {m : Machine} {e e′ : List ℕ} {n b : ℕ} → 1 ≤ m .frames → Resets 3 n b m e e′
     → (s d c l : List ℕ) (μ : Floo.Machine) → Rep m s e d c l μ → Rep m s e′ d c l (resetTop (repeating n (topValue μ)) μ)
 repeat-reset {n = n} some E s d c l μ R = E .moves s d c l μ R (repeating n (topValue μ)) refl (a-repeating (value-words R some))
 
@@ -115,7 +115,7 @@ count-frame {A} {g} {store} {v} {t} {p} {k} {a} {i} {f} {z} h C = by (inRange z)
     by true q = subst (λ x. FrameIs A g store (counting z i f v) x t p a i f) (sym (C .kind ∙ ap (λ b. cond b 4 5) q)) (a-counting h (sym (signed-word z q) ∙ ap signed (sym (C .sum))))
     by false q = subst (λ x. FrameIs A g store (counting z i f v) x t p a i f) (sym (C .kind ∙ ap (λ b. cond b 4 5) q)) (a-past h (sym (C .sum)) q (C .ends q))
 
-for-reset : {m : Machine} {e e′ : List ℕ} {k a i : ℕ} {z : ℤ} → 1 ≤ m .frames → Counted k a i (frameFinal e (m .frames - 1)) z → Resets k a i m e e′
+pub for-reset : {m : Machine} {e e′ : List ℕ} {k a i : ℕ} {z : ℤ} → 1 ≤ m .frames → Counted k a i (frameFinal e (m .frames - 1)) z → Resets k a i m e e′
     → (s d c l : List ℕ) (μ : Floo.Machine) → Rep m s e d c l μ
     → Rep m s e′ d c l (resetTop (counting z i (frameFinal e (m .frames - 1)) (topValue μ)) μ)
 for-reset {m} {e} {i = i} {z = z} some C E s d c l μ R =

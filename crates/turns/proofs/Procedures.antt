@@ -120,7 +120,7 @@ module _ {m : Machine} {s e d c l : List ℕ} {μ : Floo.Machine} (R : Rep m s e
     running-top : topFrame μ ≡ running i j
     running-top = top-is μ split
 
-    run-ended : frameLeft e k ≡ 0 → resumed μ ≡ ok (frameDropped μ)
+    pub run-ended : frameLeft e k ≡ 0 → resumed μ ≡ ok (frameDropped μ)
     unfolding resume silent object withExec
     run-ended z =
         let vs = elementsOf (objectAt (μ .store) i) in

@@ -70,7 +70,7 @@ module _ {A : Value → ℕ → ℕ → Type 0} {g : Ghost} {store : List Object
 -- ---- the machine with its topmost frame
 
 -- With its own slots a machine is itself.
-own-exec : (μ : Floo.Machine) {fs : List Frame} → μ .exec ≡ fs → withExec fs μ ≡ μ
+pub own-exec : (μ : Floo.Machine) {fs : List Frame} → μ .exec ≡ fs → withExec fs μ ≡ μ
 unfolding withExec
 own-exec μ q = ap (λ x. withExec x μ) (sym q)
 

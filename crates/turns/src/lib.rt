@@ -152,7 +152,7 @@ fn is_beyond(next: u32, increment: u32, last: u32) -> bool
 
 // The kind of the slot of a `for` that moves on: its sum may leave 32 bits.
 // Ruled out: a sum that wraps, and a loop that goes on with it.
-fn kind_after(next: u32, increment: u32) -> u32
+pub fn kind_after(next: u32, increment: u32) -> u32
     ensures { λ r. ⌜ r ≡ cond (inRange (signed next +ℤ signed increment)) 4 5 ⌝ }
 {
     if word::sum_fits(next, increment) {

@@ -16,7 +16,7 @@ use Rattle.semantics.specs.Machine.{Machine, Frame, pending, withStack, withExe
 use Rattle.semantics.specs.Printing.{stringval}
 use Rattle.semantics.specs.StackOperators.{Operator, dup, exch, pop, index, copy, modulo, roll}
 use Rattle.semantics.specs.NumberOperators.{arithmetic, arithmetic1, bitshift, connective, negation, equality, comparison}
-use Rattle.semantics.specs.ControlOperators.{def, load, bound, bind, exec, if′, ifelse, loop, repeat, for, exit, continue, stop}
+use Rattle.semantics.specs.ControlOperators.{def, load, bound, bind, exec, if′, ifelse, loop, repeat, for, exit, continue, stop, onerror, errorname, command}
 use Rattle.semantics.specs.ObjectOperators.{pushNew, array′, string′, mark′, close, length′, get, put, size, part, redirect, getinterval, putinterval, aload, astore}
 use Rattle.semantics.specs.TextOperators.{cvs, convert, cvn, print, echo, echostack}
 use Rattle.semantics.specs.Operators.{Entry, _is_, table, find, perform}
@@ -24,8 +24,8 @@ use Rattle.semantics.specs.ResultLaws.{Gives, gives, fails, gives-then, gives-c
 use Rattle.semantics.specs.ListLaws.{All, nil, cons, _&_, gives-given, all-append, all-take, all-drop, all-reverse, all-getElem?, all-replicate}
 use Rattle.walk.specs.Objects.{isString}
 use Rattle.walk.specs.Parts.{Bitwise, Parts, Good, a-truth, a-null, a-mark, a-name, a-string, an-array, GoodFrame, GoodObject}
-use Rattle.walk.proofs.Parts.{array-object, text-object, lookup-good, assign-good}
-use Rattle.walk.proofs.Property.{Property, Fit, gives-each, with-stack, with-exec, with-dictionary, interned, written, halted, pushed, entered, maked, changed, object-good, changed-pushed, popped1, popped2, popped3, popped4}
+use Rattle.walk.proofs.Parts.{array-object, text-object, lookup-good, assign-good, nameOrNull-good}
+use Rattle.walk.proofs.Property.{Property, Fit, gives-each, with-stack, with-exec, with-dictionary, with-handler, interned, written, halted, pushed, entered, maked, changed, object-good, changed-pushed, popped1, popped2, popped3, popped4}
 use Rattle.walk.proofs.Operands.{word-good, shift-good, length-good, logical2-good, negated-good, newLength-size, arrayId-there, procedureId-there, stringId-there, objectId-redirects, asExecutable-good, aboveMark-good, fromLoop-good, got-good, bound-good, current-bytes, stringval-bytes}
 use Rattle.walk.proofs.Objects.{bind-alike, astore-alike, cvs-alike, bind-good, astore-good, cvs-good, part-good, putInto-good, putAll-good}
 
@@ -210,6 +210,21 @@ module _ (K : Property) where
   unfolding stop
   stop-keeps m h d = gives (halted h)
 
+  -- ---- errors
+
+  onerror-keeps : Keeps onerror
+  unfolding onerror
+  onerror-keeps m h d =
+      gives-then (popped2 h) (λ p k. gives-each _ (λ n. gives-then (gives-check _ _) (λ u t. gives (with-handler (k .2) n t (k .1)))))
+
+  errorname-keeps : Keeps errorname
+  unfolding errorname
+  errorname-keeps m h d = gives (pushed h (nameOrNull-good (h .parts .latest .errorname)))
+
+  command-keeps : Keeps command
+  unfolding command
+  command-keeps m h d = gives (pushed h (nameOrNull-good (h .parts .latest .command)))
+
   -- ---- arrays and strings
 
   new-pushed : {m : Machine}
@@ -372,7 +387,8 @@ module _ (K : Property) where
       loop-keeps & repeat-keeps & for-keeps & exit-keeps & continue-keeps & stop-keeps &
       array-keeps & mark-keeps & close-keeps & length-keeps & get-keeps & put-keeps &
       getinterval-keeps & putinterval-keeps & aload-keeps & astore-keeps & string-keeps & cvs-keeps &
-      (convert-keeps _) & (convert-keeps _) & cvn-keeps & echo-keeps & echostack-keeps & print-keeps & nil
+      (convert-keeps _) & (convert-keeps _) & cvn-keeps & echo-keeps & echostack-keeps & print-keeps &
+      onerror-keeps & errorname-keeps & command-keeps & nil
 
   find-keeps : (n : List ℕ) {es : List Entry} → All (λ e. Keeps (e .action)) es → Keeps (find n es)
   unfolding find

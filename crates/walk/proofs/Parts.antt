@@ -1,16 +1,21 @@
 -- What is asked of the parts of a machine stays so while objects are made and changed, and names bound.
 -- Assumes nothing.
-use mathlib.Core.Bool.{Bool}
+use mathlib.Core.Bool.{Bool, _&&_}
 use mathlib.Core.List.{List, _∷_}
 use mathlib.Core.Option.{Option, none, some}
 use Prim.Native.Nat.{ℕ}
 use lib.ListN.{length}
-use Rattle.semantics.specs.Text.{same}
+use lib.Dec.{T, leb, leb→le}
+use Rattle.semantics.specs.Sizes.{nameMost}
+use Rattle.semantics.specs.Text.{bytes, same}
+use Rattle.semantics.specs.Errors.{errorText, errorNames}
 use Rattle.semantics.specs.Values.{Value, integer, boolean, null, mark, operator, name, string, array, Object, elements, text}
-use Rattle.semantics.specs.Machine.{Machine, Frame, Slot, elementsOf, bytesOf, lookup, assign, slotted}
+use Rattle.semantics.specs.Machine.{Machine, Frame, Slot, elementsOf, bytesOf, lookup, assign, slotted, nameOrNull}
 use Rattle.semantics.specs.ObjectOperators.{size}
 use Rattle.semantics.specs.ResultLaws.{choose}
-use Rattle.semantics.specs.ListLaws.{All, nil, cons, Maybe, nothing, just, all-of, all-any, all-weaker, maybe-weaker}
+use Rattle.semantics.specs.ListLaws.{All, nil, cons, every, both, all-every, at-all, Maybe, nothing, just, all-of, all-any, all-weaker, maybe-weaker}
+use Rattle.semantics.specs.ErrorLaws.{errorRow, error-named}
+use Rattle.semantics.specs.declared.Error.{Error}
 use Rattle.walk.specs.Parts.{Parts, any-numbers, any-references, valueOf, Good, a-word, a-truth, a-null, a-mark, an-operator, a-name, a-string, an-array, GoodFrame, GoodSlot, GoodObject, Everywhere}
 
 -- ---- other objects
@@ -78,6 +83,27 @@ module _ {A : Parts} {s : List Object} where
   slotted-good n (cons {a = g} {l = d} p ps) =
       choose (All (GoodSlot A s)) (same n (g .key)) (g ∷ d) (g ∷ slotted n d) (λ t. cons p ps) (λ t. cons p (slotted-good n ps))
 
+  pub nameOrNull-good : {o : Option (List ℕ)} → Maybe (A .numbers .Spelling) o → Good A s (nameOrNull o)
+  unfolding nameOrNull
+  nameOrNull-good nothing = a-null
+  nameOrNull-good (just h) = a-name h
+
+-- ---- spelling
+
+module _ (A : Parts) where
+  -- A text of at most 31 bytes.
+  pub spelled : (t : List ℕ) → T (leb (length t) nameMost && every (λ b. leb b 255) t) → A .numbers .Spelling t
+  spelled t h =
+      let q = both (leb (length t) nameMost) (every (λ b. leb b 255) t) h in
+      A .numbers .spelling t (all-weaker (λ b l. A .numbers .byte b (leb→le b 255 l)) (all-every (λ b. leb b 255) t (q .1))) (leb→le (length t) nameMost (q .0))
+
+  errors-spelled : All (A .numbers .Spelling) errorNames
+  unfolding errorNames bytes
+  errors-spelled = all-weaker spelled (all-every (λ t. leb (length t) nameMost && every (λ b. leb b 255) t) errorNames tt)
+
+  pub error-spelled : (e : Error) → A .numbers .Spelling (errorText e)
+  error-spelled e = at-all errors-spelled (errorRow e) (errorText e) (error-named e)
+
 -- ---- nothing is asked
 
 unfoldable pub nothing-asked : Parts
@@ -100,15 +126,25 @@ module _ (s : List Object) where
   any-bound none = nothing
   any-bound (some v) = just (any-value v)
 
+  any-slot : (g : Slot) → GoodSlot nothing-asked s g
+  any-slot g = record { bound = any-bound (g .binding) }
+
   any-object : (o : Object) → GoodObject nothing-asked s o
   unfolding nothing-asked
   any-object o = record { inside = all-of any-value (elementsOf o); stored = all-any (bytesOf o); extent = tt }
+
+any-name : (o : Option (List ℕ)) → Maybe (nothing-asked .numbers .Spelling) o
+unfolding nothing-asked
+any-name none = nothing
+any-name (some n) = just tt
 
 pub asked-nowhere : (m : Machine) → Everywhere nothing-asked m
 asked-nowhere m =
     record {
       stack = all-of (any-value (m .store)) (m .stack);
-      dictionary = all-of (λ g. record { bound = any-bound (m .store) (g .binding) }) (m .dictionary);
+      dictionary = all-of (any-slot (m .store)) (m .dictionary);
       exec = all-of (λ f. record { held = any-value (m .store) (valueOf f) }) (m .exec);
       store = all-of (any-object (m .store)) (m .store);
+      handlers = all-of (any-slot (m .store)) (m .handlers);
+      latest = record { errorname = any-name (m .latest .errorname); command = any-name (m .latest .command) };
     }

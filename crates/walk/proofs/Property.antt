@@ -4,15 +4,17 @@ use mathlib.Core.Path.{_≡_}
 use mathlib.Core.List.{List, [], _∷_}
 use Prim.Native.Nat.{ℕ, _≤_}
 use native.Mathlib.Omega.{arith}
+use lib.Dec.{T}
 use Rattle.semantics.specs.Values.{Attempt, ok, fault, _>>=_, Value, Object}
-use Rattle.semantics.specs.Machine.{Machine, Frame, Slot, withStack, withExec, withDictionary, withStore, write, halt, push, enter, pop1, pop2, pop3, pop4, object, make, made, change, intern}
+use Rattle.semantics.specs.Machine.{Machine, Frame, Slot, Latest, withStack, withExec, withDictionary, withStore, withHandlers, withLatest, write, halt, push, enter, pop1, pop2, pop3, pop4, object, make, made, change, assign, intern}
+use Rattle.semantics.specs.ControlOperators.{hasSlot}
 use Rattle.semantics.specs.ResultLaws.{Gives, gives, fails, gives-then, gives-any}
 use Rattle.semantics.specs.ListLaws.{All, nil, cons, all-append, all-set, all-getD, all-weaker}
 use Rattle.semantics.specs.declared.Error.{Error}
 use Rattle.semantics.specs.declared.Error.the-variants.{StackUnderflow}
 use Rattle.walk.specs.Objects.{isString, Alike}
-use Rattle.walk.specs.Parts.{Parts, Good, GoodFrame, GoodSlot, GoodObject, Everywhere}
-use Rattle.walk.proofs.Parts.{Later, good-later, frame-later, slot-later, object-later, array-object, slotted-good}
+use Rattle.walk.specs.Parts.{Parts, Good, GoodFrame, GoodSlot, GoodObject, GoodLatest, Everywhere}
+use Rattle.walk.proofs.Parts.{Later, good-later, frame-later, slot-later, object-later, array-object, assign-good, slotted-good}
 
 -- base: how many objects there were before the step. A change of an object may rest on the kinds, where they are known.
 pub record Property : Type 1 where
@@ -23,6 +25,8 @@ pub record Property : Type 1 where
   pub other-stack : (s : List Value) (m : Machine) → Whole m → Whole (withStack s m)
   pub other-dictionary : (d : List Slot) (m : Machine) → Whole m → Whole (withDictionary d m)
   pub other-exec : (e : List Frame) (m : Machine) → Whole m → Whole (withExec e m)
+  pub other-handler : (n : List ℕ) (v : Value) (m : Machine) → T (hasSlot n (m .handlers)) → Whole m → Whole (withHandlers (assign n v (m .handlers)) m)
+  pub other-latest : (t : Latest) (m : Machine) → Whole m → Whole (withLatest t m)
   pub halting : (m : Machine) → Whole m → Whole (halt m)
   pub writing : (t : List ℕ) (m : Machine) → Whole m → Whole (write t m)
   pub making : (o : Object) (m : Machine) → Whole m → Whole (make o m)
@@ -45,6 +49,8 @@ parts-alone A =
       other-stack = λ s m h. h;
       other-dictionary = λ d m h. h;
       other-exec = λ e m h. h;
+      other-handler = λ n v m t h. h;
+      other-latest = λ t m h. h;
       halting = λ m h. h;
       writing = λ t m h. h;
       making = λ o m h. h;
@@ -74,31 +80,49 @@ module _ {K : Property} {m : Machine} (h : Fit K m) where
   unfolding withStack
   with-stack {s} k =
       let p = h .parts in
-      record { parts = record { stack = k; dictionary = p .dictionary; exec = p .exec; store = p .store }; whole = K .other-stack s m (h .whole) }
+      record { parts = record { stack = k; dictionary = p .dictionary; exec = p .exec; store = p .store; handlers = p .handlers; latest = p .latest }; whole = K .other-stack s m (h .whole) }
 
   pub with-exec : {e : List Frame} → All (GoodFrame (K .parts) (m .store)) e → Fit K (withExec e m)
   unfolding withExec
   with-exec {e} k =
       let p = h .parts in
-      record { parts = record { stack = p .stack; dictionary = p .dictionary; exec = k; store = p .store }; whole = K .other-exec e m (h .whole) }
+      record { parts = record { stack = p .stack; dictionary = p .dictionary; exec = k; store = p .store; handlers = p .handlers; latest = p .latest }; whole = K .other-exec e m (h .whole) }
 
   pub with-dictionary : {d : List Slot} → All (GoodSlot (K .parts) (m .store)) d → Fit K (withDictionary d m)
   unfolding withDictionary
   with-dictionary {d} k =
       let p = h .parts in
-      record { parts = record { stack = p .stack; dictionary = k; exec = p .exec; store = p .store }; whole = K .other-dictionary d m (h .whole) }
+      record { parts = record { stack = p .stack; dictionary = k; exec = p .exec; store = p .store; handlers = p .handlers; latest = p .latest }; whole = K .other-dictionary d m (h .whole) }
+
+  pub with-handler : (n : List ℕ) {v : Value} → T (hasSlot n (m .handlers)) → Good (K .parts) (m .store) v → Fit K (withHandlers (assign n v (m .handlers)) m)
+  unfolding withHandlers
+  with-handler n {v} t k =
+      let p = h .parts in
+      record {
+        parts = record { stack = p .stack; dictionary = p .dictionary; exec = p .exec; store = p .store; handlers = assign-good n k (p .handlers); latest = p .latest };
+        whole = K .other-handler n v m t (h .whole);
+      }
+
+  pub with-latest : {t : Latest} → GoodLatest (K .parts) t → Fit K (withLatest t m)
+  unfolding withLatest
+  with-latest {t} k =
+      let p = h .parts in
+      record {
+        parts = record { stack = p .stack; dictionary = p .dictionary; exec = p .exec; store = p .store; handlers = p .handlers; latest = k };
+        whole = K .other-latest t m (h .whole);
+      }
 
   pub written : (t : List ℕ) → Fit K (write t m)
   unfolding write
   written t =
       let p = h .parts in
-      record { parts = record { stack = p .stack; dictionary = p .dictionary; exec = p .exec; store = p .store }; whole = K .writing t m (h .whole) }
+      record { parts = record { stack = p .stack; dictionary = p .dictionary; exec = p .exec; store = p .store; handlers = p .handlers; latest = p .latest }; whole = K .writing t m (h .whole) }
 
   pub halted : Fit K (halt m)
   unfolding halt
   halted =
       let p = h .parts in
-      record { parts = record { stack = p .stack; dictionary = p .dictionary; exec = p .exec; store = p .store }; whole = K .halting m (h .whole) }
+      record { parts = record { stack = p .stack; dictionary = p .dictionary; exec = p .exec; store = p .store; handlers = p .handlers; latest = p .latest }; whole = K .halting m (h .whole) }
 
   with-store : {s : List Object} → Later (K .parts) (m .store) s → All (GoodObject (K .parts) s) s → Everywhere (K .parts) (withStore s m)
   unfolding withStore
@@ -109,6 +133,8 @@ module _ {K : Property} {m : Machine} (h : Fit K m) where
         dictionary = all-weaker (slot-later f) (p .dictionary);
         exec = all-weaker (frame-later f) (p .exec);
         store = k;
+        handlers = all-weaker (slot-later f) (p .handlers);
+        latest = p .latest;
       }
 
   pub interned : (n : List ℕ) → Fit K (intern n m)

@@ -48,7 +48,7 @@ module _ (Kept : Machine → Type 0) (R : Machine → Machine → Type 0) (l : L
         (λ t. now .1)
         (λ t. then (σ .machine) (τ .machine) (rest τ .final .machine) (now .1) (f τ (now .0)))
 
-    run-from : (fuel : ℕ) (σ : State) → Kept (σ .machine) → From (σ .machine) (run l script fuel σ)
+    pub run-from : (fuel : ℕ) (σ : State) → Kept (σ .machine) → From (σ .machine) (run l script fuel σ)
     unfolding run finish
     run-from zero σ k =
         choose (From (σ .machine)) (isFinished script σ) (finish script σ) (record { ending = outOfFuel; final = σ })

@@ -2,41 +2,53 @@
 -- Assumes nothing.
 use mathlib.Core.Path.{_≡_, refl, sym, subst}
 use mathlib.Core.Bool.{true, false}
-use mathlib.Core.List.{List, [], reverse}
+use mathlib.Core.List.{List, [], _∷_, reverse}
 use mathlib.Core.Option.{Option, none, some}
-use Prim.Native.Nat.{ℕ, zero, suc, _+_, _≤_}
+use Prim.Native.Nat.{ℕ, zero, suc, _+_, _≤_, _<_}
 use native.Mathlib.Omega.{arith}
 use lib.ListN.{length, drop, length-drop, length-reverse}
-use lib.Dec.{leb→le}
+use lib.Dec.{leb, leb→le}
 use Rattle.semantics.specs.Words.{signed, word}
 use Rattle.semantics.specs.Values.{Result, ok, Value, integer, Object, elements, text}
+use Rattle.semantics.specs.Errors.{errorText}
 use Rattle.semantics.specs.Tokens.{Lexing, Token, lex}
-use Rattle.semantics.specs.Machine.{Machine, Frame, pending, running, looping, repeating, counting, withStack, withExec, withDictionary, withStore, push, enter, object, make, made, change, intern}
+use Rattle.semantics.specs.Machine.{Machine, Frame, pending, running, looping, repeating, counting, Slot, withStack, withExec, withDictionary, withStore, withLatest, push, enter, object, make, made, change, slotted, intern}
 use Rattle.semantics.specs.Groups.{Taken, taken, skip, Reader, opened, closed, element, group, tokenValue, takeToken}
-use Rattle.semantics.specs.Steps.{Limits, State, Move, commandOf, execute, isProcedure, treat, silent, beyond, following, resume, roomFor, Step, goes, misreads, unmoved, ended, moved, tokenMove, tokenStep, stepOn, step}
+use Rattle.semantics.specs.Steps.{Limits, State, Move, commandOf, execute, isProcedure, treat, silent, beyond, following, resume, passed, roomFor, Step, goes, misreads, unmoved, noted, handling, failing, ended, moved, tokenMove, tokenStep, stepOn, step}
 use Rattle.semantics.specs.Steps as Steps
 use Rattle.semantics.specs.ResultLaws.{Gives, gives, fails, gives-then, gives-weaker, gives-check, choose}
 use Rattle.semantics.specs.ListLaws.{All, nil, cons, Maybe, nothing, just, gives-given, all-drop, all-reverse, all-getElem?, all-weaker}
 use Rattle.semantics.specs.declared.Error.{Error}
 use Rattle.semantics.specs.declared.Fault.{Fault}
 use Rattle.walk.specs.Objects.{isString}
-use Rattle.walk.specs.Parts.{Parts, Good, a-word, a-truth, a-null, a-mark, an-operator, a-name, a-string, an-array, GoodFrame, GoodObject, Within}
-use Rattle.walk.proofs.Parts.{Later, later-itself, later-then, good-later, array-object, text-object, lookup-good}
-use Rattle.walk.proofs.Property.{Property, Fit, gives-each, make-later, change-later, with-exec, interned, pushed, entered, maked, filled, object-good}
+use Rattle.walk.specs.Parts.{Parts, Good, a-word, a-truth, a-null, a-mark, an-operator, a-name, a-string, an-array, GoodFrame, GoodSlot, GoodObject, Within, Stays}
+use Rattle.walk.proofs.Parts.{Later, later-itself, later-then, good-later, array-object, text-object, lookup-good, slotted-good, error-spelled}
+use Rattle.walk.proofs.Property.{Property, Fit, gives-each, make-later, change-later, with-exec, with-dictionary, with-latest, interned, pushed, entered, maked, filled, object-good}
 use Rattle.walk.proofs.Operands.{word-good}
 use Rattle.walk.proofs.OperatorsKeep.{new-string, perform-keeps}
 use Rattle.walk.proofs.TokensKeep.{GoodToken, a-number, a-text, an-opening, a-closing, an-end, GoodLexeme, lex-good}
 use Rattle.walk.proofs.TokensKeep as TokensKeep
 
--- What a step executes, as text: nothing, or what is executed of a value as asked.
-pub data Command (A : Parts) : List ℕ → Type 0 where
-  nothing-executed : Command A []
-  executed : {s : List Object} {v : Value} → Good A s v → Command A (commandOf v)
+-- What a step executes is spelled as a name is: it is that of a value, or nothing.
+pub unnamed : (A : Parts) → A .numbers .Spelling []
+unnamed A = A .numbers .spelling [] nil (omega arith)
 
--- A step keeps the property, within what is lent; one that ends the run leaves the machine as it was.
+command-spelled : {A : Parts} {s : List Object} {v : Value} → Good A s v → A .numbers .Spelling (commandOf v)
+unfolding commandOf
+command-spelled {A} (a-word h) = unnamed A
+command-spelled {A} a-truth = unnamed A
+command-spelled {A} a-null = unnamed A
+command-spelled {A} a-mark = unnamed A
+command-spelled (an-operator h) = h
+command-spelled (a-name {x = true} h) = h
+command-spelled {A} (a-name {x = false} h) = unnamed A
+command-spelled {A} (a-string h) = unnamed A
+command-spelled {A} (an-array h) = unnamed A
+
+-- A step keeps the property, and stays within what is lent; one that ends the run leaves the machine as it was.
 pub data KeptStep (K : Property) (l : Limits) (m : Machine) : Step → Type 0 where
-  went : {τ : State} → Fit K (τ .machine) → Within l (τ .machine) → KeptStep K l m (goes τ)
-  stuck : {e : Error} {c : List ℕ} {τ : State} → Command (K .parts) c → τ .machine ≡ m → KeptStep K l m (Steps.fails e c τ)
+  went : {τ : State} → Fit K (τ .machine) → Stays l m (τ .machine) → KeptStep K l m (goes τ)
+  stuck : {e : Error} {c : List ℕ} {τ : State} → K .parts .numbers .Spelling c → τ .machine ≡ m → KeptStep K l m (Steps.fails e c τ)
   unread : {f : Fault} {τ : State} → τ .machine ≡ m → KeptStep K l m (misreads f τ)
 
 -- A machine that an operator may act on: it has no more items than an object may have elements.
@@ -202,12 +214,12 @@ module _ (K : Property) where
       choose (Gives (Fit K)) (isProcedure v) (ok (push v m)) (execute v m) (λ t. gives (pushed (h .fit) k)) (λ t. execute-keeps m k h)
 
   record KeptMove (v : Move) : Type 0 where
-    command : Command (K .parts) (v .command)
+    command : K .parts .numbers .Spelling (v .command)
     result : Gives (Fit K) (v .result)
 
   silent-keeps : {r : Result Machine} → Gives (Fit K) r → KeptMove (silent r)
   unfolding silent
-  silent-keeps g = record { command = nothing-executed; result = g }
+  silent-keeps g = record { command = unnamed (K .parts); result = g }
 
   -- A repetition: the body is pending above its loop.
   repeated : {f : Frame} {b : Value} {m : Machine}
@@ -220,7 +232,7 @@ module _ (K : Property) where
 
   resume-keeps : (f : Frame) (m : Machine) → GoodFrame (K .parts) (m .store) f → Ready K m → KeptMove (resume f m)
   unfolding resume enter withExec push withStack
-  resume-keeps (pending v) m k h = record { command = executed (k .held); result = execute-keeps m (k .held) h }
+  resume-keeps (pending v) m k h = record { command = command-spelled (k .held); result = execute-keeps m (k .held) h }
   resume-keeps (running i n) m k h = by (all-getElem? (object-good (h .fit) i .inside) n)
     where
       by : {o : Option Value}
@@ -231,7 +243,7 @@ module _ (K : Property) where
           ])
       by nothing = silent-keeps (gives (h .fit))
       by (just {a = v} g) =
-          record { command = executed g; result = treat-keeps v _ g (ready-exec h (cons (record { held = a-null }) (h .fit .parts .exec))) }
+          record { command = command-spelled g; result = treat-keeps v _ g (ready-exec h (cons (record { held = a-null }) (h .fit .parts .exec))) }
   resume-keeps (looping b) m k h = repeated (record { held = k .held }) (k .held) (h .fit)
   resume-keeps (repeating zero b) m k h = silent-keeps (gives (h .fit))
   resume-keeps (repeating (suc n) b) m k h = repeated (record { held = k .held }) (k .held) (h .fit)
@@ -243,11 +255,32 @@ module _ (K : Property) where
 
   tokenMove-keeps : {s : List Object} (t : Taken) → FitTaken s t → KeptMove (tokenMove t)
   unfolding tokenMove
-  tokenMove-keeps t k = record { command = executed (k .good); result = treat-keeps (t .value) (t .machine) (k .good) (k .ready) }
+  tokenMove-keeps t k = record { command = command-spelled (k .good); result = treat-keeps (t .value) (t .machine) (k .good) (k .ready) }
+
+  -- What is left of the execution stack where the frame's object or repetition has failed.
+  passed-good : {s : List Object} (f : Frame) {fs : List Frame}
+      → GoodFrame (K .parts) s f
+      → All (GoodFrame (K .parts) s) fs
+      → All (GoodFrame (K .parts) s) (passed f fs)
+  unfolding passed
+  passed-good (pending v) k ps = ps
+  passed-good (running i n) k ps = cons (record { held = a-null }) ps
+  passed-good (looping b) k ps = cons k ps
+  passed-good (repeating n b) k ps = cons (record { held = k .held }) ps
+  passed-good (counting n i f b) k ps = cons (record { held = k .held }) ps
 
   -- ---- a step
 
   module _ (l : Limits) where
+    -- A name that is stored, and the dictionary then.
+    record KeptName (s : List Object) (before : List Slot) (x : Option (List ℕ) × List Slot) : Type 0 where
+      name : Maybe (K .parts .numbers .Spelling) (x .0)
+      slots : All (GoodSlot (K .parts) s) (x .1)
+      room : length before ≤ l .dictionarySlots → length (x .1) ≤ l .dictionarySlots
+
+    within-stays : {before after : Machine} → Within l after → Stays l before after
+    within-stays w = record { dictionary = λ r. w .dictionary; exec = w .exec; stack = λ r. w .stack; log = λ r. w .log }
+
     abbrev Roomy : Machine → Type 0
     Roomy m = Fit K m × Within l m
 
@@ -261,28 +294,73 @@ module _ (K : Property) where
         (λ f. gives-then (gives-check _ _)
         (λ g t. gives (h, record { dictionary = leb→le _ _ d; exec = leb→le _ _ e; stack = leb→le _ _ s; log = leb→le _ _ t }))))))
 
-    ended-keeps : (σ : State) (at next : ℕ) {c : List ℕ} {r : Result Machine}
-        → Command (K .parts) c
+    -- Names that are stored take slots without a binding, as many as there are.
+    noted-keeps : (n : List ℕ) {s : List Object} {d : List Slot} → K .parts .numbers .Spelling n → All (GoodSlot (K .parts) s) d → KeptName s d (noted (l .dictionarySlots) n d)
+    unfolding noted
+    noted-keeps [] k h = record { name = nothing; slots = h; room = λ r. r }
+    noted-keeps (b ∷ n) {s} {d} k h =
+        choose (KeptName s d) (leb (length (slotted (b ∷ n) d)) (l .dictionarySlots)) (some (b ∷ n), slotted (b ∷ n) d) (none, d)
+        (λ t. record { name = just k; slots = slotted-good (b ∷ n) h; room = λ r. leb→le _ _ t })
+        (λ t. record { name = nothing; slots = h; room = λ r. r })
+
+    handling-keeps : (e : Error) {c : List ℕ} {left : List Frame} {h : Value} {m : Machine}
+        → Fit K m
+        → K .parts .numbers .Spelling c
+        → All (GoodFrame (K .parts) (m .store)) left
+        → Good (K .parts) (m .store) h
+        → length left < l .execSlots
+        → Fit K (handling l h e c left m) × Stays l m (handling l h e c left m)
+    unfolding handling withLatest withDictionary withExec
+    handling-keeps e {c} {left} {h} {m} f k frames good room =
+        let x = noted-keeps (errorText e) (error-spelled (K .parts) e) (f .parts .dictionary) in
+        let y = noted-keeps c k (x .slots) in (
+          with-latest (with-dictionary (with-exec f (cons (record { held = good }) frames)) (y .slots)) (record { errorname = x .name; command = y .name }),
+          record { dictionary = λ r. y .room (x .room r); exec = room; stack = λ r. r; log = λ r. r },
+        )
+
+    failing-keeps : (σ : State) (at next : ℕ) (e : Error) {c : List ℕ} {left : List Frame} {o : Option Value}
+        → Fit K (σ .machine)
+        → K .parts .numbers .Spelling c
+        → All (GoodFrame (K .parts) (σ .machine .store)) left
+        → Maybe (Good (K .parts) (σ .machine .store)) o
+        → KeptStep K l (σ .machine) (failing l σ at next left e c o)
+    unfolding failing unmoved
+    failing-keeps σ at next e f k frames nothing = stuck k refl
+    failing-keeps σ at next e {left = left} f k frames (just good) =
+        choose (KeptStep K l (σ .machine)) (leb (suc (length left)) (l .execSlots)) _ _
+        (λ t.
+        let h = handling-keeps e f k frames good (leb→le _ _ t) in
+        went (h .0) (h .1))
+        (λ t. stuck k refl)
+
+    ended-keeps : (σ : State) (at next : ℕ) {c : List ℕ} {left : List Frame} {r : Result Machine}
+        → Fit K (σ .machine)
+        → K .parts .numbers .Spelling c
+        → All (GoodFrame (K .parts) (σ .machine .store)) left
         → Gives Roomy r
-        → KeptStep K l (σ .machine) (ended σ at next c r)
-    unfolding ended unmoved
-    ended-keeps σ at next k (gives h) = went (h .0) (h .1)
-    ended-keeps σ at next k fails = stuck k refl
+        → KeptStep K l (σ .machine) (ended l σ at next left c r)
+    unfolding ended
+    ended-keeps σ at next f k frames (gives h) = went (h .0) (within-stays (h .1))
+    ended-keeps σ at next f k frames (fails {e = e}) = failing-keeps σ at next e f k frames (lookup-good (errorText e) (f .parts .handlers))
 
-    moved-keeps : (σ : State) (at next : ℕ) {v : Move} → KeptMove v → KeptStep K l (σ .machine) (moved l σ at next v)
+    moved-keeps : (σ : State) (at next : ℕ) {left : List Frame} {v : Move}
+        → Fit K (σ .machine)
+        → All (GoodFrame (K .parts) (σ .machine .store)) left
+        → KeptMove v
+        → KeptStep K l (σ .machine) (moved l σ at next left v)
     unfolding moved
-    moved-keeps σ at next k = ended-keeps σ at next (k .command) (gives-then (k .result) (λ m h. roomFor-keeps (σ .machine) m h))
+    moved-keeps σ at next f frames k = ended-keeps σ at next f (k .command) frames (gives-then (k .result) (λ m h. roomFor-keeps (σ .machine) m h))
 
-    token-keeps : (σ : State) (start : ℕ) {s : List Object} {r : Lexing Taken} → Gives (FitTaken s) r → KeptStep K l (σ .machine) (tokenStep l σ start r)
+    token-keeps : (σ : State) (start : ℕ) {s : List Object} {r : Lexing Taken} → Fit K (σ .machine) → Gives (FitTaken s) r → KeptStep K l (σ .machine) (tokenStep l σ start r)
     unfolding tokenStep unmoved
-    token-keeps σ start (gives {a = t} k) = moved-keeps σ start (t .after) (tokenMove-keeps t k)
-    token-keeps σ start fails = unread refl
+    token-keeps σ start f (gives {a = t} k) = moved-keeps σ start (t .after) f nil (tokenMove-keeps t k)
+    token-keeps σ start f fails = unread refl
 
     module _ (script : List ℕ) (bytes : All (K .parts .numbers .Byte) script) (short : K .parts .numbers .Size (length script)) where
       stepOn-keeps : (σ : State) {fs : List Frame} → All (GoodFrame (K .parts) (σ .machine .store)) fs → Ready K (σ .machine) → KeptStep K l (σ .machine) (stepOn l script σ fs)
       unfolding stepOn withExec
-      stepOn-keeps σ (cons {a = f} p ps) h = moved-keeps σ (σ .at) (σ .next) (resume-keeps f _ p (ready-exec h ps))
-      stepOn-keeps σ nil h = token-keeps σ (skip script (σ .next)) (takeToken-keeps script bytes short (skip script (σ .next)) (σ .machine) h)
+      stepOn-keeps σ (cons {a = f} p ps) h = moved-keeps σ (σ .at) (σ .next) (h .fit) (passed-good f p ps) (resume-keeps f _ p (ready-exec h ps))
+      stepOn-keeps σ nil h = token-keeps σ (skip script (σ .next)) (h .fit) (takeToken-keeps script bytes short (skip script (σ .next)) (σ .machine) h)
 
       pub step-keeps : (σ : State) → K .parts .numbers .Size (length (σ .machine .stack)) → Fit K (σ .machine) → KeptStep K l (σ .machine) (step l script σ)
       unfolding step

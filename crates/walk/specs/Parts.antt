@@ -7,7 +7,7 @@ use Prim.Native.Nat.{ℕ, _^_, _≤_, _<_}
 use lib.ListN.{length, getD, set}
 use Rattle.semantics.specs.Sizes.{nameMost}
 use Rattle.semantics.specs.Values.{Value, integer, boolean, null, mark, operator, name, string, array, Object, elements}
-use Rattle.semantics.specs.Machine.{Machine, Frame, pending, running, looping, repeating, counting, Slot, elementsOf, bytesOf}
+use Rattle.semantics.specs.Machine.{Machine, Frame, pending, running, looping, repeating, counting, Slot, Latest, elementsOf, bytesOf}
 use Rattle.semantics.specs.ObjectOperators.{size}
 use Rattle.semantics.specs.Steps.{Limits}
 use Rattle.semantics.specs.ListLaws.{All, Maybe, all-any}
@@ -112,12 +112,19 @@ module _ (A : Parts) (s : List Object) where
     pub stored : All (A .numbers .Byte) (bytesOf o)
     pub extent : A .numbers .Size (size o)
 
+-- Of the names of the latest error and of its command.
+pub record GoodLatest (A : Parts) (t : Latest) : Type 0 where
+  pub errorname : Maybe (A .numbers .Spelling) (t .errorname)
+  pub command : Maybe (A .numbers .Spelling) (t .command)
+
 -- It is so everywhere in a machine. A running procedure only reads its object.
 pub record Everywhere (A : Parts) (m : Machine) : Type 0 where
   pub stack : All (Good A (m .store)) (m .stack)
   pub dictionary : All (GoodSlot A (m .store)) (m .dictionary)
   pub exec : All (GoodFrame A (m .store)) (m .exec)
   pub store : All (GoodObject A (m .store)) (m .store)
+  pub handlers : All (GoodSlot A (m .store)) (m .handlers)
+  pub latest : GoodLatest A (m .latest)
 
 -- Names, execution slots, items and log are within what is lent, as the test of room after each step asks.
 pub record Within (l : Limits) (m : Machine) : Type 0 where
@@ -125,3 +132,10 @@ pub record Within (l : Limits) (m : Machine) : Type 0 where
   pub exec : length (m .exec) ≤ l .execSlots
   pub stack : length (m .stack) ≤ l .stackSlots
   pub log : length (m .log) ≤ l .logBytes
+
+-- A step leaves them within what is lent if they were so before it. Most steps test for that; one that hands over to a handler tests only for the slots that it takes.
+pub record Stays (l : Limits) (before after : Machine) : Type 0 where
+  pub dictionary : length (before .dictionary) ≤ l .dictionarySlots → length (after .dictionary) ≤ l .dictionarySlots
+  pub exec : length (after .exec) ≤ l .execSlots
+  pub stack : length (before .stack) ≤ l .stackSlots → length (after .stack) ≤ l .stackSlots
+  pub log : length (before .log) ≤ l .logBytes → length (after .log) ≤ l .logBytes

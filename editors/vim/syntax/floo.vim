@@ -14,6 +14,7 @@ syn keyword flooControl exec if ifelse loop repeat for exit continue stop
 syn keyword flooObject array length get put getinterval putinterval aload astore string
 syn keyword flooConversion cvs cvx cvlit cvn
 syn keyword flooOutput echo echostack print
+syn keyword flooException onerror errorname command
 syn keyword flooConstant true false null
 syn match flooBracket "[[\]]"
 syn match flooBrace "[{}]"
@@ -41,6 +42,7 @@ hi def link flooControl Statement
 hi def link flooObject Function
 hi def link flooConversion Function
 hi def link flooOutput Function
+hi def link flooException Exception
 hi def link flooConstant Constant
 hi def link flooBracket Delimiter
 hi def link flooBrace Delimiter

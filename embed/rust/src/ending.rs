@@ -68,7 +68,7 @@ impl fmt::Display for Ending {
     }
 }
 
-/// The name of the error that ended a run: the outcome's line `error`. The first five say what is wrong with a token; with them
+/// The name of the error that ended a run: the outcome's line `error`. An error that the script handles, by onerror, ends none. The first five say what is wrong with a token; with them
 /// [`Report::place`](crate::Report::place) is the byte that could not be accepted.
 ///
 /// ```
@@ -80,6 +80,7 @@ impl fmt::Display for Ending {
 /// assert_eq!(report.command(), Some("getinterval"));
 /// assert_eq!(ErrorName::RangeCheck.to_string(), "rangecheck");
 /// assert_eq!(runner.run(b"#FLOO\n1 2 add", 100).unwrap().error(), None);
+/// assert_eq!(runner.run(b"#FLOO\n/rangecheck null onerror \"shelf\" 3 9 getinterval", 100).unwrap().error(), None);
 /// ```
 #[derive(Clone, Copy, Debug, PartialEq, Eq, Hash)]
 #[non_exhaustive]

@@ -7,7 +7,7 @@
 /// let mut runner = floo::Runner::new(least);
 /// assert!(runner.run(b"#FLOO\n1 echo", 100).is_ok());
 /// ```
-pub const PREDEFINED_NAMES: usize = 58;
+pub const PREDEFINED_NAMES: usize = 61;
 
 /// These names: the operators by family, `[`, true, false and null.
 ///
@@ -25,5 +25,6 @@ pub const NAMES: [&str; PREDEFINED_NAMES] = [
     "array", "mark", "[", "]", "length", "get", "put", "getinterval", "putinterval", "aload", "astore", "string", // objects
     "cvs", "cvx", "cvlit", "cvn", // conversion
     "echo", "echostack", "print", // output
+    "onerror", "errorname", "command", // errors
     "true", "false", "null",
 ];

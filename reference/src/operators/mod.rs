@@ -1,4 +1,4 @@
-//! The operators (000, 6.2 to 6.10; R1), a module for each section. A rule looks for its errors
+//! The operators (000, 6.2 to 6.10; R1; 02), a module for each section. A rule looks for its errors
 //! in the order of 01, "Order within a step"; what the sizes decide is tested after it, in
 //! `Change::fits`.
 
@@ -7,6 +7,7 @@ mod array;
 mod control;
 mod conversion;
 mod dictionary;
+mod handler;
 mod output;
 mod relational;
 mod stack;
@@ -77,6 +78,9 @@ const TABLE: &[(&str, Rule)] = &[
     ("echo", output::echo),
     ("echostack", output::echostack),
     ("print", output::print),
+    ("onerror", handler::onerror),
+    ("errorname", handler::errorname),
+    ("command", handler::command),
 ];
 
 impl Operator {

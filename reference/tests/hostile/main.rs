@@ -1,28 +1,40 @@
 //! Whatever the script and the sizes: no panic, no step beyond the fuel, nothing beyond the sizes,
-//! and held as the paper's words give it.
+//! and held as the paper's words give it. Runs are counted that meet handled errors of every kind.
 
+mod ground;
+mod handlers;
 mod random;
 mod scripts;
 
 use std::collections::BTreeSet;
 
+use floo_reference::setup::PREDEFINED_NAMES;
 use floo_reference::value::{Object, ObjectId, Value};
 use floo_reference::{printed, read_token, run, Answer, Ending, Machine, Ran, Sizes, TokenAnswer};
+use ground::Ground;
 use random::Random;
 
 const ROUNDS: usize = 30_000;
 const LEAST_STEPS: u64 = 300_000;
+/// Runs that meet each of what handlers are about.
+const LEAST_RUNS: usize = 12;
 
 #[test]
 fn runs_stay_within_fuel_and_sizes() {
     let mut random = Random::new(0x0F10_0F10_0F10_0F10);
     let mut steps = 0;
+    let mut ground = Ground::default();
     for _ in 0..ROUNDS {
         let script = scripts::hostile(&mut random);
-        let fuel = random.choose(&[&0, &1, &30, &300, &3_000]);
-        steps += check_run(&script, *fuel, &allowed_sizes(&mut random));
+        let fuel = random.choose(&[&0, &1, &30, &300, &300, &3_000]);
+        let ran = check_run(&script, *fuel, &allowed_sizes(&mut random));
+        steps += ran.machine.steps;
+        ground.count(&ran.ending, &ran.machine);
     }
     assert!(steps >= LEAST_STEPS, "only {steps} steps were taken");
+    for (what, count) in ground.met() {
+        assert!(count >= LEAST_RUNS, "{what}: {count} runs");
+    }
 }
 
 #[test]
@@ -35,7 +47,7 @@ fn one_below_the_smallest_is_refused() {
         match number {
             4 => sizes.stack = 7,
             5 => sizes.exec = 3,
-            6 => sizes.dictionary = 57,
+            6 => sizes.dictionary = PREDEFINED_NAMES - 1,
             7 => sizes.cells = 0,
             8 => sizes.log = 65_537,
             _ => sizes.outcome = Sizes::least_outcome(sizes.stack) - 1,
@@ -75,32 +87,30 @@ fn allowed_sizes(random: &mut Random) -> Sizes {
     let stack = 8 + random.choose(&[&0, &1, &20, &248]);
     Sizes {
         stack,
-        exec: 4 + random.choose(&[&0, &1, &10, &124]),
-        dictionary: 58 + random.choose(&[&0, &1, &3, &454]),
-        cells: 1 + random.choose(&[&0, &3, &20, &200, &4_095]),
+        exec: 4 + random.choose(&[&0, &1, &2, &10, &124]),
+        dictionary: match random.below(3) {
+            0 => PREDEFINED_NAMES + random.below(10),
+            1 => PREDEFINED_NAMES + random.below(40),
+            _ => 512,
+        },
+        cells: 1 + random.choose(&[&0, &3, &20, &40, &200, &4_095]),
         log: *random.choose(&[&0, &1, &40, &8_192]),
         outcome: Sizes::least_outcome(stack),
     }
 }
 
-/// Runs a script and checks what it leaves; the steps that it took.
-fn check_run(script: &[u8], fuel: u64, sizes: &Sizes) -> u64 {
+/// Runs a script and checks what it leaves.
+fn check_run(script: &[u8], fuel: u64, sizes: &Sizes) -> Ran {
     let answer = run(script, fuel, sizes);
     let output = answer.printed();
-    let Answer::Run(Ran {
-        log,
-        outcome,
-        ending,
-        mut machine,
-    }) = answer
-    else {
+    let Answer::Run(mut ran) = answer else {
         panic!("allowed sizes were refused");
     };
-    assert!(log.len() <= sizes.log && outcome.len() <= sizes.outcome);
-    check_machine(&mut machine, sizes);
-    let steps = machine.steps;
+    assert!(ran.log.len() <= sizes.log && ran.outcome.len() <= sizes.outcome);
+    check_machine(&mut ran.machine, sizes);
+    let steps = ran.machine.steps;
     assert!(steps <= fuel);
-    assert!(ending != Ending::Fuel || steps == fuel);
+    assert!(ran.ending != Ending::Fuel || steps == fuel);
     // Fuel does nothing but end the run.
     assert_eq!(printed(script, steps, sizes), output);
     if steps > 0 {
@@ -112,7 +122,7 @@ fn check_run(script: &[u8], fuel: u64, sizes: &Sizes) -> u64 {
         };
         assert_eq!((ending, machine.steps), (Ending::Fuel, steps - 1));
     }
-    steps
+    ran
 }
 
 fn check_machine(machine: &mut Machine, sizes: &Sizes) {
@@ -137,6 +147,8 @@ fn held_by_the_words(machine: &Machine) -> BTreeSet<ObjectId> {
                 .filter_map(|entry| entry.binding?.object()),
         );
         named.extend(machine.frames.iter().filter_map(|frame| frame.object()));
+        let handlers = machine.handlers.iter().flatten();
+        named.extend(handlers.filter_map(|handler| handler.object()));
         for &id in &set {
             if let Object::Array(elements) = &machine.store[id] {
                 named.extend(elements.iter().copied().filter_map(Value::object));

@@ -1,5 +1,6 @@
-//! Scripts that mean no good: random bytes, random tokens, damaged programs, misspelt tokens and loops at the ends of the integers.
+//! Scripts that mean no good: random bytes, random tokens, damaged programs, misspelt tokens, loops at the ends of the integers, and errors with handlers.
 
+use crate::handlers;
 use crate::random::Random;
 
 /// Words that act: all operators, names that may be bound, braces.
@@ -59,6 +60,9 @@ const ACTIONS: &[&str] = &[
     "cvn",
     "echo",
     "echostack",
+    "onerror",
+    "errorname",
+    "command",
     "a",
     "b",
     "c",
@@ -103,6 +107,10 @@ const OBJECTS: &[&str] = &[
     "/c 1 array def c 0 c put c",
     "9 array 3 string",
     "3 { 4 string } repeat",
+    "/undefined",
+    "/stackunderflow { 1 } onerror",
+    "/typecheck { pop } bind onerror",
+    "/rangecheck [ 1 ] onerror",
 ];
 
 const LOOP_BODIES: &[&str] = &["{ }", "{ pop }", "{ exit }", "{ dup pop continue }", "{ pop { exit } loop }", "pop"];
@@ -155,14 +163,18 @@ const PROGRAMS: &[&str] = &[
     "/s 12 string def -17 s cvs echo s 3 \"xyz\" putinterval s print s 0 12 getinterval length",
     "/loop load { exit } exch exec { { { continue } loop } loop } loop",
     "/t 1 array def t 0 t put t dup 1 array dup 0 3 index put 3 -1 roll pop pop pop",
+    "/undefined { errorname command } onerror 1 frob { 2 grub 3 } exec echostack",
+    "/VMerror { /x null def command cvx exec } onerror 40 { /x 900 array def } repeat x length",
+    "/stackoverflow { exit } onerror /rangecheck { errorname null onerror } onerror { 1 } loop -1 array -1 string",
 ];
 
 pub fn hostile(random: &mut Random) -> Vec<u8> {
-    match random.below(10) {
+    match random.below(16) {
         0 => random_bytes(random),
         1..=4 => random_words(random),
-        5 => border_loops(random),
-        6 => misspelt(random),
+        5..=6 => border_loops(random),
+        7..=8 => misspelt(random),
+        9..=12 => handlers::script(random),
         _ => damaged_program(random),
     }
 }
@@ -213,6 +225,9 @@ fn misspelt(random: &mut Random) -> Vec<u8> {
     let mut script = b"#FLOO\n".to_vec();
     for _ in 0..random.below(3) {
         script.extend(random.choose(OBJECTS).bytes().chain(*b" "));
+    }
+    if random.below(2) == 0 {
+        script.extend(handlers::before_fault(random).bytes());
     }
     let depth = match random.below(8) {
         0..=3 => 0,

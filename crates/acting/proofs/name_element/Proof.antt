@@ -36,7 +36,9 @@ slice-read-left : tie.Need-slice-read-left
 slice-read-left c = search needs
 
 get-requires : tie.Need-get-requires
-get-requires c κs = let R = c .before .before .before .before .before .before .before .pre .4 .3 in let x = run-at R _ (omega (arith, c .before .before .before .before .before .before .before .pre .0)) (c .before .before .before .before .before .before .before .pre .1) in (omega arith, cell-room R _ (omega (arith, c .before .before .before .before .before .before .before .pre .0)) (x .0) (x .1) (x .2) (c .before .before .before .before .before .before .before .pre .2))
+get-requires c κs =
+    let pre = c .before .before .before .before .before .before .before .pre in
+    let x = run-at (pre .4 .3) _ (omega (arith, pre .0)) (pre .1) in (omega arith, cell-room (pre .4 .3) _ (omega (arith, pre .0)) (x .0) (x .1) (x .2) (pre .2))
 
 advance-requires : tie.Need-advance-requires
 advance-requires c κs = search needs
@@ -45,7 +47,11 @@ cast-take-name : tie.Need-cast-take-name
 cast-take-name c = search needs
 
 take-name-requires : tie.Need-take-name-requires
-take-name-requires c κs = named-ready _ _ _ [] _ _ [] (c .before .before .before .before .before .before .before .before .before .before .before .before .before .before .before .pre .0) (c .before .before .before .before .before .before .before .before .before .before .before .before .before .before .before .pre .1) (c .before .before .before .before .before .before .before .before .before .before .before .before .before .before .before .pre .2) (c .before .before .before .before .advance .ensures .1) (c .before .before .before .before .advance .kept .1 .0) (c .before .before .before .before .advance .ensures .0) (c .before .before .before .before .before .before .before .before .before .before .before .before .before .before .before .pre .3) (c .before .before .before .before .before .before .before .get .ensures) (c .before .before .before .before .before .before .before .before .before .before .before .before .before .before .before .pre .4)
+take-name-requires c κs =
+    let pre = c .before .before .before .before .before .before .before .before .before .before .before .before .before .before .before .pre in
+    let advance = c .before .before .before .before .advance in
+    let get = c .before .before .before .before .before .before .before .get in
+    named-ready _ _ _ [] _ _ [] (pre .0) (pre .1) (pre .2) (advance .ensures .1) (advance .kept .1 .0) (advance .ensures .0) (pre .3) (get .ensures) (pre .4)
 
 enum-known-r : tie.Need-enum-known-r
 enum-known-r c = c .match .keys1
@@ -54,7 +60,11 @@ enum-known-e : tie.Need-enum-known-e
 enum-known-e c = c .match .keys2
 
 reset-top-requires : tie.Need-reset-top-requires
-reset-top-requires c κs = search needs
+reset-top-requires c κs =
+    let pre = c .before .before .before .before .before .before .before .before .before .before .before .before .before .before .before .before .before .before .before .before .before .before .before .before .pre in
+    let take-name = c .before .before .before .before .before .before .before .before .take-name in
+    let advance = c .before .before .before .before .before .before .before .before .before .before .before .before .before .advance in
+    (pre .0, omega (arith, take-name .kept .1 .0, advance .kept .1 .0, pre .4 .3 .rooms .exec-fits))
 
 same-length : tie.Need-same-length
 same-length c = search needs
@@ -63,7 +73,12 @@ same-length-2 : tie.Need-same-length-2
 same-length-2 c = search needs
 
 returns : tie.Need-returns
-returns c = element-named _ _ _ _ _ _ _ (c .before .before .before .before .before .before .before .before .before .before .before .before .before .before .before .before .before .before .before .before .before .before .before .pre .0) (c .before .before .before .before .before .before .before .before .before .before .before .before .before .before .before .before .before .before .before .before .before .before .before .pre .1) (c .before .before .before .before .before .before .before .before .before .before .before .before .before .before .before .before .before .before .before .before .before .before .before .pre .2) (c .before .before .before .before .before .before .before .before .before .before .before .before .advance .ensures .1) (c .before .before .before .before .before .before .before .before .before .before .before .before .advance .kept .1 .0) (c .before .before .before .before .before .before .before .before .before .before .before .before .advance .ensures .0) (c .before .before .before .before .before .before .before .before .before .before .before .before .before .before .before .before .before .before .before .before .before .before .before .pre .3) (c .before .before .before .before .before .before .before .before .before .before .before .before .before .before .before .get .ensures) (c .before .r .given .1) (c .before .before .before .before .before .before .before .take-name .ensures)
+returns c =
+    let pre = c .before .before .before .before .before .before .before .before .before .before .before .before .before .before .before .before .before .before .before .before .before .before .before .pre in
+    let advance = c .before .before .before .before .before .before .before .before .before .before .before .before .advance in
+    let get = c .before .before .before .before .before .before .before .before .before .before .before .before .before .before .before .get in
+    let take-name = c .before .before .before .before .before .before .before .take-name in
+    element-named _ _ _ _ _ _ _ (pre .0) (pre .1) (pre .2) (advance .ensures .1) (advance .kept .1 .0) (advance .ensures .0) (pre .3) (get .ensures) (c .before .r .given .1) (take-name .ensures)
 
 same-length-3 : tie.Need-same-length-3
 same-length-3 c = search needs
@@ -72,7 +87,38 @@ same-length-4 : tie.Need-same-length-4
 same-length-4 c = search needs
 
 returns-2 : tie.Need-returns-2
-returns-2 c = element-unnamed _ _ _ _ _ _ _ (c .before .before .before .before .before .before .before .before .before .before .before .before .before .before .before .before .before .before .before .before .before .before .before .before .before .before .before .pre .0) (c .before .before .before .before .before .before .before .before .before .before .before .before .before .before .before .before .before .before .before .before .before .before .before .before .before .before .before .pre .1) (c .before .before .before .before .before .before .before .before .before .before .before .before .before .before .before .before .before .before .before .before .before .before .before .before .before .before .before .pre .2) (c .before .before .before .before .before .before .before .before .before .before .before .before .before .before .before .before .advance .ensures .1) (c .before .before .before .before .before .before .before .before .before .before .before .before .before .before .before .before .advance .kept .1 .0) (c .before .before .before .before .before .before .before .before .before .before .before .before .before .before .before .before .advance .ensures .0) (c .before .before .before .before .before .before .before .before .before .before .before .before .before .before .before .before .before .before .before .before .before .before .before .before .before .before .before .pre .3) (c .before .before .before .before .before .before .before .before .before .before .before .before .before .before .before .before .before .before .before .get .ensures) (c .before .before .before .before .before .e .given .1) (c .before .before .before .before .before .before .before .before .before .before .before .take-name .ensures) (c .before .before .reset-top .ensures .1)
+returns-2 c =
+    let pre = c .before .before .before .before .before .before .before .before .before .before .before .before .before .before .before .before .before .before .before .before .before .before .before .before .before .before .before .pre in
+    let advance = c .before .before .before .before .before .before .before .before .before .before .before .before .before .before .before .before .advance in
+    let get = c .before .before .before .before .before .before .before .before .before .before .before .before .before .before .before .before .before .before .before .get in
+    let e = c .before .before .before .before .before .e in
+    let take-name = c .before .before .before .before .before .before .before .before .before .before .before .take-name in
+    let reset-top = c .before .before .reset-top in
+    element-unnamed _ _ _ _ _ _ _ (pre .0) (pre .1) (pre .2) (advance .ensures .1) (advance .kept .1 .0) (advance .ensures .0) (pre .3) (get .ensures) (e .given .1) (take-name .ensures) (reset-top .ensures .1)
 
 pub name-element-spec : {M : Type 1} → statement M
-name-element-spec = tie.close (tie.spec sub-k mul-c add-c mul-c-2 slice-read-c mul-left add-left mul-left-2 slice-read-left get-requires advance-requires cast-take-name take-name-requires enum-known-r enum-known-e reset-top-requires same-length same-length-2 returns same-length-3 same-length-4 returns-2)
+name-element-spec =
+    tie.close
+    (tie.spec
+    sub-k
+    mul-c
+    add-c
+    mul-c-2
+    slice-read-c
+    mul-left
+    add-left
+    mul-left-2
+    slice-read-left
+    get-requires
+    advance-requires
+    cast-take-name
+    take-name-requires
+    enum-known-r
+    enum-known-e
+    reset-top-requires
+    same-length
+    same-length-2
+    returns
+    same-length-3
+    same-length-4
+    returns-2)

@@ -1,6 +1,7 @@
 -- `length` meets its contract: the tag of the operand decides between typecheck and its length.
 -- Assumes nothing.
 use Rattle.array_operators.proofs.Getting.{length-short, length-type, length-done}
+use native.Mathlib.Omega.{arith}
 use borrow.Author.Needs.{needs}
 use Rattle.array_operators.proofs.length.Statement.{statement}
 use Rattle.array_operators.proofs.length.Tie as tie
@@ -24,7 +25,9 @@ drop-requires : tie.Need-drop-requires
 drop-requires c κs = search needs
 
 push-scalar-requires : tie.Need-push-scalar-requires
-push-scalar-requires c κs = search needs
+push-scalar-requires c κs =
+    let start = c .before .before .before .before .before .before .before .before .before .before .before .before in
+    omega (arith, c .before .before .before .drop .ensures .1, start .if1 .left, start .before .before .before .before .pre .4 .rooms .stack-fits)
 
 same-length-2 : tie.Need-same-length-2
 same-length-2 c = search needs

@@ -25,7 +25,10 @@ returns : tie.Need-returns
 returns c = group-fault (c .before .before .before .judge .ensures) (c .before .enum-told .given .1) (c .before .before .before .before .before .before .before .before .pre .0) (c .fault-of .ensures)
 
 add-names-requires : tie.Need-add-names-requires
-add-names-requires c κs = (c .before .before .before .before .before .before .before .before .before .pre .2, (_, parsed-flat (judged-good (c .before .before .before .before .judge .ensures) (c .before .before .judged .given .1) .1)), (_, _, _, _, _, c .before .before .before .before .before .before .before .before .before .pre .3 .3))
+add-names-requires c κs =
+    let start = c .before .before .before .before .before .before .before .before .before in
+    let judging = c .before .before .before .before in
+    (start .pre .2, (_, parsed-flat (judged-good (judging .judge .ensures) (c .before .before .judged .given .1) .1)), (_, _, _, _, _, start .pre .3 .3))
 
 enum-known-named : tie.Need-enum-known-named
 enum-known-named c = c .match2 .keys1
@@ -40,31 +43,57 @@ same-length : tie.Need-same-length
 same-length c = c .before .before .before .before .before .add-names .kept .1 .0
 
 returns-2 : tie.Need-returns-2
-returns-2 c = group-full (c .before .before .before .before .before .before .before .before .before .before .before .before .before .before .before .pre .0) (c .before .before .before .before .before .before .before .before .before .before .before .before .before .before .before .pre .1) (judged-good (c .before .before .before .before .before .before .before .before .before .before .judge .ensures) (c .before .before .before .before .before .before .before .before .judged .given .1) .1) (c .before .before .before .before .before .add-names .ensures) (c .before .before .before .before .before .add-names .kept .1 .0) (c .before .enum-told2 .given .1) (c .fault-of2 .ensures)
+returns-2 c =
+    let start = c .before .before .before .before .before .before .before .before .before .before .before .before .before .before .before in
+    let judging = c .before .before .before .before .before .before .before .before .before .before in
+    let good = c .before .before .before .before .before .before .before .before in
+    let adding = c .before .before .before .before .before in
+    let G = judged-good (judging .judge .ensures) (good .judged .given .1) in
+    group-full (start .pre .0) (start .pre .1) (G .1) (G .5) (adding .add-names .ensures) (adding .add-names .kept .1 .0) (c .before .enum-told2 .given .1) (c .fault-of2 .ensures)
 
 mul-if1 : tie.Need-mul-if1
-mul-if1 c = omega (arith, c .before .before .before .before .before .before .before .before .before .before .before .before .before .before .before .before .pre .3 .3 .rooms .stack-fits, c .before .before .before .before .before .before .before .before .before .before .before .before .before .before .before .before .pre .3 .3 .rooms .stack-few)
+mul-if1 c =
+    let start = c .before .before .before .before .before .before .before .before .before .before .before .before .before .before .before .before in
+    omega (arith, start .pre .3 .3 .rooms .stack-fits, start .pre .3 .3 .rooms .stack-few)
 
 add-if1 : tie.Need-add-if1
-add-if1 c = omega (arith, c .before .before .before .before .before .before .before .before .before .before .before .before .before .before .before .before .pre .3 .3 .rooms .stack-fits, c .before .before .before .before .before .before .before .before .before .before .before .before .before .before .before .before .pre .3 .3 .rooms .stack-few)
+add-if1 c =
+    let start = c .before .before .before .before .before .before .before .before .before .before .before .before .before .before .before .before in
+    omega (arith, start .pre .3 .3 .rooms .stack-fits, start .pre .3 .3 .rooms .stack-few)
 
 same-length-2 : tie.Need-same-length-2
 same-length-2 c = c .before .before .before .before .before .before .before .add-names .kept .1 .0
 
 returns-3 : tie.Need-returns-3
-returns-3 c = group-over (c .before .before .before .before .before .before .before .before .before .before .before .before .before .before .before .before .before .pre .0) (c .before .before .before .before .before .before .before .before .before .before .before .before .before .before .before .before .before .pre .1) (judged-good (c .before .before .before .before .before .before .before .before .before .before .before .before .judge .ensures) (c .before .before .before .before .before .before .before .before .before .before .judged .given .1) .1) (c .before .before .before .before .before .before .before .add-names .ensures) (c .before .before .before .before .before .before .before .add-names .kept .1 .0) (c .before .before .before .named .given .1) (c .if1 .taken)
+returns-3 c =
+    let start = c .before .before .before .before .before .before .before .before .before .before .before .before .before .before .before .before .before in
+    let judging = c .before .before .before .before .before .before .before .before .before .before .before .before in
+    let good = c .before .before .before .before .before .before .before .before .before .before in
+    let adding = c .before .before .before .before .before .before .before in
+    let G = judged-good (judging .judge .ensures) (good .judged .given .1) in
+    group-over (start .pre .0) (start .pre .1) (G .1) (G .5) (adding .add-names .ensures) (adding .add-names .kept .1 .0) (c .before .before .before .named .given .1) (c .if1 .taken)
 
 free-cells-requires : tie.Need-free-cells-requires
-free-cells-requires c κs = (_, (_, _, _, _, c .before .before .before .before .before .before .before .before .before .before .before .before .before .before .before .before .before .before .pre .3 .3))
+free-cells-requires c κs =
+    let start = c .before .before .before .before .before .before .before .before .before .before .before .before .before .before .before .before .before .before in
+    (_, (_, _, _, _, start .pre .3 .3))
 
 cast-if2 : tie.Need-cast-if2
 cast-if2 c = search needs
 
 add-if2 : tie.Need-add-if2
-add-if2 c = omega (arith, judged-good (c .before .before .before .before .before .before .before .before .before .before .before .before .before .before .judge .ensures) (c .before .before .before .before .before .before .before .before .before .before .before .before .judged .given .1) .4, judged-good (c .before .before .before .before .before .before .before .before .before .before .before .before .before .before .judge .ensures) (c .before .before .before .before .before .before .before .before .before .before .before .before .judged .given .1) .5, c .before .before .before .before .before .before .before .before .before .before .before .before .before .before .before .before .before .before .before .pre .2)
+add-if2 c =
+    let start = c .before .before .before .before .before .before .before .before .before .before .before .before .before .before .before .before .before .before .before in
+    let judging = c .before .before .before .before .before .before .before .before .before .before .before .before .before .before in
+    let good = c .before .before .before .before .before .before .before .before .before .before .before .before in
+    omega (arith, judged-good (judging .judge .ensures) (good .judged .given .1) .4, judged-good (judging .judge .ensures) (good .judged .given .1) .5, start .pre .2)
 
 add-if2-2 : tie.Need-add-if2-2
-add-if2-2 c = omega (arith, judged-good (c .before .before .before .before .before .before .before .before .before .before .before .before .before .before .judge .ensures) (c .before .before .before .before .before .before .before .before .before .before .before .before .judged .given .1) .4, judged-good (c .before .before .before .before .before .before .before .before .before .before .before .before .before .before .judge .ensures) (c .before .before .before .before .before .before .before .before .before .before .before .before .judged .given .1) .5, c .before .before .before .before .before .before .before .before .before .before .before .before .before .before .before .before .before .before .before .pre .2)
+add-if2-2 c =
+    let start = c .before .before .before .before .before .before .before .before .before .before .before .before .before .before .before .before .before .before .before in
+    let judging = c .before .before .before .before .before .before .before .before .before .before .before .before .before .before in
+    let good = c .before .before .before .before .before .before .before .before .before .before .before .before in
+    omega (arith, judged-good (judging .judge .ensures) (good .judged .given .1) .4, judged-good (judging .judge .ensures) (good .judged .given .1) .5, start .pre .2)
 
 same-length-3 : tie.Need-same-length-3
 same-length-3 c = c .before .before .before .before .before .before .before .before .before .before .add-names .kept .1 .0
@@ -73,10 +102,26 @@ same-length-4 : tie.Need-same-length-4
 same-length-4 c = search needs
 
 returns-4 : tie.Need-returns-4
-returns-4 c = let G = judged-good (c .before .before .before .before .before .before .before .before .before .before .before .before .before .before .before .judge .ensures) (c .before .before .before .before .before .before .before .before .before .before .before .before .before .judged .given .1) in group-none (c .before .before .before .before .before .before .before .before .before .before .before .before .before .before .before .before .before .before .before .before .pre .0) (c .before .before .before .before .before .before .before .before .before .before .before .before .before .before .before .before .before .before .before .before .pre .1) (G .1) (c .before .before .before .before .before .before .before .before .before .before .add-names .ensures) (c .before .before .before .before .before .before .before .before .before .before .add-names .kept .1 .0) (c .before .before .before .before .before .before .named .given .1) (c .before .before .before .if1 .left) (omega (arith, c .if2 .taken, c .before .free-cells .ensures, G .2, G .3))
+returns-4 c =
+    let start = c .before .before .before .before .before .before .before .before .before .before .before .before .before .before .before .before .before .before .before .before in
+    let judging = c .before .before .before .before .before .before .before .before .before .before .before .before .before .before .before in
+    let good = c .before .before .before .before .before .before .before .before .before .before .before .before .before in
+    let adding = c .before .before .before .before .before .before .before .before .before .before in
+    let naming = c .before .before .before .before .before .before in
+    let G = judged-good (judging .judge .ensures) (good .judged .given .1) in
+    group-none (start .pre .0) (start .pre .1) (G .1) (G .5) (adding .add-names .ensures) (adding .add-names .kept .1 .0) (naming .named .given .1) (c .before .before .before .if1 .left) (omega (arith, c .if2 .taken, c .before .free-cells .ensures, G .2, G .3))
 
 construct-requires : tie.Need-construct-requires
-construct-requires c κs = let G = judged-good (c .before .before .before .before .before .before .before .before .before .before .before .before .before .before .before .before .before .before .judge .ensures) (c .before .before .before .before .before .before .before .before .before .before .before .before .before .before .before .before .judged .given .1) in group-ready (c .before .before .before .before .before .before .before .before .before .before .before .before .before .before .before .before .before .before .before .before .before .before .before .pre .0) (c .before .before .before .before .before .before .before .before .before .before .before .before .before .before .before .before .before .before .before .before .before .before .before .pre .1) (G .1) (c .before .before .before .before .before .before .before .before .before .before .before .before .before .add-names .ensures) (c .before .before .before .before .before .before .before .before .before .before .before .before .before .add-names .kept .1 .0) (c .before .before .before .before .before .before .before .before .before .named .given .1) (c .before .before .before .before .before .before .if1 .left) (omega (arith, c .before .before .before .if2 .left, c .before .before .before .before .free-cells .ensures, G .2, G .3)) (c .before .before .before .before .before .before .before .before .before .before .before .before .before .before .before .before .before .before .before .before .before .before .before .pre .2) (G .2) (omega (arith, G .4, G .5, c .before .before .before .before .before .before .before .before .before .before .before .before .before .before .before .before .before .before .before .before .before .before .before .pre .2)) (c .before .before .before .before .before .before .before .before .before .before .before .before .before .before .before .before .before .before .before .before .before .before .before .pre .3)
+construct-requires c κs =
+    let start = c .before .before .before .before .before .before .before .before .before .before .before .before .before .before .before .before .before .before .before .before .before .before .before in
+    let judging = c .before .before .before .before .before .before .before .before .before .before .before .before .before .before .before .before .before .before in
+    let good = c .before .before .before .before .before .before .before .before .before .before .before .before .before .before .before .before in
+    let adding = c .before .before .before .before .before .before .before .before .before .before .before .before .before in
+    let naming = c .before .before .before .before .before .before .before .before .before in
+    let first = c .before .before .before .before .before .before in
+    let counted = c .before .before .before .before in
+    let G = judged-good (judging .judge .ensures) (good .judged .given .1) in
+    group-ready (start .pre .0) (start .pre .1) (G .1) (G .5) (adding .add-names .ensures) (adding .add-names .kept .1 .0) (naming .named .given .1) (first .if1 .left) (omega (arith, c .before .before .before .if2 .left, counted .free-cells .ensures, G .2, G .3)) (start .pre .2) (G .2) (omega (arith, G .4, G .5, start .pre .2)) (start .pre .3)
 
 same-length-5 : tie.Need-same-length-5
 same-length-5 c = c .before .before .before .before .construct .kept .1 .0
@@ -88,7 +133,18 @@ same-length-7 : tie.Need-same-length-7
 same-length-7 c = c .before .before .before .before .construct .kept .1 .1 .1 .0
 
 returns-5 : tie.Need-returns-5
-returns-5 c = let G = judged-good (c .before .before .before .before .before .before .before .before .before .before .before .before .before .before .before .before .before .before .before .before .before .before .before .judge .ensures) (c .before .before .before .before .before .before .before .before .before .before .before .before .before .before .before .before .before .before .before .before .before .judged .given .1) in group-done (c .before .before .before .before .before .before .before .before .before .before .before .before .before .before .before .before .before .before .before .before .before .before .before .before .before .before .before .before .pre .0) (c .before .before .before .before .before .before .before .before .before .before .before .before .before .before .before .before .before .before .before .before .before .before .before .before .before .before .before .before .pre .1) (G .1) (c .before .before .before .before .before .before .before .before .before .before .before .before .before .before .before .before .before .before .add-names .ensures) (c .before .before .before .before .before .before .before .before .before .before .before .before .before .before .before .before .before .before .add-names .kept .1 .0) (c .before .before .before .before .before .before .before .before .before .before .before .before .before .before .named .given .1) (c .before .before .before .before .before .before .before .before .before .before .before .if1 .left) (omega (arith, c .before .before .before .before .before .before .before .before .if2 .left, c .before .before .before .before .before .before .before .before .before .free-cells .ensures, G .2, G .3)) (G .5) (c .before .before .before .before .construct .ensures)
+returns-5 c =
+    let start = c .before .before .before .before .before .before .before .before .before .before .before .before .before .before .before .before .before .before .before .before .before .before .before .before .before .before .before .before in
+    let judging = c .before .before .before .before .before .before .before .before .before .before .before .before .before .before .before .before .before .before .before .before .before .before .before in
+    let good = c .before .before .before .before .before .before .before .before .before .before .before .before .before .before .before .before .before .before .before .before .before in
+    let adding = c .before .before .before .before .before .before .before .before .before .before .before .before .before .before .before .before .before .before in
+    let naming = c .before .before .before .before .before .before .before .before .before .before .before .before .before .before in
+    let first = c .before .before .before .before .before .before .before .before .before .before .before in
+    let counted = c .before .before .before .before .before .before .before .before .before in
+    let second = c .before .before .before .before .before .before .before .before in
+    let built = c .before .before .before .before in
+    let G = judged-good (judging .judge .ensures) (good .judged .given .1) in
+    group-done (start .pre .0) (start .pre .1) (G .1) (G .5) (adding .add-names .ensures) (adding .add-names .kept .1 .0) (naming .named .given .1) (first .if1 .left) (omega (arith, second .if2 .left, counted .free-cells .ensures, G .2, G .3)) (built .construct .ensures)
 
 pub take-group-spec : {M : Type 1} → statement M
 take-group-spec =

@@ -1,6 +1,8 @@
 -- `carry_out` meets its contract: the start, the string, and the run from there (`came`).
 -- Assumes nothing.
 use mathlib.Core.Path.{sym, _∙_}
+use Prim.Native.Nat.{_+_, _*_}
+use Rattle.semantics.specs.Sizes.{dictionaryWidth, nameCount}
 use native.Mathlib.Omega.{arith}
 use lib.Seq.{length-take-le, length-front}
 use Rattle.lending.proofs.Starting.{may-lend, goes, came, stack-long, dict-long}
@@ -29,7 +31,7 @@ slice-relend-prefix-lend-2 : tie.Need-slice-relend-prefix-lend-2
 slice-relend-prefix-lend-2 c = omega (arith, c .before .before .before .before .before .before .before .before .before .before .before .before .before .before .before .pre .slot, c .before .before .before .begin .kept .0)
 
 slice-aggregate-lend-2 : tie.Need-slice-aggregate-lend-2
-slice-aggregate-lend-2 c = sym (length-take-le 708 (c .before .before .before .before .begin .last .0) (omega (arith, c .before .before .before .before .before .before .before .before .before .before .before .before .before .before .before .before .pre .slot, c .before .before .before .before .begin .kept .0)))
+slice-aggregate-lend-2 c = sym (length-take-le (dictionaryWidth * (nameCount + 1)) (c .before .before .before .before .begin .last .0) (omega (arith, c .before .before .before .before .before .before .before .before .before .before .before .before .before .before .before .before .pre .slot, c .before .before .before .before .begin .kept .0)))
 
 lend-requires : tie.Need-lend-requires
 lend-requires c κs = may-lend (c .before .before .before .before .before .before .before .before .before .before .before .before .before .before .before .before .before .pre) (c .before .before .before .before .before .begin .ensures) (c .before .before .before .before .before .begin .kept .0)

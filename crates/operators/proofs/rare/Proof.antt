@@ -15,7 +15,9 @@ same-length-2 : tie.Need-same-length-2
 same-length-2 c = search needs
 
 returns : tie.Need-returns
-returns c = heap-all _ (c .before .before .before .before .intervals .ensures) _ _ _
+returns c =
+    let intervals = c .before .before .before .before .intervals in
+    heap-all _ (intervals .ensures) _ _ _
 
 converters-requires : tie.Need-converters-requires
 converters-requires c κs = search needs
@@ -30,7 +32,9 @@ same-length-5 : tie.Need-same-length-5
 same-length-5 c = search needs
 
 returns-2 : tie.Need-returns-2
-returns-2 c = dictionary-all _ (c .before .before .before .before .before .before .converters .ensures) _ _
+returns-2 c =
+    let converters = c .before .before .before .before .before .before .converters in
+    dictionary-all _ (converters .ensures) _ _
 
 outputs-requires : tie.Need-outputs-requires
 outputs-requires c κs = search needs
@@ -48,7 +52,26 @@ same-length-9 : tie.Need-same-length-9
 same-length-9 c = search needs
 
 returns-3 : tie.Need-returns-3
-returns-3 c = log-all _ (c .before .before .before .before .outputs .ensures) _
+returns-3 c =
+    let outputs = c .before .before .before .before .outputs in
+    log-all _ (outputs .ensures) _
+
+errors-requires : tie.Need-errors-requires
+errors-requires c κs = search needs
+
+same-length-10 : tie.Need-same-length-10
+same-length-10 c = search needs
+
+same-length-11 : tie.Need-same-length-11
+same-length-11 c = search needs
+
+same-length-12 : tie.Need-same-length-12
+same-length-12 c = search needs
+
+returns-4 : tie.Need-returns-4
+returns-4 c =
+    let errors = c .before .before .before .before .before .before .errors in
+    dictionary-all _ (errors .ensures) _ _
 
 pub rare-spec : {M : Type 1} → statement M
 rare-spec =
@@ -68,4 +91,9 @@ rare-spec =
     same-length-7
     same-length-8
     same-length-9
-    returns-3)
+    returns-3
+    errors-requires
+    same-length-10
+    same-length-11
+    same-length-12
+    returns-4)

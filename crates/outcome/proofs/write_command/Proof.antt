@@ -1,7 +1,7 @@
 -- `write_command` meets its contract: an operator and a name of a slot are written as the executable name in that slot, a name of the script as its bytes.
 -- Assumes nothing.
 use native.Mathlib.Omega.{arith}
-use Rattle.outcome.proofs.Commands.{nothing-written, operator-room, operator-written, name-room, name-written, token-inside, token-room, token-written}
+use Rattle.outcome.proofs.Commands.{token-silent, nothing-written, operator-room, operator-written, name-room, name-written, token-inside, token-room, token-written}
 use borrow.Author.Needs.{needs}
 use Rattle.outcome.proofs.write_command.Statement.{statement}
 use Rattle.outcome.proofs.write_command.Tie as tie
@@ -13,19 +13,29 @@ enum-known-command : tie.Need-enum-known-command
 enum-known-command c = c .match .keys2
 
 write-requires : tie.Need-write-requires
-write-requires c κs = operator-room (c .before .before .command .given .1) (c .before .before .before .before .before .before .before .before .pre)
+write-requires c κs =
+    let command = c .before .before .command in
+    let pre = c .before .before .before .before .before .before .before .before .pre in
+    operator-room (command .given .1) (pre)
 
 enum-known-command-2 : tie.Need-enum-known-command-2
 enum-known-command-2 c = c .match .keys3
 
 write-requires-2 : tie.Need-write-requires-2
-write-requires-2 c κs = name-room (c .before .before .command2 .given .1) (c .before .before .before .before .before .before .before .before .pre)
+write-requires-2 c κs =
+    let command2 = c .before .before .command2 in
+    let pre = c .before .before .before .before .before .before .before .before .pre in
+    name-room (command2 .given .1) (pre)
 
 enum-known-command-3 : tie.Need-enum-known-command-3
 enum-known-command-3 c = c .match .keys4
 
 add-write-name : tie.Need-add-write-name
-add-write-name c = omega (arith, token-inside _ _ (c .before .before .command3 .given .1) (c .before .before .before .before .before .before .before .before .pre) .0, c .before .before .before .before .before .before .before .before .good .1 .0 .0)
+add-write-name c =
+    let command3 = c .before .before .command3 in
+    let pre = c .before .before .before .before .before .before .before .before .pre in
+    let good = c .before .before .before .before .before .before .before .before .good in
+    omega (arith, token-inside _ _ (command3 .given .1) (pre) .0, good .1 .0 .0)
 
 sub-write-name : tie.Need-sub-write-name
 sub-write-name c = search needs
@@ -34,31 +44,58 @@ part-write-name-start : tie.Need-part-write-name-start
 part-write-name-start c = search needs
 
 part-write-name-end : tie.Need-part-write-name-end
-part-write-name-end c = omega (arith, token-inside _ _ (c .before .before .command3 .given .1) (c .before .before .before .before .before .before .before .before .pre) .0)
+part-write-name-end c =
+    let command3 = c .before .before .command3 in
+    let pre = c .before .before .before .before .before .before .before .before .pre in
+    omega (arith, token-inside _ _ (command3 .given .1) (pre) .0)
 
 write-name-requires : tie.Need-write-name-requires
-write-name-requires c κs = token-room _ _ (c .before .before .before .command3 .given .1) (c .before .before .before .before .before .before .before .before .before .pre)
+write-name-requires c κs =
+    let command3 = c .before .before .before .command3 in
+    let pre = c .before .before .before .before .before .before .before .before .before .pre in
+    token-room _ _ (command3 .given .1) (pre)
+
+enum-told-2 : tie.Need-enum-told-2
+enum-told-2 c = c .match .keys5
 
 returns : tie.Need-returns
 returns c = nothing-written (c .enum-told .given .1)
 
 same-length : tie.Need-same-length
-same-length c = c .before .before .write .kept .1 .1 .0
+same-length c =
+    let write = c .before .before .write in
+    write .kept .1 .1 .0
 
 returns-2 : tie.Need-returns-2
-returns-2 c = operator-written (c .before .before .before .before .before .command .given .1) (c .before .before .write .ensures)
+returns-2 c =
+    let command = c .before .before .before .before .before .command in
+    let write = c .before .before .write in
+    operator-written (command .given .1) (write .ensures)
 
 same-length-2 : tie.Need-same-length-2
-same-length-2 c = c .before .before .write2 .kept .1 .1 .0
+same-length-2 c =
+    let write2 = c .before .before .write2 in
+    write2 .kept .1 .1 .0
 
 returns-3 : tie.Need-returns-3
-returns-3 c = name-written (c .before .before .before .before .before .command2 .given .1) (c .before .before .write2 .ensures)
+returns-3 c =
+    let command2 = c .before .before .before .before .before .command2 in
+    let write2 = c .before .before .write2 in
+    name-written (command2 .given .1) (write2 .ensures)
 
 same-length-3 : tie.Need-same-length-3
-same-length-3 c = c .before .before .write-name .kept .0
+same-length-3 c =
+    let write-name = c .before .before .write-name in
+    write-name .kept .0
 
 returns-4 : tie.Need-returns-4
-returns-4 c = token-written _ _ (c .before .before .before .before .before .before .command3 .given .1) (c .before .before .write-name .ensures)
+returns-4 c =
+    let command3 = c .before .before .before .before .before .before .command3 in
+    let write-name = c .before .before .write-name in
+    token-written _ _ (command3 .given .1) (write-name .ensures)
+
+returns-5 : tie.Need-returns-5
+returns-5 c = token-silent (c .enum-told2 .given .1)
 
 pub write-command-spec : {M : Type 1} → statement M
 write-command-spec =
@@ -75,10 +112,12 @@ write-command-spec =
     part-write-name-start
     part-write-name-end
     write-name-requires
+    enum-told-2
     returns
     same-length
     returns-2
     same-length-2
     returns-3
     same-length-3
-    returns-4)
+    returns-4
+    returns-5)

@@ -48,6 +48,7 @@ fn names_of_postscript() {
         ("1 ==", "Floo has echo"),
         ("pstack", "Floo has echostack"),
         ("7 2 div", "Floo has idiv"),
+        ("{ 1 } stopped", "Floo has onerror"),
         ("getintervall", "is it getinterval?"),
         ("ehco", "is it echo?"),
         ("1 2 ad", "is it add or and?"),
@@ -64,4 +65,17 @@ fn names_of_postscript() {
     // nothing looks like it
     let said = script("#FLOO\nwarehouse", &[]);
     assert!(!said.errors.contains("note"), "{}", said.errors);
+}
+
+#[test]
+fn a_handler_for_no_error() {
+    let said = script("#FLOO\n/rangechek { } onerror", &[]);
+    assert_eq!(said.error(), "label.floo:2:16: rangecheck in onerror");
+    let note =
+        "note: onerror wants the name of an error as it is told here, /undefined or /VMerror\n";
+    assert!(said.errors.contains(note), "{}", said.errors);
+    // another error of onerror has no such note
+    let said = script("#FLOO\n1 { } onerror", &[]);
+    assert_eq!(said.error(), "label.floo:2:7: typecheck in onerror");
+    assert!(!said.errors.contains("wants"), "{}", said.errors);
 }

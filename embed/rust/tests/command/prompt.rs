@@ -97,3 +97,21 @@ fn a_room_that_setup_refuses() {
         "floo: refused=4: the stack slots are not 8 to 256"
     );
 }
+
+#[test]
+fn a_line_with_a_handled_error_is_kept() {
+    let (output, messages) = lines("/undefined { command } onerror\n1 frob 2\npop\n", &[]);
+    let expected = ["stack: empty", "stack: 1 /frob 2", "stack: 1 /frob"];
+    assert_eq!(output, expected.map(str::to_owned));
+    assert!(messages.is_empty(), "{messages:?}");
+}
+
+/// What the handler writes where the stack does not fit into the log is not taken for the stack.
+#[test]
+fn a_handler_does_not_answer_for_the_stack() {
+    let text = "/ioerror { \"x\\n\" print } onerror\n\"abcdefgh\"\n";
+    let (output, messages) = lines(text, &["--log", "6"]);
+    let expected = ["stack: empty", "stack: string:8/8"];
+    assert_eq!(output, expected.map(str::to_owned));
+    assert!(messages.is_empty(), "{messages:?}");
+}

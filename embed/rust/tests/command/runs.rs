@@ -25,6 +25,26 @@ fn the_outcome_is_the_proved_programs() {
     assert_eq!((said.status, &said.output[..]), (1, expected));
 }
 
+/// "only an error that ends the run shows in the outcome"
+#[test]
+fn a_handled_error_is_not_told() {
+    let text = "#FLOO\n/rangecheck { \"no place\\n\" print } onerror\n\"0417\" 5 4 getinterval\n";
+    let said = script(text, &[]);
+    let expected = Said {
+        status: 0,
+        output: "no place\n".to_owned(),
+        errors: String::new(),
+    };
+    assert_eq!(said, expected);
+    // an error in the handler is
+    let said = script(&text.replace("print", "prin"), &[]);
+    assert_eq!(
+        (said.status, said.error()),
+        (1, "label.floo:3:12: undefined in prin")
+    );
+    assert!(said.errors.contains("note: is it print?\n"));
+}
+
 #[test]
 fn an_error_has_its_place_line_and_caret() {
     let text =

@@ -103,3 +103,16 @@ fn items_of_every_kind() {
         lines[1]
     );
 }
+
+/// The step that fails takes its token and leaves the stack; the handler's steps are the token's.
+#[test]
+fn a_handled_error() {
+    let (status, lines) = lines("#FLOO\n/undefined 7 onerror frob 8", "4..9", &[]);
+    let expected = [
+        "    4       0  2:22 frob",
+        "    5       0  in 2:22 frob",
+        "    6       0  2:27 8                    7",
+        "    7       0  finished                  7 8",
+    ];
+    assert_eq!((status, &lines[1..]), (0, &expected.map(str::to_owned)[..]));
+}

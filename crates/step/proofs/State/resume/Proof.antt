@@ -39,7 +39,7 @@ same-length-5 : tie.Need-same-length-5
 same-length-5 c = search needs
 
 returns : tie.Need-returns
-returns c = record { steps = λ script inside within. acted (c .before .before .before .before .before .before .before .before .before .before .before .before .before .before .before .before .before .before .before .before .before .before .before .before .before .before .pre .0) inside within (c .before .before .before .before .before .before .before .before .before .before .before .before .before .before .act .ensures) (c .before .before .r .given .1) (c .ended .ensures) }
+returns c = record { tries = λ script inside within. acted (c .before .before .before .before .before .before .before .before .before .before .before .before .before .before .before .before .before .before .before .before .before .before .before .before .before .before .pre .0) inside within (c .before .before .before .before .before .before .before .before .before .before .before .before .before .before .act .ensures) (c .before .before .r .given .1) (c .ended .ensures) }
 
 same-length-6 : tie.Need-same-length-6
 same-length-6 c = search needs
@@ -57,7 +57,7 @@ same-length-10 : tie.Need-same-length-10
 same-length-10 c = search needs
 
 returns-2 : tie.Need-returns-2
-returns-2 c = record { steps = λ script inside within. failing (c .before .before .before .before .before .before .before .before .before .before .before .before .before .before .before .before .before .before .before .before .before .before .before .before .before .before .before .before .before .pre .0) inside within (c .before .before .before .before .before .before .before .before .before .before .before .before .before .before .before .before .before .act .ensures) (c .before .before .before .before .before .e .given .1) (c .before .before .before .before .before .before .before .before .before .before .before .before .before .before .before .before .before .before .before .before .before .before .before .before .before .before .before .before .before .pre .1 .1 .machine .0) (c .before .before .before .before .before .before .before .before .before .before .before .before .before .before .before .before .before .before .before .before .before .before .before .before .before .before .before .before .before .pre .1 .1 .machine .1) (c .before .command .ensures) (c .ended2 .ensures) }
+returns-2 c = record { tries = λ script inside within. failing (c .before .before .before .before .before .before .before .before .before .before .before .before .before .before .before .before .before .before .before .before .before .before .before .before .before .before .before .before .before .pre .0) inside within (c .before .before .before .before .before .before .before .before .before .before .before .before .before .before .before .before .before .act .ensures) (c .before .before .before .before .before .e .given .1) (c .before .before .before .before .before .before .before .before .before .before .before .before .before .before .before .before .before .before .before .before .before .before .before .before .before .before .before .before .before .pre .1 .1 .machine .0) (c .before .before .before .before .before .before .before .before .before .before .before .before .before .before .before .before .before .before .before .before .before .before .before .before .before .before .before .before .before .pre .1 .1 .machine .1) (c .before .command .ensures) (c .ended2 .ensures) }
 
 pub resume-spec : {M : Type 1} → statement M
 resume-spec =

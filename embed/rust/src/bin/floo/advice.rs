@@ -7,7 +7,7 @@ use crate::source::Source;
 use crate::verdict::{short, stack};
 
 /// Names of PostScript, and what Floo has for them.
-const POSTSCRIPT: [(&str, &str); 8] = [
+const POSTSCRIPT: [(&str, &str); 10] = [
     ("=", "echo"),
     ("==", "echo"),
     ("pstack", "echostack"),
@@ -16,6 +16,8 @@ const POSTSCRIPT: [(&str, &str); 8] = [
     ("begin", "one dictionary, and def"),
     ("dict", "one dictionary, and def"),
     ("quit", "stop"),
+    ("stopped", "onerror"),
+    ("errordict", "onerror"),
 ];
 
 pub fn of_fuel(report: &Report) -> Option<String> {
@@ -37,6 +39,12 @@ pub fn of_error(source: &Source, report: &Report, error: ErrorName) -> Vec<Strin
                 true => "the stack is empty".to_owned(),
                 false => format!("the stack: {}", stack(&items)),
             });
+        }
+        if (command, error) == ("onerror", ErrorName::RangeCheck) {
+            notes.push(
+                "onerror wants the name of an error as it is told here, /undefined or /VMerror"
+                    .to_owned(),
+            );
         }
         notes.extend(of_procedure(source, report, command));
     }

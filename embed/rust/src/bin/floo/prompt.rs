@@ -135,9 +135,10 @@ impl Session {
             None => {
                 self.logged = report.log().len();
                 let items: Vec<String> = report.items().map(|item| short(&item)).collect();
+                let steps = report.steps();
                 let shown = match items.is_empty() {
                     true => "empty".to_owned(),
-                    false => self.contents(runner, room).unwrap_or(stack(&items)),
+                    false => self.contents(runner, room, steps).unwrap_or(stack(&items)),
                 };
                 screen.print_quiet(&format!("stack: {shown}"))?;
             }
@@ -145,23 +146,25 @@ impl Session {
         Ok(())
     }
 
-    /// The stack as echostack writes it, with what is in strings and arrays. Nothing where the script has made another of that name, or where there is no room.
-    fn contents(&self, runner: &mut Runner, room: &Room) -> Option<String> {
+    /// The stack after so many steps as echostack writes it, with what is in strings and arrays. Nothing where the script has made another of that name, or where
+    /// there is no room.
+    fn contents(&self, runner: &mut Runner, room: &Room, steps: u32) -> Option<String> {
         let after = |text: &[u8]| [&self.source.bytes, text].concat();
         let script = after(b"\n/echostack load");
-        let bound = finished(runner.run(&script, room.fuel).ok()?)?
+        let bound = finished(runner.run(&script, room.fuel).ok()?, steps + 3)?
             .items()
             .next_back();
         if bound != Some(Item::Operator("echostack")) {
             return None;
         }
         let script = after(b"\nechostack");
-        let report = finished(runner.run(&script, room.fuel).ok()?)?;
+        let report = finished(runner.run(&script, room.fuel).ok()?, steps + 2)?;
         let text = report.log()[self.logged..].strip_suffix(b"\n")?;
         Some(String::from_utf8_lossy(text).into_owned())
     }
 }
 
-fn finished(report: Report<'_>) -> Option<Report<'_>> {
-    (report.ending() == Ending::Finished).then_some(report)
+/// A run that has finished in so many steps: with an error that the script handles it would take more.
+fn finished(report: Report<'_>, steps: u32) -> Option<Report<'_>> {
+    ((report.ending(), report.steps()) == (Ending::Finished, steps)).then_some(report)
 }

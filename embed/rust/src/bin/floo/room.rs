@@ -2,6 +2,9 @@
 //!
 //! What a run does before a part is full does not depend on the part's size, so with more room it stays the same, and the least size is found by halving. That is
 //! what is wanted of each part at most: for cells, those held before a step and those that the step makes.
+//!
+//! A script that handles overflows may do other things in less room and come to the same. Then the size found is one with which the run is the same and with one less
+//! is not, and each part is measured in what was found for those before it, so that all together are enough.
 
 use floo::{ErrorName, Runner, Sizes};
 
@@ -66,13 +69,14 @@ pub fn measure(source: &Source, room: &Room, screen: &mut Screen) -> Answer {
     };
     let mut lines = "part          used    lent\n".to_owned();
     let mut options = String::new();
+    let mut sizes = room.sizes;
     for part in &PARTS {
-        let mut sizes = room.sizes;
         let lent = *(part.size)(&mut sizes);
         let used = least(part.least, lent, |size| {
             *(part.size)(&mut sizes) = size;
             same(sizes)
         });
+        *(part.size)(&mut sizes) = used;
         let more = match part.error.is_some() && report.error() == part.error {
             true => "  more is wanted",
             false => "",

@@ -1,12 +1,12 @@
 -- `blank_from` meets its contract: the loop keeps `Seeking`, that no blank has been passed.
 -- Assumes nothing.
-use Rattle.start.proofs.Blanks.{Seeking, seek-begin, seek-again, seek-found, seek-end}
+use Rattle.dictionary.proofs.Blanks.{Seeking, seek-begin, seek-again, seek-found, seek-end}
 use lib.ListN.{length}
 use Prim.Native.Nat.{_-_}
 use native.Mathlib.Omega.{arith}
 use borrow.Author.Needs.{needs}
-use Rattle.start.proofs.blank_from.Statement.{statement}
-use Rattle.start.proofs.blank_from.Tie as tie
+use Rattle.dictionary.proofs.blank_from.Statement.{statement}
+use Rattle.dictionary.proofs.blank_from.Tie as tie
 
 abbrev Inv-loop : tie.InvT-loop
 Inv-loop list at end₀ end = Seeking list at end

@@ -1,15 +1,20 @@
 -- Names in a list, each with a blank after it: the search for the blank, and what it finds where a name has none itself.
 -- Assumes nothing.
-use mathlib.Core.Path.{_≡_, sym, ap, _∙_}
+use mathlib.Core.Path.{_≡_, sym, ap, _∙_, subst}
+use mathlib.Core.Bool.{Bool, true, not, _&&_}
 use mathlib.Core.List.{List, _∷_, _++_}
 use mathlib.Core.Logic.{⊎-elim}
-use Prim.Native.Nat.{ℕ, _+_, _-_, _≤_, _<_}
+use mathlib.Core.Option.{some}
+use Prim.Native.Nat.{ℕ, zero, suc, _+_, _-_, _≤_, _<_}
 use native.Mathlib.Omega.{arith}
-use lib.ListN.{length, getD, take, drop, length-append, length-drop, List·getD-append}
+use lib.Dec.{T, leb, eqb, leb→le}
+use borrow.Author.Tests.{eq-eqb}
+use Rattle.semantics.specs.ListLaws.{All, nil, cons, every, all-every, at-all, both}
+use lib.ListN.{length, getD, take, drop, getElem?, length-append, length-drop, List·getD-append}
 use lib.Seq.{getD-drop, getD-append-seam, take-append-seam, drop-drop, drop-append-add}
 use Rattle.semantics.specs.Sizes.{nameMost}
 use Rattle.heap.proofs.Since.{lt-or-le}
-use Rattle.start.specs.Predefined.{Ends}
+use Rattle.dictionary.specs.Listing.{Ends}
 
 -- No blank up to here.
 pub record Seeking (list : List ℕ) (at end : ℕ) : Type 0 where
@@ -46,6 +51,23 @@ module _ {list : List ℕ} {at : ℕ} where
 pub record Plain (n : List ℕ) : Type 0 where
   pub short : length n ≤ nameMost
   pub whole : (i : ℕ) → i < length n → getD n i 0 ≡ 32 → ⊥
+
+abbrev pub plain : List ℕ → Bool
+plain n = leb (length n) nameMost && every (λ b. not (eqb b 32)) n
+
+no-blank : {n : List ℕ} → All (λ b. T (not (eqb b 32))) n → (i : ℕ) → i < length n → getD n i 0 ≡ 32 → ⊥
+no-blank nil i l e = absurd (omega arith)
+no-blank (cons {a = b} p ps) zero l e = subst (λ t. T (not t)) (eq-eqb b 32 e) p
+no-blank (cons p ps) (suc i) l e = no-blank ps i (omega arith) e
+
+is-plain : (n : List ℕ) → T (plain n) → Plain n
+is-plain n t =
+    let parts = both (leb (length n) nameMost) (every (λ b. not (eqb b 32)) n) t in
+    record { short = leb→le (length n) nameMost (parts .0); whole = no-blank (all-every (λ b. not (eqb b 32)) n (parts .1)) }
+
+-- Names that are all so, by computation.
+pub plain-at : (ns : List (List ℕ)) → every plain ns ≡ true → (k : ℕ) (n : List ℕ) → getElem? ns k ≡ some n → Plain n
+plain-at ns all k n e = is-plain n (at-all (all-every plain ns (subst T (sym all) tt)) k n e)
 
 module _ (list : List ℕ) (at r : ℕ) (n rest : List ℕ) (e : drop at list ≡ n ++ (32 ∷ rest)) (within : at ≤ length list) where
   inside : (i : ℕ) → i < length n → getD list (at + i) 0 ≡ getD n i 0

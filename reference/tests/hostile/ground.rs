@@ -1,0 +1,76 @@
+//! What random runs meet of handlers: each error that can be handled in each kind of step, and what is around them.
+
+use floo_reference::error;
+use floo_reference::met::{can_be_handled, TAKEN};
+use floo_reference::{Ending, Machine};
+
+/// In how many runs each was met.
+#[derive(Default)]
+pub struct Ground {
+    /// Handled errors, by the place of the error's name and by what had failed.
+    handled: [[usize; TAKEN.len()]; error::NAMES.len()],
+    /// Faults of tokens that ended the run though they had a handler, by the place of the fault's name.
+    faults: [usize; error::NAMES.len()],
+    lost_past: usize,
+    nested: usize,
+    commands: [usize; 2],
+    crowded: [usize; 2],
+    replaced: [usize; 2],
+}
+
+impl Ground {
+    pub fn count(&mut self, ending: &Ending, machine: &Machine) {
+        let met = &machine.met;
+        for (counts, met) in self.handled.iter_mut().zip(&met.handled) {
+            add(counts, met);
+        }
+        if let Ending::Misread(fault) = ending {
+            let place = error::place_of(fault.name().as_bytes()).expect("the list has every fault");
+            self.faults[place] += usize::from(machine.handlers[place].is_some());
+        }
+        self.lost_past += usize::from(met.lost_past > 0);
+        self.nested += usize::from(met.nested > 0);
+        add(&mut self.commands, &met.commands);
+        add(&mut self.crowded, &met.crowded);
+        add(&mut self.replaced, &met.replaced);
+    }
+
+    /// What runs are to meet, and how many have met it.
+    pub fn met(&self) -> Vec<(String, usize)> {
+        let mut all = Vec::new();
+        for (place, name) in error::NAMES.iter().enumerate() {
+            for (taken, what) in TAKEN.iter().enumerate() {
+                let count = self.handled[place][taken];
+                match can_be_handled(place, taken) {
+                    true => all.push((format!("{name} handled, {what}"), count)),
+                    false => assert_eq!(count, 0, "{name} handled, {what}"),
+                }
+            }
+        }
+        for (name, count) in error::NAMES.iter().zip(self.faults).take(6) {
+            all.push((format!("{name} of a token though it has a handler"), count));
+        }
+        let [taken, full] = self.commands;
+        let [execution, other] = self.crowded;
+        let [replaced, running] = self.replaced;
+        let others = [
+            ("a number lost after which the next has left 32 bits", self.lost_past),
+            ("an error while a handler ran", self.nested),
+            ("a command that took a slot", taken),
+            ("a command without a slot", full),
+            ("execstackoverflow with a handler", execution),
+            ("another error without an execution slot for its handler", other),
+            ("a handler replaced", replaced),
+            ("a running handler replaced", running),
+        ];
+        all.extend(others.map(|(what, count)| (what.to_owned(), count)));
+        all
+    }
+}
+
+/// Counts a run for each of what it has met.
+fn add<const N: usize>(counts: &mut [usize; N], met: &[usize; N]) {
+    for (count, met) in counts.iter_mut().zip(met) {
+        *count += usize::from(*met > 0);
+    }
+}
