@@ -487,9 +487,9 @@ int main(void) {
     with("execution of 39 words", EXECUTION, 39, 0, all);
     with("execution of 1031 words", EXECUTION, 1031, 0, all);
     with("execution of 1032 words", EXECUTION, 1032, 5, NULL);
-    with("dictionary of 731 words", DICTIONARY, 731, 6, NULL);
-    with("dictionary of 744 words", DICTIONARY, 744, 0, all);
-    with("dictionary of 755 words", DICTIONARY, 755, 0, all);
+    with("dictionary of a word too few for the names", DICTIONARY, FLOO_DICTIONARY_WORDS(FLOO_DICTIONARY_SLOTS_MIN) - 1, 6, NULL);
+    with("dictionary of the names and a slot more", DICTIONARY, FLOO_DICTIONARY_WORDS(FLOO_DICTIONARY_SLOTS_MIN + 1), 0, all);
+    with("dictionary of 11 words more", DICTIONARY, FLOO_DICTIONARY_WORDS(FLOO_DICTIONARY_SLOTS_MIN + 1) + 11, 0, all);
     with("dictionary of 6155 words", DICTIONARY, 6155, 0, all);
     with("dictionary of 6156 words", DICTIONARY, 6156, 6, NULL);
     with("cells of 3 words", CELLS, 3, 7, NULL);

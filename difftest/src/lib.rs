@@ -55,7 +55,7 @@ pub struct Tally {
     pub misread: [[usize; 2]; 6],
     /// Handlers at the runs' ends, and those of them that name an object.
     pub handlers: [usize; 2],
-    /// Runs that meet what handlers are about.
+    /// Runs that meet what pegs and handlers are about.
     pub ground: Ground,
     pub readings: Readings,
     pub scans: Scans,

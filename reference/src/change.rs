@@ -43,6 +43,8 @@ pub struct Change {
     pub stops: bool,
     /// The number on which a `for` ends, if one does.
     pub loop_end: Option<i64>,
+    /// Which of ones, lowpeg and highpeg gives which number, if one does.
+    pub peg: Option<(usize, i32)>,
 }
 
 impl Change {
@@ -64,6 +66,7 @@ impl Change {
             text: Vec::new(),
             stops: false,
             loop_end: None,
+            peg: None,
         }
     }
 
@@ -147,6 +150,9 @@ impl Change {
         machine.log.extend(self.text);
         if let Some(end) = self.loop_end {
             machine.meet_loop_end(end);
+        }
+        if let Some((operator, number)) = self.peg {
+            machine.meet_peg(operator, number);
         }
     }
 }

@@ -9,6 +9,10 @@ use crate::value::ObjectId;
 pub struct Met {
     /// `for` loops that ended on a number above 32 bits, and on one below (02, W6).
     pub loops_past: [usize; 2],
+    /// Results of ones, lowpeg and highpeg, by the number (02, W5).
+    pub pegs: [Counts; 3],
+    /// Errors of lowpeg and of highpeg: undefinedresult.
+    pub no_peg: [usize; 2],
     /// Handled errors (02, W1), by the place of the error's name and by what had failed, in the
     /// order of `TAKEN`.
     pub handled: [[usize; TAKEN.len()]; error::NAMES.len()],
@@ -22,6 +26,16 @@ pub struct Met {
     pub crowded: [usize; 2],
     /// Handlers that took the place of another, and of one that was running.
     pub replaced: [usize; 2],
+}
+
+/// A count for each of 0 to 32.
+#[derive(Clone, Copy, Debug)]
+pub struct Counts(pub [usize; 33]);
+
+impl Default for Counts {
+    fn default() -> Counts {
+        Counts([0; 33])
+    }
 }
 
 /// What a step takes: "the script token, object or repetition", an object being a pending one or an
@@ -48,6 +62,19 @@ impl Machine {
     pub fn meet_loop_end(&mut self, number: i64) {
         self.met.loops_past[0] += usize::from(number > i64::from(i32::MAX));
         self.met.loops_past[1] += usize::from(number < i64::from(i32::MIN));
+    }
+
+    pub fn meet_peg(&mut self, operator: usize, number: i32) {
+        let number = usize::try_from(number).expect("from 0 to 32");
+        self.met.pegs[operator].0[number] += 1;
+    }
+
+    /// A step has failed.
+    pub fn meet_error(&mut self, error: Error, command: &[u8]) {
+        if error == Error::Undefinedresult {
+            self.met.no_peg[0] += usize::from(command == b"lowpeg");
+            self.met.no_peg[1] += usize::from(command == b"highpeg");
+        }
     }
 
     /// A handler is about to be set.

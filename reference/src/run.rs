@@ -76,6 +76,7 @@ fn step(machine: &mut Machine, script: &[u8]) -> Option<Ending> {
 /// object or repetition that failed counts as taken, both names are stored, and the handler
 /// becomes pending". Without a handler, or "with no execution slot free" for it, the run ends.
 fn fail(machine: &mut Machine, error: Error, next: usize, command: Vec<u8>) -> Option<Ending> {
+    machine.meet_error(error, &command);
     let below = machine.frames.len().saturating_sub(1);
     let left = machine.frames.last().and_then(|top| top.passed());
     let is_free = below + usize::from(left.is_some()) < machine.sizes.exec;

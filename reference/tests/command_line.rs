@@ -49,7 +49,7 @@ fn each_option_gives_its_size() {
         ("--fuel", "1000001", 3),
         ("--stack", "7", 4),
         ("--exec", "129", 5),
-        ("--dictionary", "60", 6),
+        ("--dictionary", "-1", 6),
         ("--cells", "0", 7),
         ("--log", "65537", 8),
         ("--outcome", "35071", 9),

@@ -1,5 +1,6 @@
 //! The library's own interface, and runs that must not take long.
 
+use floo_reference::setup::PREDEFINED_NAMES;
 use floo_reference::{printed, read_token, run, Answer, Ran, Sizes, TokenAnswer};
 
 #[test]
@@ -17,7 +18,7 @@ fn a_run_gives_its_final_state() {
     };
     assert_eq!(log, b"x");
     assert_eq!((machine.stack.len(), machine.frames.len()), (2, 0));
-    assert_eq!((machine.store.len(), machine.dictionary.len()), (2, 61));
+    assert_eq!((machine.store.len(), machine.dictionary.len()), (2, PREDEFINED_NAMES));
 }
 
 #[test]

@@ -1,7 +1,8 @@
 -- The definition's operator of each name, in the shape that the laws of `Shapes` speak of.
 -- Assumes nothing.
 use mathlib.Core.Path.{_≡_, refl}
-use mathlib.Core.Bool.{not, _&&_, _||_, Bool·beq}
+use mathlib.Core.Bool.{Bool, true, false, not, _&&_, _||_, Bool·beq}
+use mathlib.Core.Option.{some}
 use lib.IntN.{pos, negℤ, natAbs, _+ℤ_, _-ℤ_, _*ℤ_}
 use lib.Signed.{ltZ, leZ, quotZ, remZ}
 use lib.Bits.{bitAnd, bitOr, bitXor}
@@ -10,8 +11,9 @@ use Rattle.semantics.specs.Values.{ok}
 use Rattle.semantics.specs.Machine.{Machine}
 use Rattle.semantics.specs.NumberOperators.{division}
 use Rattle.semantics.specs.Operators.{perform, find, table, _is_}
-use Rattle.semantics.specs.NumberOperators.{arithmetic, arithmetic1, comparison, bitshift, connective, negation}
-use Rattle.number_operators.proofs.Shapes.{onTwo, onOne, computing, computing1, comparing, shifting}
+use Rattle.semantics.specs.NumberOperators.{arithmetic, arithmetic1, comparison, bitshift, onesIn, pegs, connective, negation}
+use Rattle.number_operators.proofs.Shapes.{onTwo, onOne, computing, computing1, comparing, shifting, pegging}
+use Rattle.number_operators.specs.Pegs.{pegName, pegIn}
 
 pub add-is : (μ : Machine) → perform (bytes "add") μ ≡ onTwo (computing (λ x y. ok (x +ℤ y))) μ
 unfolding textual perform find table _is_ arithmetic
@@ -52,6 +54,15 @@ abs-is μ = refl
 pub neg-is : (μ : Machine) → perform (bytes "neg") μ ≡ onOne (computing1 negℤ) μ
 unfolding textual perform find table _is_ arithmetic1
 neg-is μ = refl
+
+pub ones-is : (μ : Machine) → perform (bytes "ones") μ ≡ onOne (pegging (λ w. some (onesIn 32 w))) μ
+unfolding textual perform find table _is_ pegs
+ones-is μ = refl
+
+pub peg-is : (highest : Bool) (μ : Machine) → perform (pegName highest) μ ≡ onOne (pegging (pegIn highest)) μ
+unfolding textual perform find table _is_ pegs
+peg-is true μ = refl
+peg-is false μ = refl
 
 pub idiv-is : (μ : Machine) → perform (bytes "idiv") μ ≡ onTwo (computing (division quotZ)) μ
 unfolding textual perform find table _is_ arithmetic

@@ -3,15 +3,17 @@
 use mathlib.Core.Path.{_≡_, refl, sym, ap, _∙_, subst}
 use mathlib.Core.Bool.{Bool}
 use mathlib.Core.List.{List, [], _∷_}
+use mathlib.Core.Option.{Option, none, some}
 use Prim.Native.Nat.{ℕ, _^_, _<_}
 use native.Mathlib.Omega.{arith}
 use lib.IntN.{ℤ}
 use Rattle.semantics.specs.Words.{signed, word, shift}
-use Rattle.semantics.specs.Values.{Value, integer, boolean, Result, ok, fault, _>>=_, int}
+use Rattle.semantics.specs.Values.{Value, integer, boolean, Result, ok, fault, _>>=_, given, int}
 use Rattle.semantics.specs.Machine as Floo
 use Rattle.semantics.specs.Machine.{withStack, push}
 use Rattle.semantics.specs.ListLaws.{nil, cons}
 use Rattle.semantics.specs.declared.Error.{Error}
+use Rattle.semantics.specs.declared.Error.the-variants.{UndefinedResult}
 use Rattle.machine.specs.Operands.{Scalar, OneIs, TwoIs, FetchesOne, FetchesTwo, Replaces}
 use Rattle.machine.specs.Room.{lent, DoesStack}
 use Rattle.machine.specs.declared.Machine.{Machine}
@@ -67,6 +69,22 @@ two-good k {a} {b} F q P sc f is gives =
           R;
     }
 
+-- Two integers on which the operator fails.
+pub two-fails : (k : Binary) {m : Machine} {st : List ℕ} {r : TwoInts} {a b : ℕ} {e : Error}
+    → FetchesTwo m st r
+    → r ≡ Two.Got a b
+    → (f : Floo.Machine → Result Floo.Machine)
+    → ((μ : Floo.Machine) → f μ ≡ onTwo k μ)
+    → ((τ : Floo.Machine) → k (signed a) (signed b) τ ≡ fault e)
+    → DoesStack f m st st (Fail e)
+unfolding _>>=_ int
+two-fails k {st} F q f is gives =
+    record {
+      does = λ x d c l μ R.
+          let s = subst (TwoIs μ) q (F .says x d c l μ R) in
+          (fitted-fails (lent st x d c l) f μ (is μ ∙ two-values k μ (s .1) ∙ gives (withStack (s .0) μ)), refl);
+    }
+
 -- ---- one integer
 
 abbrev pub Unary : Type 0
@@ -104,6 +122,22 @@ one-good k {a} F q P sc f is gives =
           R;
     }
 
+-- One integer on which the operator fails.
+pub one-fails : (k : Unary) {m : Machine} {st : List ℕ} {r : OneInt} {a : ℕ} {e : Error}
+    → FetchesOne m st r
+    → r ≡ One.Got a
+    → (f : Floo.Machine → Result Floo.Machine)
+    → ((μ : Floo.Machine) → f μ ≡ onOne k μ)
+    → ((τ : Floo.Machine) → k (signed a) τ ≡ fault e)
+    → DoesStack f m st st (Fail e)
+unfolding _>>=_ int
+one-fails k {st} F q f is gives =
+    record {
+      does = λ x d c l μ R.
+          let s = subst (OneIs μ) q (F .says x d c l μ R) in
+          (fitted-fails (lent st x d c l) f μ (is μ ∙ one-value k μ (s .1) ∙ gives (withStack (s .0) μ)), refl);
+    }
+
 -- ---- what the results are
 
 abbrev pub computing : (ℤ → ℤ → Result ℤ) → Binary
@@ -117,6 +151,9 @@ comparing f a b τ = ok (push (boolean (f a b)) τ)
 
 abbrev pub computing1 : (ℤ → ℤ) → Unary
 computing1 f a τ = ok (push (integer (word (f a))) τ)
+
+abbrev pub pegging : (ℕ → Option ℕ) → Unary
+pegging f a τ = given (f (word a)) UndefinedResult >>= λ k. ok (push (integer k) τ)
 
 -- The word of the result is the word that is put.
 pub computed : (f : ℤ → ℤ → Result ℤ) (a b : ℕ) {z : ℤ} {w : ℕ}
@@ -139,18 +176,11 @@ compared f a b q τ = ap (λ x. ok (push (boolean x) τ)) (sym q)
 pub shifted : (a b : ℕ) {w : ℕ} → a < 2 ^ 32 → w ≡ shift a (signed b) → (τ : Floo.Machine) → shifting (signed a) (signed b) τ ≡ ok (push (integer w) τ)
 shifted a b f q τ = ap (λ x. ok (push (integer (shift x (signed b))) τ)) (word-signed a f) ∙ ap (λ x. ok (push (integer x) τ)) (sym q)
 
--- Two integers on which the operator fails.
-pub two-fails : (k : Binary) {m : Machine} {st : List ℕ} {r : TwoInts} {a b : ℕ} {e : Error}
-    → FetchesTwo m st r
-    → r ≡ Two.Got a b
-    → (f : Floo.Machine → Result Floo.Machine)
-    → ((μ : Floo.Machine) → f μ ≡ onTwo k μ)
-    → ((τ : Floo.Machine) → k (signed a) (signed b) τ ≡ fault e)
-    → DoesStack f m st st (Fail e)
-unfolding _>>=_ int
-two-fails k {st} F q f is gives =
-    record {
-      does = λ x d c l μ R.
-          let s = subst (TwoIs μ) q (F .says x d c l μ R) in
-          (fitted-fails (lent st x d c l) f μ (is μ ∙ two-values k μ (s .1) ∙ gives (withStack (s .0) μ)), refl);
-    }
+-- The bits are those of the operand.
+pub pegged : (f : ℕ → Option ℕ) (a : ℕ) {k : ℕ} → a < 2 ^ 32 → some k ≡ f a → (τ : Floo.Machine) → pegging f (signed a) τ ≡ ok (push (integer k) τ)
+unfolding _>>=_ given
+pegged f a l q τ = ap (λ o. given o UndefinedResult >>= λ k. ok (push (integer k) τ)) (ap f (word-signed a l) ∙ sym q)
+
+pub no-peg : (f : ℕ → Option ℕ) (a : ℕ) → a < 2 ^ 32 → none ≡ f a → (τ : Floo.Machine) → pegging f (signed a) τ ≡ fault UndefinedResult
+unfolding _>>=_ given
+no-peg f a l q τ = ap (λ o. given o UndefinedResult >>= λ k. ok (push (integer k) τ)) (ap f (word-signed a l) ∙ sym q)

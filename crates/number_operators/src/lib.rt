@@ -1,4 +1,4 @@
-// The operators on integers and truth values: arithmetic, shifts, logic and comparisons. Each does exactly what the definition's operator of its name
+// The operators on integers and truth values: arithmetic, shifts, pegs, logic and comparisons. Each does exactly what the definition's operator of its name
 // does, errors and their order and the test of room included, and touches the stack's words alone.
 ghost use mathlib.Core.Path.{_≡_};
 ghost use lib.ListN.{length};
@@ -7,6 +7,8 @@ ghost use Rattle.semantics.specs.Text.{bytes};
 ghost use Rattle.semantics.specs.Operators.{perform};
 ghost use Rattle.machine.specs.Room.{DoesStack};
 ghost use Rattle.store.specs.Rep.{bit as bitOf};
+ghost use Rattle.word.specs.Answers.{placeOf};
+ghost use Rattle.number_operators.specs.Pegs.{pegName, pegIn};
 use machine::Did;
 use machine::Machine;
 use machine::OneInt;
@@ -16,6 +18,7 @@ use machine::TAG_INTEGER;
 use machine::TwoInts;
 use machine::TwoLogical;
 use semantics::Error;
+use word::Place;
 use word::Quotient;
 
 pub fn add(m: Machine, stack: &mut [u32]) -> Did
@@ -104,6 +107,30 @@ pub fn bitshift(m: Machine, stack: &mut [u32]) -> Did
     }
 }
 
+pub fn ones(m: Machine, stack: &mut [u32]) -> Did
+    requires { ⌜ 2 * m .depth ≤ length (now stack) ⌝ }
+    ensures { λ r. ⌜ DoesStack (perform (bytes "ones")) m (now (stack .entry)) (now (stack .exit)) r ⌝ }
+{
+    match m.one_int(stack) {
+        OneInt::Bad(e) => Did::Fail(e),
+        OneInt::Got(a) => Did::Ok(m.replace(stack, 1, TAG_INTEGER, word::ones(a))),
+    }
+}
+
+// lowpeg, or highpeg. Ruled out: a place of 0, and typecheck after undefinedresult.
+pub fn peg(m: Machine, stack: &mut [u32], highest: bool) -> Did
+    requires { ⌜ 2 * m .depth ≤ length (now stack) ⌝ }
+    ensures { λ r. ⌜ DoesStack (perform (pegName highest)) m (now (stack .entry)) (now (stack .exit)) r ⌝ }
+{
+    match m.one_int(stack) {
+        OneInt::Bad(e) => Did::Fail(e),
+        OneInt::Got(a) => match place(a, highest) {
+            Place::Nowhere => Did::Fail(Error::UndefinedResult),
+            Place::At(k) => Did::Ok(m.replace(stack, 1, TAG_INTEGER, k)),
+        },
+    }
+}
+
 // Of two words or two truth values. Ruled out: a truth value beside an integer, and truth values that give an integer.
 pub fn bit_and(m: Machine, stack: &mut [u32]) -> Did
     requires { ⌜ 2 * m .depth ≤ length (now stack) ⌝ }
@@ -187,6 +214,15 @@ pub fn ge(m: Machine, stack: &mut [u32]) -> Did
         TwoInts::Bad(e) => Did::Fail(e),
         TwoInts::Got(a, b) => Did::Ok(m.replace(stack, 2, TAG_BOOLEAN, bit(word::ge(a, b)))),
     }
+}
+
+fn place(a: u32, highest: bool) -> Place
+    ensures { λ r. ⌜ placeOf r ≡ pegIn highest a ⌝ }
+{
+    if highest {
+        return word::highest(a);
+    }
+    word::lowest(a)
 }
 
 fn bit(b: bool) -> u32

@@ -1,12 +1,14 @@
 -- The operator of a number is that of its name.
 -- Assumes nothing.
 use mathlib.Core.Path.{_≡_, refl, subst, sym, ap, _∙_}
+use mathlib.Core.Bool.{Bool, true, false}
 use mathlib.Core.List.{List, []}
 use mathlib.Core.Logic.{⊎-elim}
-use Prim.Native.Nat.{ℕ, _≤_, _<_}
+use Prim.Native.Nat.{ℕ, suc, _+_, _≤_, _<_}
 use native.Mathlib.Omega.{arith}
 use lib.ListN.{getD}
 use lib.Dec.{eqb}
+use borrow.Author.Tests.{eq-eqb, ne-eqb}
 use Rattle.semantics.specs.Values.{Result}
 use Rattle.semantics.specs.Machine as Floo
 use Rattle.semantics.specs.Operators.{perform, table, _is_}
@@ -19,6 +21,7 @@ use Rattle.machine.specs.declared.Did.the-variants.{Ok, Fail}
 use Rattle.control_operators.specs.Promises.{DoesState, DoesCells, DoesFrames}
 use Rattle.dictionary_operators.specs.Promises.{DoesDictionary}
 use Rattle.equality.specs.Comparing.{nameOf}
+use Rattle.number_operators.specs.Pegs.{pegName}
 use Rattle.conversions.specs.Texts.{DoesNamedHeap}
 use Rattle.output_operators.specs.Output.{LogRest, DoesLog}
 use Rattle.operators.specs.Titles.{performAt, DoesAll}
@@ -80,15 +83,23 @@ pub settled-frames : {f : Floo.Machine → Result Floo.Machine} {m : Machine} {s
     → DoesFrames f m s s′ e e c c′ r
 settled-frames {f} {m} {s} {s′} {c} {c′} {r = r} q D e = heap-frames r (subst (DoesHeap f m s s′ c c′) (sym q) D) e
 
--- eq and ne by their numbers.
+-- Two operators of one function: the second is told from the first by its number.
+module _ (j : ℕ) (name : Bool → List ℕ) (first : getD titles j [] ≡ name false) (second : getD titles (suc j) [] ≡ name true) where
+  paired-name : (k : ℕ) → j ≤ k → k < suc (suc j) → getD titles k [] ≡ name (eqb k (suc j))
+  paired-name k low high =
+      ⊎-elim
+      (λ (e : k ≡ suc j). ap (λ i. getD titles i []) e ∙ second ∙ ap name (sym (eq-eqb k (suc j) e)))
+      (λ (n : k ≡ suc j → ⊥).
+      let e : k ≡ j = omega (arith, n, low, high) in
+      ap (λ i. getD titles i []) e ∙ first ∙ ap name (sym (ne-eqb k (suc j) n))) (same? k (suc j))
+
 pub equality-name : (k : ℕ) → 18 ≤ k → k < 20 → getD titles k [] ≡ nameOf (eqb k 19)
 unfolding titles table _is_ nameOf
-equality-name k low high =
-    ⊎-elim
-    (λ (e : k ≡ 18). subst (λ j. getD titles j [] ≡ nameOf (eqb j 19)) (sym e) refl)
-    (λ (n : k ≡ 18 → ⊥).
-    let e : k ≡ 19 = omega (arith, n, low, high) in
-    subst (λ j. getD titles j [] ≡ nameOf (eqb j 19)) (sym e) refl) (same? k 18)
+equality-name = paired-name 18 nameOf refl refl
+
+pub peg-name : (k : ℕ) → 58 ≤ k → k < 60 → getD titles k [] ≡ pegName (eqb k 59)
+unfolding titles table _is_
+peg-name = paired-name 58 pegName refl refl
 
 -- ---- all words
 
@@ -109,6 +120,12 @@ pub heap-all : {f : Floo.Machine → Result Floo.Machine} {m : Machine} {s s′ 
     → (e d l : List ℕ)
     → DoesAll f m s s′ e e d d c c′ l l r
 heap-all r D e d l = dictionary-all r (heap-dictionary r D d) e l
+
+pub stack-all : {f : Floo.Machine → Result Floo.Machine} {m : Machine} {s s′ : List ℕ} (r : Did)
+    → DoesStack f m s s′ r
+    → (e d c l : List ℕ)
+    → DoesAll f m s s′ e e d d c c l l r
+stack-all r D e d c l = heap-all r (stack-does r D c) e d l
 
 pub frames-all : {f : Floo.Machine → Result Floo.Machine} {m : Machine} {s s′ e e′ c c′ : List ℕ} (r : Did)
     → DoesFrames f m s s′ e e′ c c′ r

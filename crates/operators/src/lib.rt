@@ -209,7 +209,7 @@ fn converters(k: u32, m: Machine, stack: &mut [u32], dict: &mut [u32], cells: &m
 
 // onerror, errorname and command.
 fn errors(k: u32, m: Machine, stack: &mut [u32], dict: &mut [u32], cells: &mut [u32]) -> Did
-    requires { ⌜ (54 ≤ k) × (k < operatorCount) × Represented m (now stack) (now dict) (now cells) ⌝ }
+    requires { ⌜ (54 ≤ k) × (k < 57) × Represented m (now stack) (now dict) (now cells) ⌝ }
     ensures { λ r. ⌜ DoesDictionary (performAt k) m (now (stack .entry)) (now (stack .exit)) (now (dict .entry)) (now (dict .exit)) (now (cells .entry)) (now (cells .exit)) r ⌝ }
 {
     match k {
@@ -217,6 +217,17 @@ fn errors(k: u32, m: Machine, stack: &mut [u32], dict: &mut [u32], cells: &mut [
         55 => error_operators::errorname(m, stack, dict, cells),
         _ => error_operators::command(m, stack, dict, cells),
     }
+}
+
+// ones, lowpeg and highpeg.
+fn pegs(k: u32, m: Machine, stack: &mut [u32]) -> Did
+    requires { ⌜ (57 ≤ k) × (k < 60) × (2 * m .depth ≤ length (now stack)) ⌝ }
+    ensures { λ r. ⌜ DoesStack (performAt k) m (now (stack .entry)) (now (stack .exit)) r ⌝ }
+{
+    if k == 57 {
+        return number_operators::ones(m, stack);
+    }
+    number_operators::peg(m, stack, k == 59)
 }
 
 // The operators from exec to put.
@@ -275,7 +286,10 @@ pub fn rare(
     if k < 54 {
         return outputs(k, m, stack, dict, cells, log);
     }
-    errors(k, m, stack, dict, cells)
+    if k < 57 {
+        return errors(k, m, stack, dict, cells);
+    }
+    pegs(k, m, stack)
 }
 
 // The same answer, made anew field by field: the compiler then keeps the fields of the state apart.

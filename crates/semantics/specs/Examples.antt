@@ -1,11 +1,11 @@
 -- The starred cases of 01's "Checked by hand" and its worked example, computed by the definition; setup and token reading at some edges; handlers (02,
--- W1); and what is wrong with tokens, and where (02, W4).
+-- W1); pegs (02, W5); and what is wrong with tokens, and where (02, W4).
 -- Assumes nothing.
 use mathlib.Core.Path.{_≡_, refl}
 use mathlib.Core.List.{List, [], _∷_, _++_, map, reverse}
-use Prim.Native.Nat.{ℕ, _*_}
+use Prim.Native.Nat.{ℕ, _+_, _-_, _*_}
 use Prim.Native.String.{String}
-use Rattle.semantics.specs.Sizes.{execWidth, dictionaryWidth, nameWords, dictionaryWordsMost}
+use Rattle.semantics.specs.Sizes.{nameCount, execWidth, dictionaryWidth, nameWords, dictionaryWordsMost}
 use Rattle.semantics.specs.Text.{bytes, textual}
 use Rattle.semantics.specs.Words.{words}
 use Rattle.semantics.specs.Values.{values}
@@ -82,8 +82,13 @@ cases =
     ∷ (whole 4096 1000 "#FLOO\n/stackunderflow { 7 } onerror pop 8" gives "ending=finished\nerror=none\ncommand=\nat=41\nwhere=\nsteps=10\ndepth=2\nheld=2\nlog=0\nitem=integer:7\nitem=integer:8\n")
     ∷ (whole 4096 1000 "#FLOO\n/stackunderflow { 7 } onerror { pop 8 } bind exec" gives "ending=finished\nerror=none\ncommand=\nat=55\nwhere=\nsteps=16\ndepth=2\nheld=2\nlog=0\nitem=integer:7\nitem=integer:8\n")
     ∷ (narrow 4 512 "#FLOO\n/undefined { frob } onerror frob" gives "ending=error\nerror=undefined\ncommand=frob\nat=34\nwhere=\nsteps=13\ndepth=0\nheld=2\nlog=0\n")
-    ∷ (narrow 128 62 "#FLOO\n/undefined { errorname command } onerror frob"
+    ∷ (narrow 128 (nameCount + 1) "#FLOO\n/undefined { errorname command } onerror frob"
     gives "ending=finished\nerror=none\ncommand=\nat=51\nwhere=\nsteps=11\ndepth=2\nheld=3\nlog=0\nitem=name:/undefined\nitem=null\n")
+    ∷ (left "0 ones -1 ones 0x80000001 ones" gives "integer:0 integer:32 integer:2")
+    ∷ (left "1 lowpeg 12 lowpeg -1 lowpeg 0x80000000 lowpeg" gives "integer:0 integer:2 integer:0 integer:31")
+    ∷ (left "1 highpeg 12 highpeg -1 highpeg 0x80000000 highpeg 0x7FFFFFFF highpeg" gives "integer:0 integer:3 integer:31 integer:31 integer:30")
+    ∷ (whole 4096 1000 "#FLOO\n0 lowpeg" gives "ending=error\nerror=undefinedresult\ncommand=lowpeg\nat=8\nwhere=\nsteps=3\ndepth=1\nheld=0\nlog=0\nitem=integer:0\n")
+    ∷ (whole 4096 1000 "#FLOO\n0 highpeg" gives "ending=error\nerror=undefinedresult\ncommand=highpeg\nat=8\nwhere=\nsteps=3\ndepth=1\nheld=0\nlog=0\nitem=integer:0\n")
     ∷ (whole 4096 1000 "#FLOO\n99999999999" gives "ending=error\nerror=limitcheck\ncommand=\nat=6\nwhere=\nsteps=1\ndepth=0\nheld=0\nlog=0\n")
     ∷ []
 
@@ -94,14 +99,14 @@ Hold (c ∷ cs) = (c .computed ≡ c .expected) × Hold cs
 
 checked : Hold cases
 unfolding textual words values errors tokens machinery printing operators holding grouping stepping outcomes settings lent _gives_ whole narrow itemsOf left cases
-checked = (refl, (refl, (refl, (refl, (refl, (refl, (refl, (refl, (refl, (refl, (refl, (refl, (refl, (refl, (refl, (refl, (refl, (refl, (refl, (refl, (refl, (refl, (refl, (refl, (refl, (refl, (refl, (refl, (refl, tt)))))))))))))))))))))))))))))
+checked = (refl, (refl, (refl, (refl, (refl, (refl, (refl, (refl, (refl, (refl, (refl, (refl, (refl, (refl, (refl, (refl, (refl, (refl, (refl, (refl, (refl, (refl, (refl, (refl, (refl, (refl, (refl, (refl, (refl, (refl, (refl, (refl, (refl, (refl, tt))))))))))))))))))))))))))))))))))
 
 -- ---- setup and the token reading
 
 refusals : (refusal (bytes "#FLOO") 1000000 (lent 4096 dictionaryWordsMost) ≡ 0)
-    × (refusal (bytes "#FLO") 1000001 (lent 4096 731) ≡ 2)
-    × (refusal (bytes "#FLOO") 1000001 (lent 4096 731) ≡ 3)
-    × (refusal (bytes "#FLOO") 0 (lent 4096 731) ≡ 6)
+    × (refusal (bytes "#FLO") 1000001 (lent 4096 (nameWords - 1)) ≡ 2)
+    × (refusal (bytes "#FLOO") 1000001 (lent 4096 (nameWords - 1)) ≡ 3)
+    × (refusal (bytes "#FLOO") 0 (lent 4096 (nameWords - 1)) ≡ 6)
     × (refusal (bytes "#FLOO") 0 (lent 4096 nameWords) ≡ 0)
     × (printed (bytes "#FLOO") 0 (lent 0 nameWords) ≡ bytes "refused=7\n")
 unfolding textual settings outcomes lent

@@ -27,6 +27,7 @@ pub mod TokenLaws
 pub mod GroupLaws
 pub mod RunLaws
 pub mod WordLaws
+pub mod PegLaws
 pub mod TextLaws
 pub mod SameLaws
 pub mod OutcomeLaws

@@ -1,13 +1,14 @@
--- Arithmetic, logic and relations (000, 6.3 and 6.4; 01, House rules).
+-- Arithmetic, logic and relations (000, 6.3 and 6.4; 01, House rules), and pegs (02, W5).
 -- Assumes nothing.
 use mathlib.Core.Bool.{Bool, true, false, not}
 use mathlib.Core.List.{List, [], _∷_}
-use Prim.Native.Nat.{ℕ, _-_, _^_}
+use mathlib.Core.Option.{Option, none, some}
+use Prim.Native.Nat.{ℕ, zero, suc, _+_, _-_, _/_, _%_, _^_}
 use lib.IntN.{ℤ, natAbs}
 use lib.Dec.{eqb}
 use Rattle.semantics.specs.Text.{same}
 use Rattle.semantics.specs.Words.{word, shift}
-use Rattle.semantics.specs.Values.{Result, ok, fault, _>>=_, check, Value, integer, boolean, null, mark, operator, name, string, array, current, int}
+use Rattle.semantics.specs.Values.{Result, ok, fault, _>>=_, check, given, Value, integer, boolean, null, mark, operator, name, string, array, current, int}
 use Rattle.semantics.specs.Machine.{Machine, push, pop1, pop2, object, bytesOf}
 use Rattle.semantics.specs.StackOperators.{Operator}
 use Rattle.semantics.specs.declared.Error.the-variants.{TypeCheck, UndefinedResult}
@@ -42,6 +43,44 @@ bitshift m = do
   a ← int x
   b ← int y
   ok (push (integer (shift (word a) b)) τ)
+
+-- ---- pegs: the bits of an integer, peg k being bit k and the sign bit peg 31 (02, W5)
+
+-- Bit k of a word: 0 or 1.
+unfoldable pub bitOf : ℕ → ℕ → ℕ
+bitOf w k = w / 2 ^ k % 2
+
+-- How many of the n lowest bits are 1: their sum.
+unfoldable pub onesIn : ℕ → ℕ → ℕ
+onesIn zero w = 0
+onesIn (suc n) w = onesIn n w + bitOf w n
+
+-- The place n of a bit, if it is 1.
+unfoldable pub placed : ℕ → ℕ → Option ℕ
+placed zero n = none
+placed (suc b) n = some n
+
+-- The first that is there.
+unfoldable pub orElse : Option ℕ → Option ℕ → Option ℕ
+orElse none p = p
+orElse (some k) p = some k
+
+-- Of the n lowest bits the place of the lowest that is 1, and of the highest.
+unfoldable pub lowestIn : ℕ → ℕ → Option ℕ
+lowestIn zero w = none
+lowestIn (suc n) w = orElse (lowestIn n w) (placed (bitOf w n) n)
+
+unfoldable pub highestIn : ℕ → ℕ → Option ℕ
+highestIn zero w = none
+highestIn (suc n) w = orElse (placed (bitOf w n) n) (highestIn n w)
+
+-- What is asked of the 32 bits of an integer: a number, or undefinedresult where there is none.
+unfoldable pub pegs : (ℕ → Option ℕ) → Operator
+pegs f m = do
+  (x, τ) ← pop1 m
+  a ← int x
+  k ← given (f (word a)) UndefinedResult
+  ok (push (integer k) τ)
 
 -- ---- logic
 
@@ -116,5 +155,5 @@ comparison f m = do
 
 -- Opens every definition of this file.
 unfoldable pub number-operators : Unit {0}
-unfolding arithmetic arithmetic1 division bitshift logical logical2 connective negated negation key equality comparison
+unfolding arithmetic arithmetic1 division bitshift bitOf onesIn placed orElse lowestIn highestIn pegs logical logical2 connective negated negation key equality comparison
 number-operators = tt

@@ -1,15 +1,15 @@
 -- The counts and limits of the papers, each said once. `NameLaws` ties the two counts to the operators and to the predefined names.
 -- Assumes nothing.
-use Prim.Native.Nat.{ℕ, _*_}
+use Prim.Native.Nat.{ℕ, _+_, _*_}
 
 -- ---- names (01, House rules and Tokens)
 
 abbrev pub operatorCount : ℕ
-operatorCount = 57
+operatorCount = 60
 
 -- The operators, and [, true, false and null.
 abbrev pub nameCount : ℕ
-nameCount = 61
+nameCount = operatorCount + 4
 
 -- The names of errors (01, Order within a step; 02, W4).
 abbrev pub errorCount : ℕ

@@ -2,9 +2,9 @@
 // against the definition.
 
 // Counts and limits, as specs/Sizes has them.
-pub const OPERATOR_COUNT: usize = 57;
+pub const OPERATOR_COUNT: usize = 60;
 
-pub const NAME_COUNT: usize = 61;
+pub const NAME_COUNT: usize = OPERATOR_COUNT + 4;
 
 pub const ERROR_COUNT: usize = 16;
 

@@ -75,6 +75,10 @@ module _ {A : Parts} {s : List Object} where
   pub shift-good : (a b : ℤ) → Good A s (integer (shift (word a) b))
   shift-good a b = a-word (A .numbers .word (shift (word a) b) (shift-small (word a) b (word-small a)))
 
+  -- What ones, lowpeg and highpeg give.
+  pub pegs-good : (k : ℕ) → k ≤ 32 → Good A s (integer k)
+  pegs-good k h = a-word (A .numbers .word k (omega (arith, h)))
+
   pub length-good : (o : Object) → GoodObject A s o → Good A s (integer (lengthOf o))
   length-good o h = a-word (A .numbers .size-word (lengthOf o) (A .numbers .smaller (lengthOf o) (size o) (lengthOf-size o) (h .extent)))
 

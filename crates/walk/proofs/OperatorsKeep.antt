@@ -3,7 +3,8 @@
 use mathlib.Core.Path.{_≡_, refl, _∙_}
 use mathlib.Core.Bool.{Bool, true, false}
 use mathlib.Core.List.{List, [], _∷_}
-use Prim.Native.Nat.{ℕ}
+use mathlib.Core.Option.{Option}
+use Prim.Native.Nat.{ℕ, _≤_}
 use native.Mathlib.Omega.{arith}
 use lib.IntN.{ℤ}
 use lib.Bits.{and-lt, or-lt, xor-lt}
@@ -15,18 +16,19 @@ use Rattle.semantics.specs.Values.{Result, ok, Value, null, string, array, Obje
 use Rattle.semantics.specs.Machine.{Machine, Frame, pending, withStack, withExec, withStore, withDictionary, halt, push, enter, object, bytesOf, make, made, intern}
 use Rattle.semantics.specs.Printing.{stringval}
 use Rattle.semantics.specs.StackOperators.{Operator, dup, exch, pop, index, copy, modulo, roll}
-use Rattle.semantics.specs.NumberOperators.{arithmetic, arithmetic1, bitshift, connective, negation, equality, comparison}
+use Rattle.semantics.specs.NumberOperators.{arithmetic, arithmetic1, bitshift, pegs, connective, negation, equality, comparison}
 use Rattle.semantics.specs.ControlOperators.{def, load, bound, bind, exec, if′, ifelse, loop, repeat, for, exit, continue, stop, onerror, errorname, command}
 use Rattle.semantics.specs.ObjectOperators.{pushNew, array′, string′, mark′, close, length′, get, put, size, part, redirect, getinterval, putinterval, aload, astore}
 use Rattle.semantics.specs.TextOperators.{cvs, convert, cvn, print, echo, echostack}
 use Rattle.semantics.specs.Operators.{Entry, _is_, table, find, perform}
 use Rattle.semantics.specs.ResultLaws.{Gives, gives, fails, gives-then, gives-check, choose, choose-cond}
-use Rattle.semantics.specs.ListLaws.{All, nil, cons, _&_, gives-given, all-append, all-take, all-drop, all-reverse, all-getElem?, all-replicate}
+use Rattle.semantics.specs.ListLaws.{All, nil, cons, _&_, Maybe, just, gives-given, all-append, all-take, all-drop, all-reverse, all-getElem?, all-replicate}
+use Rattle.semantics.specs.PegLaws.{ones-small, lowest-finds, highest-finds, found-small}
 use Rattle.walk.specs.Objects.{isString}
 use Rattle.walk.specs.Parts.{Bitwise, Parts, Good, a-truth, a-null, a-mark, a-name, a-string, an-array, GoodFrame, GoodObject}
 use Rattle.walk.proofs.Parts.{array-object, text-object, lookup-good, assign-good, nameOrNull-good}
 use Rattle.walk.proofs.Property.{Property, Fit, gives-each, with-stack, with-exec, with-dictionary, with-handler, interned, written, halted, pushed, entered, maked, changed, object-good, changed-pushed, popped1, popped2, popped3, popped4}
-use Rattle.walk.proofs.Operands.{word-good, shift-good, length-good, logical2-good, negated-good, newLength-size, arrayId-there, procedureId-there, stringId-there, objectId-redirects, asExecutable-good, aboveMark-good, fromLoop-good, got-good, bound-good, current-bytes, stringval-bytes}
+use Rattle.walk.proofs.Operands.{word-good, shift-good, pegs-good, length-good, logical2-good, negated-good, newLength-size, arrayId-there, procedureId-there, stringId-there, objectId-redirects, asExecutable-good, aboveMark-good, fromLoop-good, got-good, bound-good, current-bytes, stringval-bytes}
 use Rattle.walk.proofs.Objects.{bind-alike, astore-alike, cvs-alike, bind-good, astore-good, cvs-good, part-good, putInto-good, putAll-good}
 
 part-kind : (start n : ℕ) (o : Object) → isString (part start n o) ≡ isString o
@@ -113,6 +115,11 @@ module _ (K : Property) where
   bitshift-keeps : Keeps bitshift
   unfolding bitshift
   bitshift-keeps m h d = gives-then (popped2 h) (λ p k. gives-each _ (λ a. gives-each _ (λ b. gives (pushed (k .2) (shift-good a b)))))
+
+  pegs-keeps : (f : ℕ → Option ℕ) → ((w : ℕ) → Maybe (λ k. k ≤ 32) (f w)) → Keeps (pegs f)
+  unfolding pegs
+  pegs-keeps f e m h d =
+      gives-then (popped1 h) (λ p k. gives-each _ (λ a. gives-then (gives-given (e _) _) (λ v l. gives (pushed (k .1) (pegs-good v l)))))
 
   connective-keeps : (f : ℕ → ℕ → ℕ) (g : Bool → Bool → Bool) → Bitwise f → Keeps (connective f g)
   unfolding connective
@@ -388,7 +395,8 @@ module _ (K : Property) where
       array-keeps & mark-keeps & close-keeps & length-keeps & get-keeps & put-keeps &
       getinterval-keeps & putinterval-keeps & aload-keeps & astore-keeps & string-keeps & cvs-keeps &
       (convert-keeps _) & (convert-keeps _) & cvn-keeps & echo-keeps & echostack-keeps & print-keeps &
-      onerror-keeps & errorname-keeps & command-keeps & nil
+      onerror-keeps & errorname-keeps & command-keeps &
+      (pegs-keeps _ (λ w. just (ones-small 32 w))) & (pegs-keeps _ (λ w. found-small (lowest-finds 32 w))) & (pegs-keeps _ (λ w. found-small (highest-finds 32 w))) & nil
 
   find-keeps : (n : List ℕ) {es : List Entry} → All (λ e. Keeps (e .action)) es → Keeps (find n es)
   unfolding find

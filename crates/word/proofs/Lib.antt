@@ -4,4 +4,5 @@ pub mod Signed
 pub mod Division
 pub mod Counts
 pub mod Shifts
+pub mod BitCounts
 pub mod Ranges

@@ -1,5 +1,5 @@
 // Integers of 32 bits, each as an unsigned word: arithmetic, shifts, bits and comparisons. Every function promises its exact answer
-// on all words, by the definition (semantics, specs/Words): a word is read in two's complement, and a result is written modulo 2^32.
+// on all words, by the definition (semantics, specs/Words and NumberOperators): a word is read in two's complement, and a result is written modulo 2^32.
 ghost use mathlib.Core.Path.{_≡_};
 ghost use mathlib.Core.Bool.{not, cond};
 ghost use Prim.Native.Nat.{_-_, _*_, _%_, _^_};
@@ -8,7 +8,8 @@ ghost use lib.Signed.{ltZ, leZ, quotZ, remZ, shrZ};
 ghost use lib.Bits.{bitAnd, bitOr, bitXor};
 ghost use lib.Dec.{eqb, ltb};
 ghost use Rattle.semantics.specs.Words.{signed, word, inRange, shift};
-ghost use Rattle.word.specs.Answers.{quotientOf, dividedWords, isCorner};
+ghost use Rattle.semantics.specs.NumberOperators.{onesIn, lowestIn, highestIn};
+ghost use Rattle.word.specs.Answers.{quotientOf, dividedWords, isCorner, placeOf};
 
 // The sign bit alone: the least integer, -2147483648.
 pub const SIGN: u32 = 0x8000_0000;
@@ -33,6 +34,12 @@ const WORDS: u64 = 0x1_0000_0000;
 pub enum Quotient {
     Value(u32),
     ZeroDivisor,
+}
+
+// Where a bit that is 1 stands, if there is one. `placeOf` of specs/Answers reads it.
+pub enum Place {
+    At(u32),
+    Nowhere,
 }
 
 // ---- arithmetic. Ruled out: a result that stops at the greatest or the least integer, and one that is an error there.
@@ -102,6 +109,34 @@ pub fn sum_fits(a: u32, b: u32) -> bool
 }
 
 // ---- bits
+
+// How many bits are 1. Ruled out: a count without the sign bit.
+pub fn ones(a: u32) -> u32
+    ensures { λ r. ⌜ r ≡ onesIn 32 a ⌝ }
+{
+    u32::count_ones(a)
+}
+
+// The lowest bit that is 1. Ruled out: 32, or any place, for 0.
+pub fn lowest(a: u32) -> Place
+    ensures { λ r. ⌜ placeOf r ≡ lowestIn 32 a ⌝ }
+{
+    if a == 0 {
+        return Place::Nowhere;
+    }
+    Place::At(u32::trailing_zeros(a))
+}
+
+// The highest bit that is 1. Ruled out: the zeros above it, and places counted from 1.
+pub fn highest(a: u32) -> Place
+    ensures { λ r. ⌜ placeOf r ≡ highestIn 32 a ⌝ }
+{
+    if a == 0 {
+        return Place::Nowhere;
+    }
+    let place = TOP - u32::leading_zeros(a);
+    Place::At(place)
+}
 
 // To the left by `s`, or to the right by `-s`, filling with zeros. Ruled out: a shift that keeps the sign, and a count modulo 32.
 pub fn bitshift(a: u32, s: u32) -> u32

@@ -7,7 +7,7 @@ endif
 syn iskeyword 33,36-46,48-90,92,94-122,124,126
 
 syn keyword flooStack dup exch pop index copy roll mark
-syn keyword flooArithmetic add sub mul idiv mod abs neg bitshift
+syn keyword flooArithmetic add sub mul idiv mod abs neg bitshift ones lowpeg highpeg
 syn keyword flooLogic not and or xor eq ne lt le gt ge
 syn keyword flooDictionary def load bind
 syn keyword flooControl exec if ifelse loop repeat for exit continue stop

@@ -103,7 +103,7 @@ pub enum ErrorName {
     TypeCheck,
     /// An operand has a value out of range.
     RangeCheck,
-    /// A division by zero.
+    /// A division by zero, or the place of a bit of 0.
     UndefinedResult,
     /// There is no mark on the stack.
     UnmatchedMark,

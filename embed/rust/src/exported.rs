@@ -181,7 +181,7 @@ extern "C" {
 /// least 256 + 136 × stack slots bytes. Any lengths may be lent.
 ///
 /// ```
-/// let (mut stack, mut execution, mut dictionary, mut cells) = ([0; 2 * 8], [0; 8 * 4], [0; 12 * 61], [0; 4]);
+/// let (mut stack, mut execution, mut dictionary, mut cells) = ([0; 2 * 8], [0; 8 * 4], [0; 12 * floo::PREDEFINED_NAMES], [0; 4]);
 /// let (mut log, mut outcome) = ([0; 16], [0; 256 + 136 * 8]);
 /// let reply = floo::run_lent(b"#FLOO\n1 2 add echo", 100, &mut stack, &mut execution, &mut dictionary, &mut cells, &mut log, &mut outcome);
 /// assert_eq!((reply.refused, reply.steps, &log[..reply.log]), (0, 6, &b"3\n"[..]));
@@ -226,7 +226,7 @@ pub fn run(
 /// ```
 /// use floo::floor::Record;
 ///
-/// let (mut stack, mut execution, mut dictionary, mut cells) = ([0; 2 * 8], [0; 8 * 4], [0; 12 * 62], [0; 4 * 2]);
+/// let (mut stack, mut execution, mut dictionary, mut cells) = ([0; 2 * 8], [0; 8 * 4], [0; 12 * (floo::PREDEFINED_NAMES + 1)], [0; 4 * 2]);
 /// let (mut log, mut outcome) = ([0; 0], [0; 256 + 136 * 8]);
 /// let mut book = [Record::new(417, b"rack B-7", 10).unwrap()];
 /// let reply = floo::scan_lent(

@@ -1,4 +1,4 @@
-//! Arithmetic and boolean operators (000, 6.3). "add, sub, mul, neg, abs wrap at 32 bits."
+//! Arithmetic and boolean operators (000, 6.3). "add, sub, mul, neg, abs wrap at 32 bits." And pegs (02, W5).
 
 use crate::change::Change;
 use crate::error::Error;
@@ -21,6 +21,23 @@ fn binary(
 fn unary(machine: &Machine, change: &mut Change, rule: impl Fn(i32) -> i32) -> Result<(), Error> {
     let [number] = machine.operands()?;
     change.replace(1, [Value::Integer(rule(number.integer()?))]);
+    Ok(())
+}
+
+/// *num* => *num*, by the pegs of a row: the places of the bits that are set, lowest first, "the sign bit being peg 31". Where
+/// there is no such number, undefinedresult. The operator is given by its place among the three.
+fn pegs(
+    machine: &Machine,
+    change: &mut Change,
+    operator: usize,
+    rule: impl Fn(&[i32]) -> Option<i32>,
+) -> Result<(), Error> {
+    let [row] = machine.operands()?;
+    let row = row.integer()?;
+    let set: Vec<i32> = (0..32).filter(|&peg| row >> peg & 1 == 1).collect();
+    let number = rule(&set).ok_or(Error::Undefinedresult)?;
+    change.replace(1, [Value::Integer(number)]);
+    change.peg = Some((operator, number));
     Ok(())
 }
 
@@ -88,6 +105,20 @@ pub fn bitshift(machine: &Machine, change: &mut Change) -> Result<(), Error> {
         };
         Ok(shifted.unwrap_or(0).cast_signed())
     })
+}
+
+/// "giving how many bits are set. For 0 ones gives 0."
+pub fn ones(machine: &Machine, change: &mut Change) -> Result<(), Error> {
+    pegs(machine, change, 0, |set| i32::try_from(set.len()).ok())
+}
+
+/// "giving the place of the lowest set bit"
+pub fn lowpeg(machine: &Machine, change: &mut Change) -> Result<(), Error> {
+    pegs(machine, change, 1, |set| set.first().copied())
+}
+
+pub fn highpeg(machine: &Machine, change: &mut Change) -> Result<(), Error> {
+    pegs(machine, change, 2, |set| set.last().copied())
 }
 
 pub fn not(machine: &Machine, change: &mut Change) -> Result<(), Error> {

@@ -81,6 +81,9 @@ const TABLE: &[(&str, Rule)] = &[
     ("onerror", handler::onerror),
     ("errorname", handler::errorname),
     ("command", handler::command),
+    ("ones", arithmetic::ones),
+    ("lowpeg", arithmetic::lowpeg),
+    ("highpeg", arithmetic::highpeg),
 ];
 
 impl Operator {

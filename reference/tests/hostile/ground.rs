@@ -1,12 +1,18 @@
-//! What random runs meet of handlers: each error that can be handled in each kind of step, and what is around them.
+//! What random runs meet of pegs: each number that ones, lowpeg and highpeg can give, and their error. And of handlers: each error that can be handled in each kind of
+//! step, and what is around them.
 
 use floo_reference::error;
-use floo_reference::met::{can_be_handled, TAKEN};
+use floo_reference::met::{can_be_handled, Counts, TAKEN};
 use floo_reference::{Ending, Machine};
+
+const PEGS: [&str; 3] = ["ones", "lowpeg", "highpeg"];
 
 /// In how many runs each was met.
 #[derive(Default)]
 pub struct Ground {
+    /// Results of ones, lowpeg and highpeg, by the number.
+    pegs: [Counts; 3],
+    no_peg: [usize; 2],
     /// Handled errors, by the place of the error's name and by what had failed.
     handled: [[usize; TAKEN.len()]; error::NAMES.len()],
     /// Faults of tokens that ended the run though they had a handler, by the place of the fault's name.
@@ -21,6 +27,10 @@ pub struct Ground {
 impl Ground {
     pub fn count(&mut self, ending: &Ending, machine: &Machine) {
         let met = &machine.met;
+        for (counts, met) in self.pegs.iter_mut().zip(&met.pegs) {
+            add(&mut counts.0, &met.0);
+        }
+        add(&mut self.no_peg, &met.no_peg);
         for (counts, met) in self.handled.iter_mut().zip(&met.handled) {
             add(counts, met);
         }
@@ -38,6 +48,13 @@ impl Ground {
     /// What runs are to meet, and how many have met it.
     pub fn met(&self) -> Vec<(String, usize)> {
         let mut all = Vec::new();
+        for (name, (counts, most)) in PEGS.iter().zip(self.pegs.iter().zip([32, 31, 31])) {
+            let rarest = (0..=most).min_by_key(|&number| counts.0[number]).expect("there are numbers");
+            all.push((format!("{name} of each number from 0 to {most}, {rarest} least often"), counts.0[rarest]));
+        }
+        for (name, count) in PEGS[1..].iter().zip(self.no_peg) {
+            all.push((format!("undefinedresult of {name}"), count));
+        }
         for (place, name) in error::NAMES.iter().enumerate() {
             for (taken, what) in TAKEN.iter().enumerate() {
                 let count = self.handled[place][taken];

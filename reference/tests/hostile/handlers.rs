@@ -10,7 +10,7 @@ const FAILING: &[(&str, &[&str])] = &[
     ("stackunderflow", &["99 copy", "999 % roll", "300 index", "add", "999 array astore"]),
     ("typecheck", &["true neg", "null % add", "% % onerror", "\"a\" load", "[ ] [ ] lt"]),
     ("rangecheck", &["-1 array", "[ ] % 1 add get", "/syntaxerror % onerror", "\"abc\" 1 300 put", "true 1 string cvs"]),
-    ("undefinedresult", &["5 0 idiv", "% 0 mod"]),
+    ("undefinedresult", &["5 0 idiv", "% 0 mod", "0 lowpeg", "0 highpeg"]),
     ("unmatchedmark", &["]", "% ]"]),
     ("limitcheck", &["40000 array", "32768 string", "/new%", "{ new% old% }", "\"new%\" cvn", "40 string dup 0 \"abcdefghijklmnopqrstuvwxyz0123456789abcd\" putinterval cvn"]),
     ("execstackoverflow", &["/f { f 1 } def f", "{ { { { { 1 } exec } exec } exec } exec } exec", "{ { { 2 { } repeat } exec } exec } exec", "/f { { f } loop } def f"]),

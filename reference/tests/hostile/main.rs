@@ -1,5 +1,5 @@
 //! Whatever the script and the sizes: no panic, no step beyond the fuel, nothing beyond the sizes,
-//! and held as the paper's words give it. Runs are counted that meet handled errors of every kind.
+//! and held as the paper's words give it. Runs are counted that meet every result of a peg and handled errors of every kind.
 
 mod ground;
 mod handlers;
@@ -16,7 +16,7 @@ use random::Random;
 
 const ROUNDS: usize = 30_000;
 const LEAST_STEPS: u64 = 300_000;
-/// Runs that meet each of what handlers are about.
+/// Runs that meet each of what pegs and handlers are about.
 const LEAST_RUNS: usize = 12;
 
 #[test]

@@ -1,4 +1,4 @@
-//! Scripts that mean no good: random bytes, random tokens, damaged programs, misspelt tokens, loops at the ends of the integers, and errors with handlers.
+//! Scripts that mean no good: random bytes, random tokens, damaged programs, misspelt tokens, loops at the ends of the integers, rows of pegs, and errors with handlers.
 
 use crate::handlers;
 use crate::random::Random;
@@ -63,6 +63,9 @@ const ACTIONS: &[&str] = &[
     "onerror",
     "errorname",
     "command",
+    "ones",
+    "lowpeg",
+    "highpeg",
     "a",
     "b",
     "c",
@@ -125,6 +128,8 @@ const MISSPELT: &[&[u8]] = &[
     b"-0x10",
     b"99999999999a",
     b"99999999999",
+    b"4294967296",
+    b"-2147483649",
     b"0x1FFFFFFFF",
     b"\"ab\\q\"",
     b"\"a\\\\\"",
@@ -166,15 +171,17 @@ const PROGRAMS: &[&str] = &[
     "/undefined { errorname command } onerror 1 frob { 2 grub 3 } exec echostack",
     "/VMerror { /x null def command cvx exec } onerror 40 { /x 900 array def } repeat x length",
     "/stackoverflow { exit } onerror /rangecheck { errorname null onerror } onerror { 1 } loop -1 array -1 string",
+    "/row 0x80010106 def row ones { row lowpeg dup echo 1 exch bitshift row xor /row exch def } repeat row highpeg",
 ];
 
 pub fn hostile(random: &mut Random) -> Vec<u8> {
-    match random.below(16) {
+    match random.below(17) {
         0 => random_bytes(random),
         1..=4 => random_words(random),
         5..=6 => border_loops(random),
         7..=8 => misspelt(random),
         9..=12 => handlers::script(random),
+        13 => rows(random),
         _ => damaged_program(random),
     }
 }
@@ -218,6 +225,40 @@ fn border_loops(random: &mut Random) -> Vec<u8> {
         script += &format!("{first} {increment} {last} {body} for ");
     }
     script.into_bytes()
+}
+
+/// Pegs of rows, in decimal and in hexadecimal, with and without a handler for rows that have none.
+fn rows(random: &mut Random) -> Vec<u8> {
+    let mut script = String::from("#FLOO\n");
+    if random.below(2) == 0 {
+        script += "/undefinedresult { } onerror ";
+    }
+    for _ in 0..4 + random.below(12) {
+        let (row, asked) = row(random);
+        let written = match random.below(2) {
+            0 => format!("{}", row.cast_signed()),
+            _ => format!("{row:#x}"),
+        };
+        let then = random.choose(&["pop", "pop", "pop", "echo"]);
+        script += &format!("{written} {asked} {then} ");
+    }
+    script.into_bytes()
+}
+
+/// A row and what is asked of it: of each number of pegs side by side, around the end too, how many; of a lowest and a highest one at each place, where; of a single
+/// one and of none all three.
+fn row(random: &mut Random) -> (u32, &'static str) {
+    let any = random.below(1 << 32) as u32;
+    let place = random.below(32) as u32;
+    let first = (1_u64 << random.below(33)) as u32;
+    match random.below(8) {
+        0..=2 => (first.wrapping_sub(1).rotate_left(place), "ones"),
+        3 => ((any | 1) << place, "lowpeg"),
+        4 => ((any | 1 << 31) >> place, "highpeg"),
+        5 => (1 << place, "dup ones exch dup lowpeg exch { highpeg } bind exec pop pop"),
+        6 => (0, random.choose(&["ones", "lowpeg", "highpeg"])),
+        _ => (any, random.choose(&["ones", "lowpeg", "highpeg"])),
+    }
 }
 
 /// A token that is none, whole or cut off, in up to 17 braces or outside, with little before it that could fail.

@@ -1,6 +1,6 @@
 -- `operators::rare` meets its contract: each branch by the family that it calls.
 -- Assumes nothing.
-use Rattle.operators.proofs.Named.{heap-all, dictionary-all, log-all}
+use Rattle.operators.proofs.Named.{stack-all, heap-all, dictionary-all, log-all}
 use borrow.Author.Needs.{needs}
 use Rattle.operators.proofs.rare.Statement.{statement}
 use Rattle.operators.proofs.rare.Tie as tie
@@ -73,6 +73,17 @@ returns-4 c =
     let errors = c .before .before .before .before .before .before .errors in
     dictionary-all _ (errors .ensures) _ _
 
+pegs-requires : tie.Need-pegs-requires
+pegs-requires c κs = search needs
+
+same-length-13 : tie.Need-same-length-13
+same-length-13 c = search needs
+
+returns-5 : tie.Need-returns-5
+returns-5 c =
+    let pegs = c .before .before .pegs in
+    stack-all _ (pegs .ensures) _ _ _ _
+
 pub rare-spec : {M : Type 1} → statement M
 rare-spec =
     tie.close
@@ -96,4 +107,7 @@ rare-spec =
     same-length-10
     same-length-11
     same-length-12
-    returns-4)
+    returns-4
+    pegs-requires
+    same-length-13
+    returns-5)

@@ -76,6 +76,8 @@ fn what_cannot_be_read_is_named() {
 /// Each limit of setup, at it and one past it.
 #[test]
 fn the_room_is_judged_by_setup() {
+    let least = floo::PREDEFINED_NAMES.to_string();
+    let too_few = (floo::PREDEFINED_NAMES - 1).to_string();
     for (option, good, bad, number) in [
         (
             "--fuel",
@@ -90,7 +92,12 @@ fn the_room_is_judged_by_setup() {
             4,
         ),
         ("--exec", &["4", "128"], &["3", "129"], 5),
-        ("--dictionary", &["61", "512"], &["60", "513"], 6),
+        (
+            "--dictionary",
+            &[&least[..], "512"],
+            &[&too_few[..], "513"],
+            6,
+        ),
         ("--cells", &["1", "32768"], &["0", "32769"], 7),
         ("--log", &["0", "65536"], &["65537"], 8),
     ] {

@@ -1,6 +1,7 @@
 //! `--room`: the least size of each part with which the run is the same. The numbers are worked out from the paper's room rule.
 
 use crate::script;
+use floo::PREDEFINED_NAMES as NAMES;
 
 /// The column `used`: stack, exec, dictionary, cells, log and fuel.
 fn used(text: &str, options: &[&str]) -> [usize; 6] {
@@ -16,22 +17,22 @@ fn used(text: &str, options: &[&str]) -> [usize; 6] {
 
 #[test]
 fn each_part() {
-    assert_eq!(used("#FLOO", &[]), [8, 4, 61, 1, 0, 0]);
+    assert_eq!(used("#FLOO", &[]), [8, 4, NAMES, 1, 0, 0]);
     // nine items at once, and then none
     let nine = "#FLOO\n1 1 1 1 1 1 1 1 1 pop pop pop pop pop pop pop pop pop";
-    assert_eq!(used(nine, &[]), [9, 4, 61, 1, 0, 27]);
+    assert_eq!(used(nine, &[]), [9, 4, NAMES, 1, 0, 27]);
     // five procedures run, each in the one before it, with no slot more for the 1 that is pushed. 1 for the group and 2 + 1 for exec and the procedure's
     // becoming a running one; each of the four inner ones the same; the 1; five drops. Cells: 2 for the innermost, 3 for each other
     let nested = "#FLOO\n{ { { { { 1 } exec } exec } exec } exec } exec";
-    assert_eq!(used(nested, &[]), [8, 5, 61, 14, 0, 26]);
+    assert_eq!(used(nested, &[]), [8, 5, NAMES, 14, 0, 26]);
     // two names, one of them twice
     assert_eq!(
         used("#FLOO\n/a /b /a pop pop pop", &[]),
-        [8, 4, 63, 1, 0, 9]
+        [8, 4, NAMES + 2, 1, 0, 9]
     );
     assert_eq!(
         used("#FLOO\n\"shelf\" print 9 echo", &[]),
-        [8, 4, 61, 2, 7, 6]
+        [8, 4, NAMES, 2, 7, 6]
     );
 }
 
@@ -53,9 +54,9 @@ fn cells_are_those_wanted_at_once() {
 fn handlers() {
     let again =
         "#FLOO\n/VMerror { /x null def command cvx exec } onerror /x 9 array def 9 array pop";
-    assert_eq!(used(again, &[]), [8, 4, 63, 27, 0, 15]);
+    assert_eq!(used(again, &[]), [8, 4, NAMES + 2, 27, 0, 15]);
     let command = "#FLOO\n/undefined { command pop } onerror frob";
-    assert_eq!(used(command, &[]), [8, 4, 62, 3, 0, 11]);
+    assert_eq!(used(command, &[]), [8, 4, NAMES + 1, 3, 0, 11]);
 }
 
 /// With the sizes that are named the run is the same, and with one less of any part it is not.

@@ -151,7 +151,7 @@ fn sizes_are_those_asked_for() {
     let folder = folder(HEADER);
     let small = |option: &str| floo(&folder, &["scan", option, "scan.floo", "book.csv", "1:a:1"]);
     assert_eq!(
-        small("--dictionary=61").error(),
+        small(&format!("--dictionary={}", floo::PREDEFINED_NAMES)).error(),
         "scan.floo: no slot for label"
     );
     assert_eq!(small("--cells=1").error(), "scan.floo: no cells for label");
