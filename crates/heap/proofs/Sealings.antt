@@ -1,12 +1,13 @@
 -- The mark for read only changes nothing of the heap: of a header's word 1 the shape sees the body's size and whether its cells are scattered, and the counts see none.
 -- Assumes nothing.
-use Prim.Native.Nat.{ℕ, _/_, _%_}
-use mathlib.Core.Path.{_≡_, sym, ap, _∙_}
+use Prim.Native.Nat.{ℕ, _+_, _/_, _%_, _<_}
+use mathlib.Core.Path.{_≡_, refl, sym, ap, _∙_}
 use mathlib.Core.List.{List}
 use mathlib.Core.Logic.{⊎-elim}
 use native.Mathlib.Omega.{arith}
+use borrow.Author.Tests.{eq-eqb}
 use lib.Dec.{eqb}
-use Rattle.heap.specs.Word.{word}
+use Rattle.heap.specs.Word.{word, Put}
 use Rattle.heap.specs.Chain.{live}
 use Rattle.heap.specs.Shape.{Ghost, Full, sizeUnit, firstUnit}
 use Rattle.heap.specs.Reading.{isSealed}
@@ -16,6 +17,32 @@ use Rattle.heap.proofs.Upds.{same?}
 use Rattle.heap.proofs.Chains.{live-on}
 use Rattle.heap.proofs.Shapes.{Alike, same-words, keep-shape}
 use Rattle.heap.proofs.Scratches.{keep-counts}
+
+-- ---- what the code writes
+
+-- The mark is set where it is not there,
+pub seals : {m m′ : List ℕ} {h w : ℕ} → w ≡ word m h 1 → w / sizeUnit % 2 ≡ 0 → Put m h 1 (w + sizeUnit) m′ → Seals m h m′
+unfolding isSealed
+seals {m} {m′} {h} {w} e z P = record {
+  size = P .size;
+  marked = eq-eqb (word m′ h 1 / sizeUnit % 2) 1 (omega (arith, P .here, z));
+  lower = omega (arith, P .here, e);
+  upper = omega (arith, P .here, e, z);
+  there = P .there;
+}
+
+-- and else it stays.
+pub seals-again : {m : List ℕ} {h w : ℕ} → w ≡ word m h 1 → (w / sizeUnit % 2 ≡ 0 → ⊥) → Seals m h m
+unfolding isSealed
+seals-again {m} {h} {w} e n = record {
+  size = refl;
+  marked = eq-eqb (word m h 1 / sizeUnit % 2) 1 (omega (arith, e, n));
+  lower = refl;
+  upper = refl;
+  there = λ x u l q. refl;
+}
+
+-- ---- what stays
 
 module _ {m m′ : List ℕ} {h : ℕ} (K : Seals m h m′) where
   word-of : (x u : ℕ) → (u ≡ 1 → ⊥) → u < 4 → word m′ x u ≡ word m x u
