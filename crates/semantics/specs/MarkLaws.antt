@@ -5,8 +5,8 @@ use mathlib.Core.Bool.{Bool, true, false, not, _||_}
 use mathlib.Core.List.{List, [], _∷_, _++_}
 use Prim.Native.Nat.{ℕ, _≤_, _<_}
 use native.Mathlib.Omega.{arith}
-use borrow.Author.Tests.{ne-eqb}
-use lib.Dec.{T, eqb, eqb-refl}
+use borrow.Author.Tests.{eq-eqb, ne-eqb}
+use lib.Dec.{eqb}
 use Rattle.semantics.specs.Values.{ok, fault, check}
 use Rattle.semantics.specs.Machine.{Machine, withReadOnly, member, protect, writable}
 use Rattle.semantics.specs.ListLaws.{All, nil, cons, all-append, all-weaker}
@@ -16,16 +16,26 @@ or-assoc : (a b c : Bool) → (a || (b || c)) ≡ ((a || b) || c)
 or-assoc true b c = refl
 or-assoc false b c = refl
 
+or-true : (a : Bool) → (a || true) ≡ true
+or-true true = refl
+or-true false = refl
+
 or-false : (a : Bool) → (a || false) ≡ a
 or-false true = refl
 or-false false = refl
 
 -- ---- numbers in a list
 
-pub member-added : (i j : ℕ) (l : List ℕ) → member i (l ++ (j ∷ [])) ≡ (member i l || eqb i j)
+member-added : (i j : ℕ) (l : List ℕ) → member i (l ++ (j ∷ [])) ≡ (member i l || eqb i j)
 unfolding member
 member-added i j [] = or-false (eqb i j)
 member-added i j (k ∷ l) = ap (λ b. eqb i k || b) (member-added i j l) ∙ or-assoc (eqb i k) (member i l) (eqb i j)
+
+pub member-last : (i : ℕ) (l : List ℕ) → member i (l ++ (i ∷ [])) ≡ true
+member-last i l = member-added i i l ∙ ap (λ b. member i l || b) (eq-eqb i i refl) ∙ or-true (member i l)
+
+pub member-other : (i j : ℕ) (l : List ℕ) → (i ≡ j → ⊥) → member i (l ++ (j ∷ [])) ≡ member i l
+member-other i j l n = member-added i j l ∙ ap (λ b. member i l || b) (ne-eqb i j n) ∙ or-false (member i l)
 
 -- Numbers below n; n and what is above it are none of them.
 abbrev pub Below : ℕ → List ℕ → Type 0
@@ -45,9 +55,13 @@ below-more h b = all-weaker (λ i p. omega (arith, p, h)) b
 -- ---- objects with the mark
 
 -- An object has the mark once it gets it, and no other object gets it then.
-pub protect-marks : (i j : ℕ) (m : Machine) → member j (protect i m .readOnly) ≡ (member j (m .readOnly) || eqb j i)
+pub protect-marks : (i : ℕ) (m : Machine) → member i (protect i m .readOnly) ≡ true
 unfolding protect withReadOnly
-protect-marks i j m = member-added j i (m .readOnly)
+protect-marks i m = member-last i (m .readOnly)
+
+pub protect-others : (i j : ℕ) (m : Machine) → (j ≡ i → ⊥) → member j (protect i m .readOnly) ≡ member j (m .readOnly)
+unfolding protect withReadOnly
+protect-others i j m n = member-other j i (m .readOnly) n
 
 -- What may be written to has no mark, and what has it is refused.
 pub writable-plain : (i : ℕ) (m : Machine) → member i (m .readOnly) ≡ false → writable i m ≡ ok tt
