@@ -48,11 +48,11 @@ elementSet id q v μ = change id (elements (set (elementsOf (object μ id)) q v)
 
 -- It becomes a new procedure of n nulls, which is read only;
 unfoldable pub arraySet : ℕ → ℕ → ℕ → Floo.Machine → Floo.Machine
-arraySet id q n μ = elementSet id q (array true (made μ)) (protect (made μ) (make (elements (replicate n null)) μ))
+arraySet id q n μ = protect (made μ) (elementSet id q (array true (made μ)) (make (elements (replicate n null)) μ))
 
 -- a new string of n zeros, which is too.
 unfoldable pub stringSet : ℕ → ℕ → ℕ → Floo.Machine → Floo.Machine
-stringSet id q n μ = elementSet id q (string (made μ)) (protect (made μ) (make (text (replicate n 0)) μ))
+stringSet id q n μ = protect (made μ) (elementSet id q (string (made μ)) (make (text (replicate n 0)) μ))
 
 -- The element that cell c is, null before, becomes the value that tag and pay stand for, in a world that has only grown.
 pub record SetsPlain (c tag pay : ℕ) (cs cs′ : List ℕ) : Type 0 where

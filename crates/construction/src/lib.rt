@@ -37,9 +37,9 @@ pub fn set_array(mut m: Machine, cells: &mut [u32], c: u32, n: u32) -> Placed
     let lists = m.lists;
     let t = heap::allocate(lists, cells, 0, n);
     let h = t.cell;
-    heap::seal(cells, h);
     heap::put(cells, c, 0, TAG_PROCEDURE);
     heap::put(cells, c, 1, h);
+    heap::seal(cells, h);
     let left = t.lists;
     m.lists = left;
     Placed {
@@ -58,9 +58,9 @@ pub fn set_string(mut m: Machine, cells: &mut [u32], c: u32, n: u32) -> Placed
     let lists = m.lists;
     let t = heap::allocate(lists, cells, n + 1, (n + 7) / 8);
     let h = t.cell;
-    heap::seal(cells, h);
     heap::put(cells, c, 0, TAG_STRING);
     heap::put(cells, c, 1, h);
+    heap::seal(cells, h);
     let left = t.lists;
     m.lists = left;
     Placed {
