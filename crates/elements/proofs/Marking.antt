@@ -2,15 +2,17 @@
 -- being as before.
 -- Assumes nothing.
 use mathlib.Core.Path.{_≡_, refl, sym, ap, _∙_, subst}
-use mathlib.Core.Bool.{Bool}
+use mathlib.Core.Bool.{Bool, true, false}
 use mathlib.Core.List.{List, [], _∷_, _++_}
 use Prim.Native.Nat.{ℕ, suc, _+_, _*_, _/_, _≤_}
 use native.Mathlib.Omega.{arith}
 use lib.ListN.{length, getD}
-use Rattle.semantics.specs.Values.{Value, integer, boolean, null, mark, operator, name, string, array, ok, objectId}
+use Rattle.semantics.specs.Values.{Value, integer, boolean, null, mark, operator, name, string, array, ok, fault, objectId}
 use Rattle.semantics.specs.Machine as Floo
-use Rattle.semantics.specs.Machine.{member, withReadOnly, protect}
+use Rattle.semantics.specs.Machine.{member, withReadOnly, protect, writable}
 use Rattle.semantics.specs.ResultLaws.{ok-one, fault-ok}
+use Rattle.semantics.specs.MarkLaws.{writable-plain, writable-marked}
+use Rattle.semantics.specs.declared.Error.the-variants.{InvalidAccess}
 use Rattle.heap.specs.Chain.{live}
 use Rattle.heap.specs.Shape.{Full, cells}
 use Rattle.heap.specs.Reading.{isSealed}
@@ -26,7 +28,7 @@ use Rattle.machine.specs.Rep.{Rep, MovesHeap}
 use Rattle.machine.specs.declared.Machine.{Machine}
 use Rattle.machine.proofs.Copying.{word-of}
 use Rattle.machine.proofs.Roots.{roots-alike}
-use Rattle.elements.specs.Elements.{named, itemId, itemSealed, HasObject, SomewhereThat}
+use Rattle.elements.specs.Elements.{named, itemId, itemSealed, ItemSealed, HasObject}
 
 -- ---- by header
 
@@ -113,6 +115,15 @@ module _ {m : Machine} {st e d c l : List ℕ} {μ : Floo.Machine} (R : Rep m st
   marked-item o K =
       let w = object-words (word-of R i k h .stands) (o .item) in
       marked-in R (itemPayload st k) _ (object-lives (o .item)) (w .1 ∙ sym (w .2)) K .0
+
+-- Whether an item may be written to, as the definition tests it on a machine with the same marks.
+module _ {i : ℕ} {m : Machine} {s c : List ℕ} {x : Bool} (Z : ItemSealed i m s c x) {e d l : List ℕ} {μ : Floo.Machine} (R : Rep m s e d c l μ) {id : ℕ}
+    (q : objectId (getD (μ .stack) i null) ≡ ok id) (τ : Floo.Machine) (same : τ .readOnly ≡ μ .readOnly) where
+  pub item-writable : x ≡ false → writable id τ ≡ ok tt
+  item-writable f = writable-plain id τ (ap (member id) same ∙ sym (Z .says e d l μ R id q) ∙ f)
+
+  pub item-refused : x ≡ true → writable id τ ≡ fault InvalidAccess
+  item-refused f = writable-marked id τ (ap (member id) same ∙ sym (Z .says e d l μ R id q) ∙ f)
 
 -- For any machine.
 pub mark-moves : {m : Machine} {st e d c c′ l : List ℕ} {μ : Floo.Machine} → Rep m st e d c l μ
