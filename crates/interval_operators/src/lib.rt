@@ -126,10 +126,10 @@ fn put_bytes(m: Machine, stack: &mut [u32], cells: &mut [u32]) -> Did
     requires { ⌜ (3 ≤ m .depth) × ItemTag 2 m (now stack) 8 × ItemTag 1 m (now stack) 1 × ItemTag 0 m (now stack) 8 × Somewhere m (now stack) (now cells) ⌝ }
     ensures { λ r. ⌜ DoesHeap (perform (bytes "putinterval")) m (now (stack .entry)) (now (stack .exit)) (now (cells .entry)) (now (cells .exit)) r ⌝ }
 {
+    let start = integer_at(m, stack, 1);
     if elements::is_sealed(m, stack, cells, 2) {
         return Did::Fail(Error::InvalidAccess);
     }
-    let start = integer_at(m, stack, 1);
     if SIGN <= start {
         return Did::Fail(Error::RangeCheck);
     }
@@ -146,10 +146,10 @@ fn put_elements(m: Machine, stack: &mut [u32], cells: &mut [u32]) -> Did
     requires { ⌜ (3 ≤ m .depth) × ArrayItem 2 m (now stack) × ItemTag 1 m (now stack) 1 × ArrayItem 0 m (now stack) × Somewhere m (now stack) (now cells) ⌝ }
     ensures { λ r. ⌜ DoesHeap (perform (bytes "putinterval")) m (now (stack .entry)) (now (stack .exit)) (now (cells .entry)) (now (cells .exit)) r ⌝ }
 {
+    let start = integer_at(m, stack, 1);
     if elements::is_sealed(m, stack, cells, 2) {
         return Did::Fail(Error::InvalidAccess);
     }
-    let start = integer_at(m, stack, 1);
     if SIGN <= start {
         return Did::Fail(Error::RangeCheck);
     }
