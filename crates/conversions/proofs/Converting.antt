@@ -179,6 +179,20 @@ record Target (μ : Floo.Machine) : Type 0 where
   split : μ .stack ≡ string id ∷ x ∷ rest
   made : id < length (μ .store)
 
+-- Its mark.
+module _ {m : Machine} {s c : List ℕ} {y : Bool} (M : ItemSealed 0 m s c y) {e d l : List ℕ} {μ : Floo.Machine} (R : Rep m s e d c l μ) (T : Target μ) where
+  target-named : objectId (getD (μ .stack) 0 null) ≡ ok (T .id)
+  unfolding objectId
+  target-named = ap (λ (r : List Value). objectId (getD r 0 null)) (T .split)
+
+  target-open : y ≡ false → writable (T .id) (withStack (T .rest) μ) ≡ ok tt
+  unfolding withStack
+  target-open q = item-writable M R target-named (withStack (T .rest) μ) refl q
+
+  target-locked : y ≡ true → writable (T .id) (withStack (T .rest) μ) ≡ fault InvalidAccess
+  unfolding withStack
+  target-locked q = item-refused M R target-named (withStack (T .rest) μ) refl q
+
 ended-store : (n : ℕ) → KeepsStore (ended n)
 unfolding ended dropped swapped bytePut change withStore withStack
 ended-store n μ = length-set (μ .store) (itemId 0 μ) _
@@ -261,7 +275,7 @@ module _ {m : Machine} {s : List ℕ} (deep : 2 ≤ m .depth) (Y : ItemTag 0 m s
         string-converted =
             let T = target R in
             let x : T .x ≡ string (itemId 1 μ) = sym (ap (λ (r : List Value). getD r 1 null) (T .split)) ∙ source R .item in
-            cvs-converted μ (T .split) ∙ ap (λ (v : Value). converted (stringval μ v) μ) x
+            cvs-converted μ (T .split) refl (target-open M R T refl) ∙ ap (λ (v : Value). converted (stringval μ v) μ) x
 
         copied-filled : bytesCopied 0 0 1 0 n μ ≡ bytesFilled 0 (current (bytesOf (object μ (itemId 1 μ)))) μ
         unfolding bytesCopied bytesFilled pasted
@@ -335,6 +349,9 @@ cvs-string r D = alike r (λ e l μ R. refl) D
 pub cvs-tagged : {m : Machine} {s : List ℕ} {t : ℕ} → ItemTag 0 m s t → t ≡ 8 → ItemTag 0 m s 8
 cvs-tagged {m} {s} Y q = subst (ItemTag 0 m s) q Y
 
+pub cvs-plain : {m : Machine} {s c : List ℕ} {y : Bool} → ItemSealed 0 m s c y → y ≡ false → ItemSealed 0 m s c false
+cvs-plain {m} {s} {c} M q = subst (ItemSealed 0 m s c) q M
+
 module _ {m : Machine} {s d c : List ℕ} where
   pub cvs-short : m .depth < 2 → DoesNamedHeap op m s s d c c (Fail StackUnderflow)
   cvs-short h = cvs-string (Fail StackUnderflow) (fails-heap (λ e d l μ R. cvs-under μ (omega (arith, h, stack-depth R))))
@@ -368,18 +385,13 @@ module _ {m : Machine} {s d c : List ℕ} where
           words = word-of R 1 (m .depth - 2) (omega (arith, deep));
         }
 
-    -- The string's mark.
-    module _ {t : ℕ} (Y : ItemTag 0 m s t) (is : t ≡ 8) {y : Bool} (M : ItemSealed 0 m s c y) where
-      pub cvs-plain : y ≡ false → ItemSealed 0 m s c false
-      cvs-plain q = subst (ItemSealed 0 m s c) q M
-
+    module _ {t : ℕ} (Y : ItemTag 0 m s t) (eight : t ≡ 8) {y : Bool} (M : ItemSealed 0 m s c y) where
       pub cvs-locked : y ≡ true → DoesNamedHeap op m s s d c c (Fail InvalidAccess)
-      unfolding stringId objectId withStack
       cvs-locked q =
           cvs-string (Fail InvalidAccess)
           (fails-heap (λ e d l μ R.
-          let T = target deep (cvs-tagged Y is) R in
-          cvs-refused μ (T .split) refl (item-refused M R (ap (λ (r : List Value). objectId (getD r 0 null)) (T .split)) (withStack (T .rest) μ) refl q)))
+          let T = target deep (cvs-tagged Y eight) R in
+          cvs-refused μ (T .split) refl (target-locked M R T q)))
 
     pub cvs-good : {n : ℕ} {out : List ℕ}
         → ItemTag 0 m s 8
@@ -388,7 +400,6 @@ module _ {m : Machine} {s d c : List ℕ} where
         → {s′ c′ : List ℕ} (r : Did)
         → DoesHeap (converted (take (n - 0) out)) m s s′ c c′ r
         → DoesNamedHeap op m s s′ d c c′ r
-    unfolding objectId withStack
     cvs-good {n} {out} Y M T r D =
         alike r
         (λ e l μ R.
@@ -398,5 +409,5 @@ module _ {m : Machine} {s d c : List ℕ} where
         ap (λ k. converted (take k out) μ) all
         ∙ ap (λ (t : List ℕ). converted t μ) (T .says m s e c l μ R (getD (μ .stack) 1 null) (word-of R 1 (m .depth - 2) (omega (arith, deep))))
         ∙ ap (λ (v : Value). converted (stringval μ v) μ) second
-        ∙ sym (cvs-converted μ (x .split) refl (item-writable M R (ap (λ (r : List Value). objectId (getD r 0 null)) (x .split)) (withStack (x .rest) μ) refl refl)))
+        ∙ sym (cvs-converted μ (x .split) refl (target-open M R x refl)))
         D
