@@ -19,7 +19,7 @@ extern "C" {
 #define FLOO_STACK_SLOTS_MAX 256u
 #define FLOO_EXECUTION_SLOTS_MIN 4u
 #define FLOO_EXECUTION_SLOTS_MAX 128u
-#define FLOO_DICTIONARY_SLOTS_MIN 64u /* the predefined names */
+#define FLOO_DICTIONARY_SLOTS_MIN 65u /* the predefined names */
 #define FLOO_DICTIONARY_SLOTS_MAX 512u
 #define FLOO_CELLS_MIN 1u
 #define FLOO_CELLS_MAX 32768u

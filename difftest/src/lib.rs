@@ -47,6 +47,8 @@ pub struct Tally {
     pub objects: usize,
     /// Of these, the ones that only circles name.
     pub circled: usize,
+    /// Of the objects, the ones that are read only.
+    pub read_only: usize,
     /// Runs in which the least number is written into the log, into a string, and into the outcome.
     pub least: [usize; 3],
     /// Runs in which a `for` ends on a number above 32 bits, and on one below.
@@ -55,7 +57,7 @@ pub struct Tally {
     pub misread: [[usize; 2]; 6],
     /// Handlers at the runs' ends, and those of them that name an object.
     pub handlers: [usize; 2],
-    /// Runs that meet what pegs and handlers are about.
+    /// Runs that meet what pegs, the mark for read only and handlers are about.
     pub ground: Ground,
     pub readings: Readings,
     pub scans: Scans,
@@ -117,6 +119,7 @@ fn compare_run(script: &[u8], random: &mut Random, tally: &mut Tally) -> Result<
             let shown = check_left(&lent, &before, [reply.log, reply.outcome], [&log, &outcome], &mut machine).map_err(|what| told(&what))?;
             tally.objects += shown.objects;
             tally.circled += shown.circled;
+            tally.read_only += shown.read_only;
             for (count, shown) in tally.handlers.iter_mut().zip(shown.handlers) {
                 *count += shown;
             }

@@ -13,8 +13,8 @@ fn main() -> ExitCode {
     match compare_all(count as usize, seed) {
         Ok(tally) => {
             println!(
-                "{} scripts from seed {seed}, {} refused, {} steps, {} objects, {} of them in circles alone: no difference",
-                tally.scripts, tally.refused, tally.steps, tally.objects, tally.circled
+                "{} scripts from seed {seed}, {} refused, {} steps, {} objects, {} of them in circles alone, {} read only: no difference",
+                tally.scripts, tally.refused, tally.steps, tally.objects, tally.circled, tally.read_only
             );
             let [log, string, outcome] = tally.least;
             let [above, below] = tally.loops_past;

@@ -1,4 +1,4 @@
-//! The objects that the runner's words show, against those of the reference interpreter: one to one, in kind and length, with the same elements and bytes, each
+//! The objects that the runner's words show, against those of the reference interpreter: one to one, in kind and length, with the same elements, bytes and mark for read only, each
 //! with its own cells and as many places as its stored count says. With them the handlers that the dictionary's words show, and the names of the latest error.
 //!
 //! The words are walked from the stack, the execution stack, the bindings and the handlers. What these do not lead to, circles and what only circles name, is looked for in
@@ -31,6 +31,9 @@ const COMMAND: usize = 12 * 52 + 11;
 const SIZE_UNIT: u32 = 1 << 16;
 const FIRST_UNIT: u32 = 1 << 15;
 
+/// A header's word 1 has it where its object is read only.
+const READ_ONLY: u32 = 1 << 16;
+
 /// A header's word 1 has it unless its body's cells stand side by side, the first one last.
 const SCATTERED: u32 = 1 << 17;
 
@@ -42,6 +45,8 @@ pub struct Shown {
     pub objects: usize,
     /// Of these, the ones that no place outside leads to.
     pub circled: usize,
+    /// Of these, the ones that are read only.
+    pub read_only: usize,
     /// Handlers, and those of them that name an object.
     pub handlers: [usize; 2],
 }
@@ -90,6 +95,7 @@ pub fn check(lent: &Lent, machine: &mut Machine) -> Result<Shown, String> {
     Ok(Shown {
         objects,
         circled: objects - reached,
+        read_only: walk.matched.headers.keys().filter(|&id| walk.machine.read_only.contains(id)).count(),
         handlers: [handlers().count(), handlers().filter_map(|handler| handler.object()).count()],
     })
 }
@@ -281,6 +287,10 @@ impl Walk<'_> {
     fn header(&self, header: u32, id: ObjectId) -> Result<u32, String> {
         let words = self.cell(header)?;
         let shown = [words[0], words[1] % SIZE_UNIT, words[2]];
+        let is_marked = self.machine.read_only.contains(&id);
+        if (words[1] & READ_ONLY != 0) != is_marked {
+            return Err(format!("header {words:?}, and the mark for read only is {is_marked}"));
+        }
         let object = &self.machine.store[id];
         let kind = match object {
             Object::Array(_) => 0,

@@ -9,6 +9,7 @@ fn runs_readings_scans_ledgers_and_echo_lines_agree_with_the_reference() {
     assert!(tally.steps > 200_000, "{} steps", tally.steps);
     assert!(tally.objects > 10_000, "{} objects", tally.objects);
     assert!(tally.circled > 500, "{} in circles alone", tally.circled);
+    assert!(tally.read_only > 1_000 && tally.objects - tally.read_only > 1_000, "{} of the objects read only", tally.read_only);
     assert!(tally.least.iter().all(|&count| count > 100), "{:?} with the least number in log, string, outcome", tally.least);
     assert!(tally.loops_past.iter().all(|&count| count > 100), "{:?} runs with a loop that ends above and below 32 bits", tally.loops_past);
     assert!(tally.misread.iter().flatten().all(|&count| count > 25), "{:?} runs ended by each fault, outside braces and in a group", tally.misread);

@@ -35,6 +35,8 @@ pub struct Change {
     pub names: Vec<Vec<u8>>,
     /// New objects; their ids follow those of the store.
     pub makes: Vec<Object>,
+    /// The objects that get the mark for read only.
+    pub marks: Vec<ObjectId>,
     pub write: Option<Write>,
     pub binding: Option<(NameId, Value)>,
     /// A handler, by the place of its error's name.
@@ -60,6 +62,7 @@ impl Change {
             pushes: Vec::new(),
             names: Vec::new(),
             makes: Vec::new(),
+            marks: Vec::new(),
             write: None,
             binding: None,
             handler: None,
@@ -98,6 +101,13 @@ impl Change {
         machine.store.len() + self.makes.len() - 1
     }
 
+    /// "Whatever a brace group makes, itself included, has the mark from the start" (02, W7): all
+    /// that the step makes which takes the group.
+    pub fn mark_makes(&mut self, machine: &Machine) {
+        let first = machine.store.len();
+        self.marks.extend(first..first + self.makes.len());
+    }
+
     /// The tests that only the state after the step decides, in the order of 01, "Order within a
     /// step", from the slots on.
     pub fn fits(&self, machine: &mut Machine) -> Result<(), Error> {
@@ -123,6 +133,7 @@ impl Change {
 
     /// Carries out a change that fits.
     pub fn apply(self, machine: &mut Machine) {
+        machine.meet_part(&self.command);
         machine.next = self.next;
         machine.frames.truncate(self.keep);
         machine.frames.extend(self.enter);
@@ -137,7 +148,10 @@ impl Change {
         for object in self.makes {
             machine.add_object(object);
         }
+        machine.meet_marks(&self.command, &self.marks);
+        machine.read_only.extend(self.marks);
         if let Some(write) = self.write {
+            machine.meet_write(&write);
             carry_out(write, machine);
         }
         if let Some((name, value)) = self.binding {

@@ -1,4 +1,4 @@
-//! The eleven errors of a step that has read its token, if it takes one. What can be wrong with
+//! The twelve errors of a step that has read its token, if it takes one. What can be wrong with
 //! a token itself is a `Fault` (token.rs).
 
 #[derive(Clone, Copy, Debug, PartialEq, Eq)]
@@ -6,6 +6,7 @@ pub enum Error {
     Undefined,
     Stackunderflow,
     Typecheck,
+    Invalidaccess,
     Rangecheck,
     Undefinedresult,
     Unmatchedmark,
@@ -18,7 +19,7 @@ pub enum Error {
 
 /// The names that `error=` can show: those of tokens' faults, then those of errors. A handler can be
 /// set for each (02, W1), though "token faults still end the run".
-pub const NAMES: [&str; 16] = [
+pub const NAMES: [&str; 17] = [
     "badnumber",
     "badescape",
     "openstring",
@@ -28,6 +29,7 @@ pub const NAMES: [&str; 16] = [
     "undefined",
     "stackunderflow",
     "typecheck",
+    "invalidaccess",
     "rangecheck",
     "undefinedresult",
     "unmatchedmark",
@@ -53,6 +55,7 @@ impl Error {
             Error::Undefined => "undefined",
             Error::Stackunderflow => "stackunderflow",
             Error::Typecheck => "typecheck",
+            Error::Invalidaccess => "invalidaccess",
             Error::Rangecheck => "rangecheck",
             Error::Undefinedresult => "undefinedresult",
             Error::Unmatchedmark => "unmatchedmark",

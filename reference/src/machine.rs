@@ -1,5 +1,7 @@
 //! The machine's state: both stacks, the dictionary, the store of made objects and the log.
 
+use std::collections::HashSet;
+
 use crate::error::{self, Error};
 use crate::met::Met;
 use crate::operators::{self, Operator};
@@ -96,6 +98,8 @@ pub struct Machine {
     pub latest: Latest,
     /// Every object ever made, in the order of making.
     pub store: Vec<Object>,
+    /// The objects that carry the mark for read only (02, W7).
+    pub read_only: HashSet<ObjectId>,
     pub log: Vec<u8>,
     /// Where the next script token is looked for.
     pub next: usize,
@@ -116,6 +120,7 @@ impl Machine {
             handlers: [None; error::NAMES.len()],
             latest: Latest::default(),
             store: Vec::new(),
+            read_only: HashSet::new(),
             log: Vec::new(),
             next: 0,
             at: 0,
@@ -174,6 +179,14 @@ impl Machine {
 
     pub fn current_bytes(&self, string: ObjectId) -> &[u8] {
         current(self.bytes(string))
+    }
+
+    /// "put, putinterval, astore and cvs refuse a marked target" (02, W7).
+    pub fn writable(&self, target: ObjectId) -> Result<(), Error> {
+        if self.read_only.contains(&target) {
+            return Err(Error::Invalidaccess);
+        }
+        Ok(())
     }
 
     pub fn handler(&self, error: Error) -> Option<Value> {

@@ -1,8 +1,9 @@
 //! What random scripts are to reach, counted in the run. No rule looks at it.
 
+use crate::change::Write;
 use crate::error::{self, Error};
 use crate::machine::{Frame, Machine, Repetition};
-use crate::value::ObjectId;
+use crate::value::{ObjectId, Value};
 
 /// How often each was met.
 #[derive(Clone, Debug, Default)]
@@ -13,6 +14,14 @@ pub struct Met {
     pub pegs: [Counts; 3],
     /// Errors of lowpeg and of highpeg: undefinedresult.
     pub no_peg: [usize; 2],
+    /// invalidaccess (02, W7), by what refused, in the order of `REFUSED`.
+    pub refused: [usize; REFUSED.len()],
+    /// Uses of readonly: on an object without the mark, and on one with it.
+    pub marked: [usize; 2],
+    /// Marked procedures whose elements bind has changed.
+    pub bound: usize,
+    /// Parts that getinterval made of marked objects.
+    pub parts: usize,
     /// Handled errors (02, W1), by the place of the error's name and by what had failed, in the
     /// order of `TAKEN`.
     pub handled: [[usize; TAKEN.len()]; error::NAMES.len()],
@@ -27,6 +36,16 @@ pub struct Met {
     /// Handlers that took the place of another, and of one that was running.
     pub replaced: [usize; 2],
 }
+
+/// What refuses a marked target, and of which kind.
+pub const REFUSED: [&str; 6] = [
+    "put into an array",
+    "put into a string",
+    "putinterval into an array",
+    "putinterval into a string",
+    "astore",
+    "cvs",
+];
 
 /// A count for each of 0 to 32.
 #[derive(Clone, Copy, Debug)]
@@ -74,6 +93,42 @@ impl Machine {
         if error == Error::Undefinedresult {
             self.met.no_peg[0] += usize::from(command == b"lowpeg");
             self.met.no_peg[1] += usize::from(command == b"highpeg");
+        }
+        if error == Error::Invalidaccess {
+            let target = self.stack.iter().rev().nth(2);
+            let is_string = usize::from(matches!(target, Some(Value::String(_))));
+            let refused = match command {
+                b"put" => is_string,
+                b"putinterval" => 2 + is_string,
+                b"astore" => 4,
+                _ => 5,
+            };
+            self.met.refused[refused] += 1;
+        }
+    }
+
+    /// A step is about to be carried out, and its operands are on the stack.
+    pub fn meet_part(&mut self, command: &[u8]) {
+        if command == b"getinterval" {
+            let whole = self.stack.iter().rev().nth(2).and_then(|item| item.object());
+            let is_marked = whole.is_some_and(|id| self.read_only.contains(&id));
+            self.met.parts += usize::from(is_marked);
+        }
+    }
+
+    /// Objects are about to get the mark for read only.
+    pub fn meet_marks(&mut self, command: &[u8], marks: &[ObjectId]) {
+        if command == b"readonly" {
+            let again = marks.iter().any(|id| self.read_only.contains(id));
+            self.met.marked[usize::from(again)] += 1;
+        }
+    }
+
+    /// A part of an object is about to be written to; only bind writes to a marked one.
+    pub fn meet_write(&mut self, write: &Write) {
+        if let Write::Elements { array, elements, .. } = write {
+            let is_marked = self.read_only.contains(array);
+            self.met.bound += usize::from(is_marked && self.elements(*array) != elements);
         }
     }
 

@@ -213,7 +213,11 @@ fn take_token(machine: &Machine, script: &[u8], change: &mut Change) -> Result<(
         return Ok(execute_name(machine, known, change)?);
     }
     let start = change.at;
+    let is_group = matches!(token.content, Content::OpenBrace);
     let object = object_of(machine, script, start, token.content, DEEPEST_BRACES, change)?;
+    if is_group {
+        change.mark_makes(machine);
+    }
     change.push(object);
     Ok(())
 }

@@ -2,7 +2,7 @@
 
 pub const LONGEST_SCRIPT: usize = 32_768;
 /// The operators, and `[`, true, false and null.
-pub const PREDEFINED_NAMES: usize = 64;
+pub const PREDEFINED_NAMES: usize = 65;
 const MOST_FUEL: u64 = 1_000_000;
 const LONGEST_LOG: usize = 65_536;
 

@@ -16,10 +16,11 @@ const FEWEST_EXAMPLES: usize = 150;
 const FEWEST_SCRIPTS: usize = 10;
 
 /// 01, "Order within a step", of what an operator can give.
-const ORDER: [&str; 12] = [
+const ORDER: [&str; 13] = [
     "undefined",
     "stackunderflow",
     "typecheck",
+    "invalidaccess",
     "rangecheck",
     "undefinedresult",
     "stackunderflow of items",

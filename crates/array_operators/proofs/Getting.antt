@@ -30,10 +30,10 @@ use Rattle.machine.proofs.Outcomes.{stack-depth, fails-heap, moves-heap, then-h
 use Rattle.machine.proofs.Pops.{pushes-heap}
 use Rattle.elements.specs.Elements.{HasArray, HasString, ItemTag, ArraySize, StringSize, ByteOf, elementCopied}
 use Rattle.elements.proofs.Arrays.{item-id}
-use Rattle.elements.proofs.Tags.{tag-no-object, array-of, string-of}
+use Rattle.elements.proofs.Tags.{tag-object, tag-no-object, array-of, string-of}
 use Rattle.array_operators.specs.Items.{IntIs, ItemInt, IntegerItem, ArrayItem, StringItem, ItemLength, popped}
 use Rattle.array_operators.proofs.Named.{getting, length-under, length-on, get-under, get-on}
-use Rattle.array_operators.proofs.Objects.{tag-object, whole-array, whole-string}
+use Rattle.array_operators.proofs.Objects.{whole-array, whole-string}
 
 -- ---- length
 
@@ -62,8 +62,8 @@ module _ {m : Machine} {s c : List ℕ} where
         moves-heap (then-heap D (pushes-heap (an-integer {w = n}) P)) (λ μ. refl) long (λ e d l μ R.
         let x = tag-object (getD (μ .stack) 0 null) (omega (arith, high, T .says e d c l μ R)) in
         length-on μ (omega (arith, stack-depth R))
-        ∙ ap (λ r. r >>= λ i. ok (push (integer (lengthOf (object (popped 1 μ) i))) (popped 1 μ))) (x .1)
-        ∙ ap (λ k. ok (push (integer k) (popped 1 μ))) (sym (L .says e d l μ R (x .0) (x .1))))
+        ∙ ap (λ r. r >>= λ i. ok (push (integer (lengthOf (object (popped 1 μ) i))) (popped 1 μ))) x
+        ∙ ap (λ k. ok (push (integer k) (popped 1 μ))) (sym (L .says e d l μ R _ x)))
 
 -- ---- get
 
@@ -112,14 +112,14 @@ module _ {m : Machine} {s c : List ℕ} where
           fails-heap (λ e d l μ R.
           let o = tag-object (getD (μ .stack) 1 null) (omega (arith, high, T .says e d c l μ R)) in
           get-on μ (omega (arith, stack-depth R))
-          ∙ get-no-integer _ _ (popped 2 μ) (o .1) (subst (IntIs (getD (μ .stack) 0 null)) q (I .says e d c l μ R)))
+          ∙ get-no-integer _ _ (popped 2 μ) o (subst (IntIs (getD (μ .stack) 0 null)) q (I .says e d c l μ R)))
 
       pub get-below : {w : ℕ} → r ≡ One.Got w → 2 ^ 31 ≤ w → w < 2 ^ 32 → DoesHeap (perform (bytes "get")) m s s c c (Fail RangeCheck)
       get-below q low less =
           fails-heap (λ e d l μ R.
           let o = tag-object (getD (μ .stack) 1 null) (omega (arith, high, T .says e d c l μ R)) in
           get-on μ (omega (arith, stack-depth R))
-          ∙ get-negative _ _ (popped 2 μ) (o .1) (subst (IntIs (getD (μ .stack) 0 null)) q (I .says e d c l μ R)) low less)
+          ∙ get-negative _ _ (popped 2 μ) o (subst (IntIs (getD (μ .stack) 0 null)) q (I .says e d c l μ R)) low less)
 
 -- ---- an element
 

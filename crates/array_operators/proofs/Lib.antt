@@ -3,6 +3,7 @@ pub mod Objects
 pub mod Lengths
 pub mod Getting
 pub mod Putting
+pub mod Sealing
 pub mod Dropping
 pub mod Spreading
 pub mod Storing

@@ -3,14 +3,14 @@
 use mathlib.Core.Path.{_≡_, refl, ap, _∙_}
 use mathlib.Core.Bool.{false}
 use mathlib.Core.List.{List, [], _∷_, _++_, reverse}
-use Prim.Native.Nat.{_≤_, _<_}
+use Prim.Native.Nat.{ℕ, _≤_, _<_}
 use native.Mathlib.Omega.{arith}
 use lib.ListN.{length, getD, take, drop, replicate}
 use lib.Dec.{leb}
 use lib.Seq.{drop-cons}
 use Rattle.semantics.specs.Text.{bytes, textual}
 use Rattle.semantics.specs.Values.{Value, integer, null, string, array, elements, text, Result, ok, fault, _>>=_, check, int, arrayId, objectId, count}
-use Rattle.semantics.specs.Machine.{Machine, withStack, push, pop1, pop2, pop3, object, elementsOf, change}
+use Rattle.semantics.specs.Machine.{Machine, withStack, push, pop1, pop2, pop3, object, elementsOf, change, protect, writable}
 use Rattle.semantics.specs.Operators.{perform, find, table, _is_}
 use Rattle.semantics.specs.ObjectOperators as Floo
 use Rattle.semantics.specs.ObjectOperators.{pushNew, lengthOf, got, putInto, size, aboveMark}
@@ -76,7 +76,7 @@ abbrev pub getting : Value → Value → Machine → Result Machine
 getting x y τ = objectId x >>= λ i. int y >>= λ z. count z >>= λ n. got (object τ i) n >>= λ v. ok (push v τ)
 
 abbrev pub putting : Value → Value → Value → Machine → Result Machine
-putting x y v τ = objectId x >>= λ i. int y >>= λ z. putInto (object τ i) z v >>= λ o. ok (change i o τ)
+putting x y v τ = objectId x >>= λ i. int y >>= λ z. putInto (object τ i) v >>= λ f. writable i τ >>= λ u. f z >>= λ o. ok (change i o τ)
 
 module _ (μ : Machine) where
   length-is : perform (bytes "length") μ ≡ (pop1 μ >>= λ p. measuring (p .0) (p .1))
@@ -115,16 +115,26 @@ module _ (μ : Machine) where
   unfolding _>>=_
   put-on h = put-is ∙ ap (λ r. r >>= λ p. putting (p .0) (p .1) (p .2) (p .3)) (popped3 μ h)
 
--- ---- aload, astore and ]
+-- ---- aload, astore, ] and readonly
 
 abbrev pub loading : Value → Machine → Result Machine
 loading x τ = arrayId x >>= λ i. ok (push x (withStack (reverse (elementsOf (object τ i)) ++ τ .stack) τ))
 
-abbrev pub storing : Value → Machine → Result Machine
-storing x τ =
-    arrayId x >>= λ i.
+abbrev pub sealing : Value → Machine → Result Machine
+sealing x τ = objectId x >>= λ i. ok (push x (protect i τ))
+
+-- All items into array i,
+abbrev pub storingAll : Value → Machine → ℕ → Result Machine
+storingAll x τ i =
     check (leb (size (object τ i)) (length (τ .stack))) StackUnderflow >>= λ u.
     ok (push x (change i (elements (reverse (take (size (object τ i)) (τ .stack)))) (withStack (drop (size (object τ i)) (τ .stack)) τ)))
+
+-- if it may be written to.
+abbrev pub storingInto : Value → Machine → ℕ → Result Machine
+storingInto x τ i = writable i τ >>= λ u. storingAll x τ i
+
+abbrev pub storing : Value → Machine → Result Machine
+storing x τ = arrayId x >>= λ i. storingInto x τ i
 
 module _ (μ : Machine) where
   aload-is : perform (bytes "aload") μ ≡ (pop1 μ >>= λ p. loading (p .0) (p .1))
@@ -150,6 +160,18 @@ module _ (μ : Machine) where
   pub astore-on : 1 ≤ length (μ .stack) → perform (bytes "astore") μ ≡ storing (getD (μ .stack) 0 null) (popped 1 μ)
   unfolding _>>=_
   astore-on h = astore-is ∙ ap (λ r. r >>= λ p. storing (p .0) (p .1)) (popped1 μ h)
+
+  readonly-is : perform (bytes "readonly") μ ≡ (pop1 μ >>= λ p. sealing (p .0) (p .1))
+  unfolding textual perform find table _is_ Floo.readonly
+  readonly-is = refl
+
+  pub readonly-under : length (μ .stack) < 1 → perform (bytes "readonly") μ ≡ fault StackUnderflow
+  unfolding _>>=_
+  readonly-under h = readonly-is ∙ ap (λ r. r >>= λ p. sealing (p .0) (p .1)) (pop1-under μ h)
+
+  pub readonly-on : 1 ≤ length (μ .stack) → perform (bytes "readonly") μ ≡ sealing (getD (μ .stack) 0 null) (popped 1 μ)
+  unfolding _>>=_
+  readonly-on h = readonly-is ∙ ap (λ r. r >>= λ p. sealing (p .0) (p .1)) (popped1 μ h)
 
   pub close-is : perform (bytes "]") μ ≡ (aboveMark [] (μ .stack) >>= λ p. ok (pushNew (array false) (elements (p .0)) (withStack (p .1) μ)))
   unfolding textual perform find table _is_ Floo.close

@@ -30,18 +30,6 @@ use Rattle.array_operators.specs.Items.{ItemInt, IntegerItem, ArrayItem,
 
 -- ---- values by their tags
 
-pub tag-object : (v : Value) → 8 ≤ tagOf v → (i : ℕ) × (objectId v ≡ ok i)
-unfolding tagOf objectId
-tag-object null q = absurd (omega arith)
-tag-object (integer w) q = absurd (omega arith)
-tag-object (boolean b) q = absurd (omega arith)
-tag-object mark q = absurd (omega arith)
-tag-object (operator o) q = absurd (omega arith)
-tag-object (name false n) q = absurd (omega arith)
-tag-object (name true n) q = absurd (omega arith)
-tag-object (string i) q = (i, refl)
-tag-object (array x i) q = (i, refl)
-
 pub tag-mark : (v : Value) → tagOf v ≡ 3 → v ≡ mark
 unfolding tagOf
 tag-mark null q = absurd (omega arith)

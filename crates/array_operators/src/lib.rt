@@ -1,4 +1,4 @@
-// The operators on arrays and strings: array, string, length, get, put, aload, astore and ]. Each does exactly what the definition's operator of its name
+// The operators on arrays and strings: array, string, length, get, put, aload, astore, ] and readonly. Each does exactly what the definition's operator of its name
 // does and then the definition's test of room, errors and their order included. Nothing is changed before the last check.
 ghost use mathlib.Core.Path.{_≡_};
 ghost use mathlib.Core.Bool.{_&&_, _||_};
@@ -104,7 +104,7 @@ pub fn get(m: Machine, stack: &mut [u32], cells: &mut [u32]) -> Did
     }
 }
 
-// Ruled out: a byte over 255 that is cut, and rangecheck for the index of a string where what is put is no integer.
+// Ruled out: a byte over 255 that is cut, rangecheck for the index of a string where what is put is no integer, and rangecheck where the target is read only.
 pub fn put(m: Machine, stack: &mut [u32], cells: &mut [u32]) -> Did
     requires { ⌜ Somewhere m (now stack) (now cells) ⌝ }
     ensures { λ r. ⌜ DoesHeap (perform (bytes "put")) m (now (stack .entry)) (now (stack .exit)) (now (cells .entry)) (now (cells .exit)) r ⌝ }
@@ -145,7 +145,8 @@ pub fn aload(m: Machine, stack: &mut [u32], cells: &mut [u32]) -> Did
     Did::Ok(spread(m, stack, cells, n))
 }
 
-// The array may be among the items: all are put before any goes. Ruled out: elements in the other order, and the array itself counted among the items.
+// The array may be among the items: all are put before any goes. Ruled out: elements in the other order, the array itself counted among the items, and
+// stackunderflow where it is read only.
 pub fn astore(m: Machine, stack: &mut [u32], cells: &mut [u32]) -> Did
     requires { ⌜ Somewhere m (now stack) (now cells) ⌝ }
     ensures { λ r. ⌜ DoesHeap (perform (bytes "astore")) m (now (stack .entry)) (now (stack .exit)) (now (cells .entry)) (now (cells .exit)) r ⌝ }
@@ -155,6 +156,9 @@ pub fn astore(m: Machine, stack: &mut [u32], cells: &mut [u32]) -> Did
     }
     if elements::tag_of(m, stack, 0) < TAG_ARRAY {
         return Did::Fail(Error::TypeCheck);
+    }
+    if elements::is_sealed(m, stack, cells, 0) {
+        return Did::Fail(Error::InvalidAccess);
     }
     let n = elements::size_of(m, stack, cells, 0) as usize;
     if m.depth - 1 < n {
@@ -181,6 +185,21 @@ pub fn close(m: Machine, stack: &mut [u32], cells: &mut [u32]) -> Did
     let made = elements::new_array(m, stack, cells, n, size);
     let stored = store_items(made, stack, cells, n, n, n);
     Did::Ok(drop_items(stored, stack, cells, n))
+}
+
+// The object stays on the stack, with the mark for read only. Ruled out: the mark taken away by a second readonly, and typecheck for a procedure.
+pub fn readonly(m: Machine, stack: &[u32], cells: &mut [u32]) -> Did
+    requires { ⌜ Somewhere m (now stack) (now cells) ⌝ }
+    ensures { λ r. ⌜ DoesHeap (perform (bytes "readonly")) m (now (stack .entry)) (now (stack .entry)) (now (cells .entry)) (now (cells .exit)) r ⌝ }
+{
+    if m.depth < 1 {
+        return Did::Fail(Error::StackUnderflow);
+    }
+    if elements::tag_of(m, stack, 0) < TAG_STRING {
+        return Did::Fail(Error::TypeCheck);
+    }
+    elements::seal(m, stack, cells, 0);
+    Did::Ok(m)
 }
 
 // The length that array and string are given, or what is wrong with it.
@@ -254,6 +273,9 @@ fn put_in_array(m: Machine, stack: &mut [u32], cells: &mut [u32], n: u32) -> Did
     requires { ⌜ (3 ≤ m .depth) × ArrayItem 2 m (now stack) × IntegerItem 1 n m (now stack) × Somewhere m (now stack) (now cells) ⌝ }
     ensures { λ r. ⌜ DoesHeap (perform (bytes "put")) m (now (stack .entry)) (now (stack .exit)) (now (cells .entry)) (now (cells .exit)) r ⌝ }
 {
+    if elements::is_sealed(m, stack, cells, 2) {
+        return Did::Fail(Error::InvalidAccess);
+    }
     if SIGN <= n {
         return Did::Fail(Error::RangeCheck);
     }
@@ -272,6 +294,9 @@ fn put_in_string(m: Machine, stack: &mut [u32], cells: &mut [u32], n: u32) -> Di
     match integer_at(m, stack, 0) {
         OneInt::Bad(e) => Did::Fail(e),
         OneInt::Got(b) => {
+            if elements::is_sealed(m, stack, cells, 2) {
+                return Did::Fail(Error::InvalidAccess);
+            }
             if SIGN <= n {
                 return Did::Fail(Error::RangeCheck);
             }

@@ -1,37 +1,40 @@
 -- A value goes to an element that was null: what the value names was in hand and is now named by the element's cell, and all that lived lives on. A value that names no
--- object has nothing in hand, and a new object is in hand after `allocate`.
+-- object has nothing in hand, and a new object is in hand after `allocate`; once it has its place it gets the mark for read only.
 -- Assumes nothing.
 use mathlib.Core.Path.{_≡_, refl, sym, ap, _∙_, subst}
 use mathlib.Core.Bool.{Bool, true, false}
 use mathlib.Core.List.{List, [], _∷_, _++_, map}
 use mathlib.Core.Logic.{⊎-elim}
-use Prim.Native.Nat.{ℕ, suc, _+_, _-_, _/_, _≤_, _<_}
+use Prim.Native.Nat.{ℕ, suc, _+_, _-_, _*_, _/_, _≤_, _<_}
 use native.Mathlib.Omega.{arith}
 use native.Mathlib.Numerals.{add-one}
 use lib.ListN.{length, getD, set, replicate, length-set, List·getD-append}
 use lib.Seq.{getD-set-other, getD-append-seam, map-set-same}
 use Rattle.semantics.specs.Values.{Value, null, string, array, Object, elements, text}
 use Rattle.semantics.specs.Machine as Floo
-use Rattle.semantics.specs.Machine.{withStore, object, elementsOf, make, made, change}
+use Rattle.semantics.specs.Machine.{withStore, withReadOnly, object, elementsOf, make, made, change, protect}
 use Rattle.heap.specs.Word.{word, Put}
 use Rattle.heap.specs.Chain.{live, on}
 use Rattle.heap.specs.Upd.{upd}
 use Rattle.heap.specs.Shape.{Ghost, Full, NoOut, cells, target}
 use Rattle.heap.specs.Assign.{aimed, Alives}
 use Rattle.heap.specs.Grow.{Made}
+use Rattle.heap.specs.Seal.{Seals}
 use Rattle.heap.specs.declared.Lists.{Lists}
 use Rattle.heap.proofs.Assigning as Assigning
 use Rattle.heap.proofs.Parts as parts
+use Rattle.heap.proofs.Chains.{live-on}
 use Rattle.heap.proofs.Shapes.{room}
 use Rattle.heap.proofs.Since.{lt-or-le}
 use Rattle.heap.proofs.Upds.{upd-same, upd-other}
 use Rattle.store.specs.Rep as Store
-use Rattle.store.specs.Rep.{isText, Stands, Names, objectAt, element}
+use Rattle.store.specs.Rep.{isText, Stands, Names, Sealed, objectAt, element}
 use Rattle.store.proofs.Standing.{names-stands, null-names, array-is}
 use Rattle.store.proofs.Sorts.{array-word}
 use Rattle.store.proofs.Changes.{at-set}
 use Rattle.store.proofs.Elements.{rep-assign}
 use Rattle.store.proofs.Rooting.{rep-alike}
+use Rattle.store.proofs.Sealing.{sealed-kept}
 use Rattle.store.proofs.Fresh.{Adds, rep-array, rep-string, new-procedure, new-string}
 use Rattle.machine.specs.Places.{rootCount, roots, keys}
 use Rattle.machine.specs.Rep.{Rep, World, Stored, Is, IsIn}
@@ -39,7 +42,8 @@ use Rattle.machine.specs.declared.Machine.{Machine}
 use Rattle.machine.proofs.Restacking.{withDepth}
 use Rattle.machine.proofs.Rehousing.{roots-store, restored-in}
 use Rattle.elements.specs.Elements.{freeCells}
-use Rattle.elements.proofs.Making.{added, carry-added, long-added, cells-used}
+use Rattle.elements.proofs.Making.{added, carry-added, sealed-added, long-added, cells-used}
+use Rattle.elements.proofs.Marking.{marked-in}
 use Rattle.construction.specs.Growth.{Grown, ElementAt, elementSet, arraySet, stringSet, SetsPlain, SetsArray, SetsString}
 
 -- ---- in the heap
@@ -85,7 +89,8 @@ module _ {m : Machine} {st e d c l : List ℕ} {μ : Floo.Machine} (R : Rep m st
     (many : (i t p : ℕ) → IsIn (R .world) μ (array true i) t p → length (elementsOf (objectAt store i)) ≡ length (elementsOf (objectAt (μ .store) i)))
     (keeps : (x h k : ℕ) → R .world .ghost .own x ≡ on (h + 2) k → w .ghost .own x ≡ on (h + 2) k)
     (x h k id q : ℕ) (at : ElementAt w store x h k id q) (empty : element store id q ≡ null)
-    (new : Stands (keys μ) (map isText store) (w .ρ) v tag pay) (alive : Alives (w .ghost) tag pay) (P₁ : Put c₁ x 0 tag c₂) (P₂ : Put c₂ x 1 pay c₃) where
+    (new : Stands (keys μ) (map isText store) (w .ρ) v tag pay) (alive : Alives (w .ghost) tag pay) (P₁ : Put c₁ x 0 tag c₂) (P₂ : Put c₂ x 1 pay c₃)
+    (marks : Sealed (w .ρ) (w .ghost) c₁ store (μ .readOnly)) where
   abbrev next : World
   next = record { ρ = w .ρ; ghost = aimed (w .ghost) x (target 0 tag pay) }
 
@@ -136,10 +141,19 @@ module _ {m : Machine} {st e d c l : List ℕ} {μ : Floo.Machine} (R : Rep m st
       (length-set (elementsOf (objectAt store (w .ρ h))) q v) i refl
       ∙ many i t p y
 
+  -- A cell of a body is no header.
+  marked : Sealed (next .ρ) (next .ghost) c₃ store′ (μ .readOnly)
+  marked =
+      sealed-kept marks (omega (arith, length-set store (w .ρ h) (changed (w .ρ h))))
+      (λ y l. (
+        l,
+        P₂ .there y 1 (omega arith) (λ e _. live-on (sym l ∙ ap (w .ghost .own) e ∙ at .cell)) ∙ P₁ .there y 1 (omega arith) (λ _ e. omega arith),
+      ))
+
   element-rep : (R′ : Rep (withDepth (m .depth) s m) st e d c₃ l (withStore (set store id (changed id)) μ)) × (R′ .world ≡ next)
   element-rep =
       subst (λ i. (R′ : Rep (withDepth (m .depth) s m) st e d c₃ l (withStore (set store i (changed i)) μ)) × (R′ .world ≡ next)) same
-      (restored-in R next store′ stored (λ v t p _ y. carried v t p y) lengths (λ i t p a r _ _ own. keeps a p r own))
+      (restored-in R next store′ stored (λ v t p _ y. carried v t p y) lengths (λ i t p a r _ _ own. keeps a p r own) marked)
 
 -- ---- a value that names no object
 
@@ -151,7 +165,7 @@ plain-sets {c} {tag} {pay} {cs} plain P₁ P₂ =
           let H = R .stored in
           let F = subst (λ y. Full (R .world .ghost) (cells cs + rootCount) y (m .lists) cs) (sym (parts.no-object 0 tag pay refl plain)) (H .full) in
           let X = element-rep R (R .world) (μ .store) tag pay v F refl (H .objects) (H .none-dead) (H .none-out) (λ v t p i. i) (λ i t p _. refl) (λ x h k o. o)
-          c h k id q at empty new (λ low. absurd (omega (arith, plain))) P₁ P₂ in
+          c h k id q at empty new (λ low. absurd (omega (arith, plain))) P₁ P₂ (R .sealed) in
           (X .0, subst (Grown (R .world)) (sym (X .1)) (record { lives = λ h l. (l, refl); keeps = λ x h k _ o. o }));
     }
 
@@ -206,7 +220,7 @@ module _ {m : Machine} {st e d c l : List ℕ} {μ : Floo.Machine} (R : Rep m st
       let F = subst (λ y. Full (A .ghost) (cells c + rootCount) y s c₁) (sym (parts.object 0 t x refl names)) (A .full) in
       let X = element-rep R w (μ .store ++ (o ∷ [])) t x v F (A .grows .long) (A .rep) z (A .whole (R .stored .none-out))
       (carry-added R x o A fresh) (long-added R x o A fresh) (λ y h k own. A .grows .keeps y h k own .0)
-      cell h k id q still (ap (λ o. getD (elementsOf o) q null) stays ∙ empty) new (λ _. A .lives) P₁ P₂ in (
+      cell h k id q still (ap (λ o. getD (elementsOf o) q null) stays ∙ empty) new (λ _. A .lives) P₁ P₂ (sealed-added R x o A fresh) in (
         X .0,
         subst (Grown (R .world)) (sym (X .1)) (record { lives = grown .lives; keeps = grown .keeps }),
         subst (λ (w : World). w .ghost .own x ≡ live) (sym (X .1)) (A .lives),
@@ -214,40 +228,64 @@ module _ {m : Machine} {st e d c l : List ℕ} {μ : Floo.Machine} (R : Rep m st
         ap isText (new-object (μ .store) o id low (elements (set (elementsOf (objectAt (μ .store ++ (o ∷ [])) id)) q v))),
       )
 
-module _ {m : Machine} {n x cell : ℕ} {cs c₁ c₂ c₃ : List ℕ} {s : Lists} (z : s .dead ≡ m .lists .dead) (P₂ : Put c₂ cell 1 x c₃) where
-  pub array-sets : Made 0 n x (m .lists) cs s c₁ → Put c₁ cell 0 10 c₂ → SetsArray cell n m cs (withDepth (m .depth) s m) x c₃
-  unfolding arraySet made
+  -- Then it gets the mark.
+  made-marked : {c₄ : List ℕ} → Seals c₃ x c₄
+      → (R′ : Rep (withDepth (m .depth) s m) st e d c₄ l (protect (length (μ .store)) (elementSet id q v (make o μ)))) × Grown (R .world) (R′ .world)
+      × (R′ .world .ghost .own x ≡ live) × (R′ .world .ρ x ≡ length (μ .store))
+      × (isText (objectAt (elementSet id q v (make o μ) .store) (length (μ .store))) ≡ isText o)
+  made-marked K =
+      let X = made-sets in
+      let Y = marked-in (X .0) x (length (μ .store)) (X .2) (X .3) K in
+      let back = sym (Y .1) in (
+        Y .0,
+        subst (Grown (R .world)) back (X .1),
+        subst (λ (w : World). w .ghost .own x ≡ live) back (X .2),
+        subst (λ (w : World). w .ρ x ≡ length (μ .store)) back (X .3),
+        X .4,
+      )
+
+module _ {m : Machine} {n x cell : ℕ} {cs c₁ c₂ c₃ c₄ : List ℕ} {s : Lists} (z : s .dead ≡ m .lists .dead) (P₂ : Put c₂ cell 1 x c₃) (K : Seals c₃ x c₄) where
+  pub array-sets : Made 0 n x (m .lists) cs s c₁ → Put c₁ cell 0 10 c₂ → SetsArray cell n m cs (withDepth (m .depth) s m) x c₄
+  unfolding arraySet made protect withReadOnly
   array-sets M P₁ =
       record {
         sets = λ {μ = μ} R h k id q at empty.
             let H = R .stored in
-            let X = made-sets R x (elements (replicate n null)) (rep-array (H .full) (H .objects) refl x n M) (M _ _ (H .full) .6) (z ∙ H .none-dead)
+            let X = made-marked R x (elements (replicate n null)) (rep-array (H .full) (H .objects) refl x n M) (M _ _ (H .full) .6) (z ∙ H .none-dead)
             (array true (length (μ .store))) 10 (omega arith) (new-procedure (R .world .ρ) (μ .store) x (replicate n null))
-            cell h k id q at empty P₁ P₂ in
+            cell h k id q at empty P₁ P₂ K in
             (X .0, X .1, record { lives = X .2; stands = X .3; kind = X .4 });
       }
 
-  pub string-sets : Made (n + 1) ((n + 7) / 8) x (m .lists) cs s c₁ → Put c₁ cell 0 8 c₂ → SetsString cell n m cs (withDepth (m .depth) s m) x c₃
-  unfolding stringSet made
+  pub string-sets : Made (n + 1) ((n + 7) / 8) x (m .lists) cs s c₁ → Put c₁ cell 0 8 c₂ → SetsString cell n m cs (withDepth (m .depth) s m) x c₄
+  unfolding stringSet made protect withReadOnly
   string-sets M P₁ =
       let N = subst (λ kind. Made kind ((n + 7) / 8) x (m .lists) cs s c₁) (add-one n) M in
       record {
         sets = λ {μ = μ} R h k id q at empty.
             let H = R .stored in
-            let X = made-sets R x (text (replicate n 0)) (rep-string (H .full) (H .objects) refl x n N) (N _ _ (H .full) .6) (z ∙ H .none-dead)
+            let X = made-marked R x (text (replicate n 0)) (rep-string (H .full) (H .objects) refl x n N) (N _ _ (H .full) .6) (z ∙ H .none-dead)
             (string (length (μ .store))) 8 (omega arith) (new-string (R .world .ρ) (μ .store) x (replicate n 0))
-            cell h k id q at empty P₁ P₂ in
+            cell h k id q at empty P₁ P₂ K in
             (X .0, X .1, record { lives = X .2; stands = X .3; kind = X .4 });
       }
 
 -- ---- room
 
+-- The new header is inside.
+pub made-inside : {m : Machine} {st e d c l : List ℕ} {μ : Floo.Machine} → Rep m st e d c l μ
+    → {kind n x : ℕ} {s : Lists} {c₁ : List ℕ}
+    → Made kind n x (m .lists) c s c₁
+    → x * 4 + 4 ≤ length c₁
+made-inside R {x = x} M = let X = M _ _ (R .stored .full) in room (X .1 .heap .shape) x (X .3) refl
+
 -- What is left of the free cells.
 pub cells-left : {m : Machine} {st e d c l : List ℕ} {μ : Floo.Machine} → Rep m st e d c l μ
-    → {kind n x cell t y : ℕ} {s : Lists} {c₁ c₂ c₃ : List ℕ}
+    → {kind n x cell t y : ℕ} {s : Lists} {c₁ c₂ c₃ c₄ : List ℕ}
     → Made kind n x (m .lists) c s c₁
     → s .listed + m .lists .edge + n + 1 ≡ m .lists .listed + s .edge
     → Put c₁ cell 0 t c₂
     → Put c₂ cell 1 y c₃
-    → s .listed + (cells c₃ - s .edge) + (n + 1) ≡ freeCells m c
-cells-left R M e P₁ P₂ = omega (arith, cells-used R M e, P₁ .size, P₂ .size)
+    → Seals c₃ x c₄
+    → s .listed + (cells c₄ - s .edge) + (n + 1) ≡ freeCells m c
+cells-left R M e P₁ P₂ K = omega (arith, cells-used R M e, P₁ .size, P₂ .size, K .size)

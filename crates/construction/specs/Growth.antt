@@ -7,7 +7,7 @@ use Prim.Native.Nat.{ℕ, suc, _+_, _≤_, _<_}
 use lib.ListN.{length, set, replicate}
 use Rattle.semantics.specs.Values.{Value, null, string, array, Object, elements, text}
 use Rattle.semantics.specs.Machine as Floo
-use Rattle.semantics.specs.Machine.{object, elementsOf, make, made, change}
+use Rattle.semantics.specs.Machine.{object, elementsOf, make, made, change, protect}
 use Rattle.heap.specs.Chain.{live, on}
 use Rattle.store.specs.Rep.{isText, Stands, objectAt, element}
 use Rattle.machine.specs.Places.{keys, texts}
@@ -46,13 +46,13 @@ pub record ElementAt (w : World) (store : List Object) (c h k id q : ℕ) : Type
 unfoldable pub elementSet : ℕ → ℕ → Value → Floo.Machine → Floo.Machine
 elementSet id q v μ = change id (elements (set (elementsOf (object μ id)) q v)) μ
 
--- It becomes a new procedure of n nulls;
+-- It becomes a new procedure of n nulls, which is read only;
 unfoldable pub arraySet : ℕ → ℕ → ℕ → Floo.Machine → Floo.Machine
-arraySet id q n μ = elementSet id q (array true (made μ)) (make (elements (replicate n null)) μ)
+arraySet id q n μ = protect (made μ) (elementSet id q (array true (made μ)) (make (elements (replicate n null)) μ))
 
--- a new string of n zeros.
+-- a new string of n zeros, which is too.
 unfoldable pub stringSet : ℕ → ℕ → ℕ → Floo.Machine → Floo.Machine
-stringSet id q n μ = elementSet id q (string (made μ)) (make (text (replicate n 0)) μ)
+stringSet id q n μ = protect (made μ) (elementSet id q (string (made μ)) (make (text (replicate n 0)) μ))
 
 -- The element that cell c is, null before, becomes the value that tag and pay stand for, in a world that has only grown.
 pub record SetsPlain (c tag pay : ℕ) (cs cs′ : List ℕ) : Type 0 where

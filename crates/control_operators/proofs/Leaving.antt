@@ -55,6 +55,7 @@ halt-rep {μ = μ} R =
       frames = R .frames;
       slots = R .slots;
       handled = R .handled;
+      sealed = R .sealed;
       naming = R .naming;
       logging = R .logging;
       stopped = refl;

@@ -10,14 +10,14 @@ use borrow.Author.Tests.{le-leb, lt-leb}
 use lib.Dec.{leb, eqb}
 use lib.ListN.{length, getD, set, take, drop, length-set}
 use Rattle.semantics.specs.Text.{bytes, textual}
-use Rattle.semantics.specs.Values.{Value, integer, boolean, null, mark, operator, name, string, array, text, Result, ok, fault, _>>=_, check, stringId, current}
+use Rattle.semantics.specs.Values.{Value, integer, boolean, null, mark, operator, name, string, array, text, Result, ok, fault, _>>=_, check, stringId, objectId, current}
 use Rattle.semantics.specs.Machine as Floo
-use Rattle.semantics.specs.Machine.{withStack, withStore, push, object, bytesOf, change}
+use Rattle.semantics.specs.Machine.{withStack, withStore, push, object, bytesOf, change, writable}
 use Rattle.semantics.specs.Printing.{stringval}
 use Rattle.semantics.specs.TextOperators.{overwrite, cvs}
 use Rattle.semantics.specs.Operators.{perform, find, table, _is_}
 use Rattle.semantics.specs.Steps.{roomFor}
-use Rattle.semantics.specs.declared.Error.the-variants.{StackUnderflow, TypeCheck, RangeCheck}
+use Rattle.semantics.specs.declared.Error.the-variants.{StackUnderflow, TypeCheck, InvalidAccess, RangeCheck}
 use Rattle.machine.specs.Words.{itemTag, itemPayload}
 use Rattle.machine.specs.Rep.{Rep, Answer, Somewhere, MovesHeap}
 use Rattle.machine.specs.Room.{lent, fitted, DoesHeap}
@@ -28,8 +28,9 @@ use Rattle.machine.specs.declared.Did.the-variants.{Ok, Fail}
 use Rattle.machine.proofs.Copying.{word-of}
 use Rattle.machine.proofs.Operands.{pop2-some, pop2-under}
 use Rattle.machine.proofs.Outcomes.{KeepsStore, stack-depth, fails-heap, moves-heap, then-heap, elsewhere, two-items}
-use Rattle.elements.specs.Elements.{tagOf, named, itemId, HasString, ItemTag, StringSize, SomewhereThat, bytePut}
+use Rattle.elements.specs.Elements.{tagOf, named, itemId, HasString, ItemTag, ItemSealed, StringSize, SomewhereThat, bytePut}
 use Rattle.elements.proofs.Strings.{string-id}
+use Rattle.elements.proofs.Marking.{item-writable, item-refused}
 use Rattle.elements.proofs.Tags.{tag-string, string-tagged, tag-no-string}
 use Rattle.strings.specs.Strings.{HasBytes, Copies, CurrentSize, pasted, bytesCopied, bytesFilled}
 use Rattle.strings.proofs.Parts.{Part, part-too, put-changed}
@@ -69,12 +70,19 @@ take-current (b ∷ l) = by (eqb b 0) (take-current l)
 
 -- ---- the definition's cvs
 
--- What is left to do with a text, after the pops.
-abbrev after : List ℕ → Value → Floo.Machine → Result Floo.Machine
-after t y τ =
-    stringId y >>= λ i.
+-- What is left to do with a text once the string is known,
+abbrev filling : List ℕ → Value → Floo.Machine → ℕ → Result Floo.Machine
+filling t y τ i =
     check (leb (length t) (length (bytesOf (object τ i)))) RangeCheck >>= λ u.
     ok (push y (change i (text (overwrite t (bytesOf (object τ i)))) τ))
+
+-- after the pops,
+abbrev after : List ℕ → Value → Floo.Machine → Result Floo.Machine
+after t y τ = stringId y >>= λ i. filling t y τ i
+
+-- and with the test of the mark.
+abbrev guarded : List ℕ → Value → Floo.Machine → Result Floo.Machine
+guarded t y τ = stringId y >>= λ i. writable i τ >>= λ w. filling t y τ i
 
 cvs-is : (μ : Floo.Machine) → op μ ≡ cvs μ
 unfolding textual perform find table _is_
@@ -82,7 +90,7 @@ cvs-is μ = refl
 
 cvs-under : (μ : Floo.Machine) → length (μ .stack) < 2 → op μ ≡ fault StackUnderflow
 unfolding cvs _>>=_
-cvs-under μ h = cvs-is μ ∙ ap (λ r. r >>= λ p. after (stringval (p .2) (p .0)) (p .1) (p .2)) (pop2-under μ h)
+cvs-under μ h = cvs-is μ ∙ ap (λ r. r >>= λ p. guarded (stringval (p .2) (p .0)) (p .1) (p .2)) (pop2-under μ h)
 
 same-text : (μ : Floo.Machine) (rest : List Value) (x : Value) → stringval (withStack rest μ) x ≡ stringval μ x
 unfolding stringval object withStack
@@ -96,19 +104,31 @@ same-text μ rest (string i) = refl
 same-text μ rest (array x i) = refl
 
 module _ (μ : Floo.Machine) {x y : Value} {rest : List Value} (split : μ .stack ≡ y ∷ x ∷ rest) where
-  cvs-after : op μ ≡ after (stringval (withStack rest μ) x) y (withStack rest μ)
+  cvs-after : op μ ≡ guarded (stringval (withStack rest μ) x) y (withStack rest μ)
   unfolding cvs _>>=_
-  cvs-after = cvs-is μ ∙ ap (λ r. r >>= λ p. after (stringval (p .2) (p .0)) (p .1) (p .2)) (pop2-some μ split)
+  cvs-after = cvs-is μ ∙ ap (λ r. r >>= λ p. guarded (stringval (p .2) (p .0)) (p .1) (p .2)) (pop2-some μ split)
 
   converted-after : (t : List ℕ) → converted t μ ≡ after t y (withStack rest μ)
   unfolding converted _>>=_
   converted-after t = ap (λ r. r >>= λ p. after t (p .1) (p .2)) (pop2-some μ split)
 
-  cvs-converted : op μ ≡ converted (stringval μ x) μ
-  cvs-converted =
-      cvs-after
-      ∙ ap (λ (t : List ℕ). after t y (withStack rest μ)) (same-text μ rest x)
-      ∙ sym (converted-after (stringval μ x))
+  module _ {id : ℕ} (target : y ≡ string id) where
+    cvs-refused : writable id (withStack rest μ) ≡ fault InvalidAccess → op μ ≡ fault InvalidAccess
+    unfolding _>>=_ stringId
+    cvs-refused q =
+        let τ = withStack rest μ in
+        let t = stringval τ x in
+        cvs-after ∙ ap (λ (v : Value). guarded t v τ) target ∙ ap (λ r. r >>= λ w. filling t (string id) τ id) q
+
+    cvs-converted : writable id (withStack rest μ) ≡ ok tt → op μ ≡ converted (stringval μ x) μ
+    unfolding _>>=_ stringId
+    cvs-converted q =
+        let τ = withStack rest μ in
+        cvs-after
+        ∙ ap (λ (t : List ℕ). guarded t y τ) (same-text μ rest x)
+        ∙ ap (λ (v : Value). guarded (stringval μ x) v τ) target
+        ∙ ap (λ r. r >>= λ w. filling (stringval μ x) (string id) τ id) q
+        ∙ sym (converted-after (stringval μ x) ∙ ap (λ (v : Value). after (stringval μ x) v τ) target)
 
   cvs-type : stringId y ≡ fault TypeCheck → op μ ≡ fault TypeCheck
   unfolding _>>=_
@@ -116,7 +136,7 @@ module _ (μ : Floo.Machine) {x y : Value} {rest : List Value} (split : μ .stac
       let τ = withStack rest μ in
       let t = stringval τ x in
       cvs-after
-      ∙ ap (λ r. r >>= λ i. check (leb (length t) (length (bytesOf (object τ i)))) RangeCheck >>= λ u. ok (push y (change i (text (overwrite t (bytesOf (object τ i)))) τ))) q
+      ∙ ap (λ r. r >>= λ i. writable i τ >>= λ w. filling t y τ i) q
 
 -- ---- into a string
 
@@ -158,6 +178,20 @@ record Target (μ : Floo.Machine) : Type 0 where
   rest : List Value
   split : μ .stack ≡ string id ∷ x ∷ rest
   made : id < length (μ .store)
+
+-- Its mark.
+module _ {m : Machine} {s c : List ℕ} {y : Bool} (M : ItemSealed 0 m s c y) {e d l : List ℕ} {μ : Floo.Machine} (R : Rep m s e d c l μ) (T : Target μ) where
+  target-named : objectId (getD (μ .stack) 0 null) ≡ ok (T .id)
+  unfolding objectId
+  target-named = ap (λ (r : List Value). objectId (getD r 0 null)) (T .split)
+
+  target-open : y ≡ false → writable (T .id) (withStack (T .rest) μ) ≡ ok tt
+  unfolding withStack
+  target-open q = item-writable M R target-named (withStack (T .rest) μ) refl q
+
+  target-locked : y ≡ true → writable (T .id) (withStack (T .rest) μ) ≡ fault InvalidAccess
+  unfolding withStack
+  target-locked q = item-refused M R target-named (withStack (T .rest) μ) refl q
 
 ended-store : (n : ℕ) → KeepsStore (ended n)
 unfolding ended dropped swapped bytePut change withStore withStack
@@ -228,7 +262,7 @@ module _ {m : Machine} {s : List ℕ} (deep : 2 ≤ m .depth) (Y : ItemTag 0 m s
 
     -- ---- a string
 
-    module _ (W : SomewhereThat (HasString 1) m s c) {n : ℕ} (N : CurrentSize 1 m s c n) where
+    module _ (W : SomewhereThat (HasString 1) m s c) {n : ℕ} (N : CurrentSize 1 m s c n) (M : ItemSealed 0 m s c false) where
       source : {e d l : List ℕ} {μ : Floo.Machine} → Rep m s e d c l μ → Part 1 0 0 μ
       source R = part-too (W .4) 1 0 0 (omega (arith, deep)) (record { string = W .5; inside = omega arith }) R
 
@@ -241,7 +275,7 @@ module _ {m : Machine} {s : List ℕ} (deep : 2 ≤ m .depth) (Y : ItemTag 0 m s
         string-converted =
             let T = target R in
             let x : T .x ≡ string (itemId 1 μ) = sym (ap (λ (r : List Value). getD r 1 null) (T .split)) ∙ source R .item in
-            cvs-converted μ (T .split) ∙ ap (λ (v : Value). converted (stringval μ v) μ) x
+            cvs-converted μ (T .split) refl (target-open M R T refl) ∙ ap (λ (v : Value). converted (stringval μ v) μ) x
 
         copied-filled : bytesCopied 0 0 1 0 n μ ≡ bytesFilled 0 (current (bytesOf (object μ (itemId 1 μ)))) μ
         unfolding bytesCopied bytesFilled pasted
@@ -315,6 +349,9 @@ cvs-string r D = alike r (λ e l μ R. refl) D
 pub cvs-tagged : {m : Machine} {s : List ℕ} {t : ℕ} → ItemTag 0 m s t → t ≡ 8 → ItemTag 0 m s 8
 cvs-tagged {m} {s} Y q = subst (ItemTag 0 m s) q Y
 
+pub cvs-plain : {m : Machine} {s c : List ℕ} {y : Bool} → ItemSealed 0 m s c y → y ≡ false → ItemSealed 0 m s c false
+cvs-plain {m} {s} {c} M q = subst (ItemSealed 0 m s c) q M
+
 module _ {m : Machine} {s d c : List ℕ} where
   pub cvs-short : m .depth < 2 → DoesNamedHeap op m s s d c c (Fail StackUnderflow)
   cvs-short h = cvs-string (Fail StackUnderflow) (fails-heap (λ e d l μ R. cvs-under μ (omega (arith, h, stack-depth R))))
@@ -348,19 +385,29 @@ module _ {m : Machine} {s d c : List ℕ} where
           words = word-of R 1 (m .depth - 2) (omega (arith, deep));
         }
 
+    module _ {t : ℕ} (Y : ItemTag 0 m s t) (eight : t ≡ 8) {y : Bool} (M : ItemSealed 0 m s c y) where
+      pub cvs-locked : y ≡ true → DoesNamedHeap op m s s d c c (Fail InvalidAccess)
+      cvs-locked q =
+          cvs-string (Fail InvalidAccess)
+          (fails-heap (λ e d l μ R.
+          let T = target deep (cvs-tagged Y eight) R in
+          cvs-refused μ (T .split) refl (target-locked M R T q)))
+
     pub cvs-good : {n : ℕ} {out : List ℕ}
+        → ItemTag 0 m s 8
+        → ItemSealed 0 m s c false
         → TextOf d (itemTag s (m .depth - 2)) (itemPayload s (m .depth - 2)) out n
         → {s′ c′ : List ℕ} (r : Did)
         → DoesHeap (converted (take (n - 0) out)) m s s′ c c′ r
         → DoesNamedHeap op m s s′ d c c′ r
-    cvs-good {n} {out} T r D =
+    cvs-good {n} {out} Y M T r D =
         alike r
         (λ e l μ R.
-        let x = two-items (μ .stack) (omega (arith, deep, stack-depth R)) in
+        let x = target deep Y R in
         let all : n - 0 ≡ n = omega arith in
-        let second = ap (λ (r : List Value). getD r 1 null) (x .3) in
+        let second = ap (λ (r : List Value). getD r 1 null) (x .split) in
         ap (λ k. converted (take k out) μ) all
         ∙ ap (λ (t : List ℕ). converted t μ) (T .says m s e c l μ R (getD (μ .stack) 1 null) (word-of R 1 (m .depth - 2) (omega (arith, deep))))
         ∙ ap (λ (v : Value). converted (stringval μ v) μ) second
-        ∙ sym (cvs-converted μ (x .3)))
+        ∙ sym (cvs-converted μ (x .split) refl (target-open M R x refl)))
         D

@@ -1,6 +1,7 @@
 // The operator cvs: the text of a value goes into a string. It does exactly what the definition's operator does and then the definition's test of room, errors
 // and their order included. Nothing is changed before the last check.
 ghost use mathlib.Core.Path.{_≡_};
+ghost use mathlib.Core.Bool.{false};
 ghost use Prim.Native.Nat.{_≤_, _<_};
 ghost use lib.ListN.{length};
 ghost use Rattle.semantics.specs.Sizes.{nameMost};
@@ -8,7 +9,7 @@ ghost use Rattle.semantics.specs.Text.{bytes};
 ghost use Rattle.semantics.specs.Operators.{perform};
 ghost use Rattle.machine.specs.Rep.{Somewhere, MovesHeap};
 ghost use Rattle.machine.specs.Room.{DoesHeap};
-ghost use Rattle.elements.specs.Elements.{HasString, ItemTag, SomewhereThat, bytePut};
+ghost use Rattle.elements.specs.Elements.{HasString, ItemTag, ItemSealed, SomewhereThat, bytePut};
 ghost use Rattle.strings.specs.Strings.{HasBytes, bytesFilled};
 ghost use Rattle.names.specs.Names.{Named};
 ghost use Rattle.conversions.specs.Texts.{SomewhereNamed, DoesNamedHeap, converted, ended, Known, TextOf, NameRead};
@@ -24,7 +25,7 @@ use semantics::Error;
 use semantics::NAME_MOST;
 use semantics::STACK_WIDTH;
 
-// Ruled out: rangecheck where the text fills the string exactly; bytes after the text and its zero that are lost.
+// Ruled out: rangecheck where the text fills the string exactly, or where the string is read only; bytes after the text and its zero that are lost.
 pub fn cvs(m: Machine, stack: &mut [u32], dict: &[u32], cells: &mut [u32]) -> Did
     requires { ⌜ SomewhereNamed m (now stack) (now dict) (now cells) ⌝ }
     ensures { λ r. ⌜ DoesNamedHeap (perform (bytes "cvs")) m (now (stack .entry)) (now (stack .exit)) (now (dict .entry)) (now (cells .entry)) (now (cells .exit)) r ⌝ }
@@ -34,6 +35,9 @@ pub fn cvs(m: Machine, stack: &mut [u32], dict: &[u32], cells: &mut [u32]) -> Di
     }
     if elements::tag_of(m, stack, 0) != TAG_STRING {
         return Did::Fail(Error::TypeCheck);
+    }
+    if elements::is_sealed(m, stack, cells, 0) {
+        return Did::Fail(Error::InvalidAccess);
     }
     let k = m.depth - 2;
     let tag = stack[STACK_WIDTH * k];
@@ -48,7 +52,7 @@ pub fn cvs(m: Machine, stack: &mut [u32], dict: &[u32], cells: &mut [u32]) -> Di
 
 // cvs of a string. Both operands may be one string.
 fn convert_string(m: Machine, stack: &mut [u32], cells: &mut [u32]) -> Did
-    requires { ⌜ (2 ≤ m .depth) × ItemTag 0 m (now stack) 8 × SomewhereThat (HasString 1) m (now stack) (now cells) ⌝ }
+    requires { ⌜ (2 ≤ m .depth) × ItemTag 0 m (now stack) 8 × ItemSealed 0 m (now stack) (now cells) false × SomewhereThat (HasString 1) m (now stack) (now cells) ⌝ }
     ensures { λ r. ⌜ DoesHeap (perform (bytes "cvs")) m (now (stack .entry)) (now (stack .exit)) (now (cells .entry)) (now (cells .exit)) r ⌝ }
 {
     let n = strings::current_length(m, stack, cells, 1);

@@ -49,6 +49,7 @@ kept-rep {m} R fits few K =
       frames = R .frames;
       slots = slots-frame (λ j l. K .below j (omega (arith, R .naming .many))) (R .slots);
       handled = handled-kept _ _ (λ i a b. K .below i (omega (arith, names-enough R))) (λ k n q. q) (R .handled);
+      sealed = R .sealed;
       naming = R .naming;
       logging = R .logging;
       stopped = R .stopped;
@@ -190,6 +191,7 @@ module _ {m : Machine} {s e d c l : List ℕ} {μ : Floo.Machine} (R : Rep m s e
         frames = frames-map carry (λ i t p w. refl) (λ i t p a r q h o. o) (all-of (λ f. anything (frameValue f)) (μ .exec)) (R .frames);
         slots = slots-new;
         handled = handled-new;
+        sealed = R .sealed;
         naming = record {
           many = omega (arith, R .naming .many, length-append (μ .dictionary) (unbound ∷ []));
           titled = ap (take operatorCount) more ∙ take-more operatorCount (keys μ) (n ∷ []) (keys-enough R) ∙ R .naming .titled;

@@ -4,5 +4,6 @@ pub mod Putting
 pub mod Strings
 pub mod Units
 pub mod Making
+pub mod Marking
 pub mod Tags
 pub mod Vacancy

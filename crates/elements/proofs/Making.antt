@@ -23,10 +23,11 @@ use Rattle.heap.proofs.Parts as parts
 use Rattle.heap.proofs.Shapes.{list-le}
 use Rattle.heap.proofs.Since.{lt-or-le}
 use Rattle.store.specs.Rep as Store
-use Rattle.store.specs.Rep.{isText, Stands, Names, objectAt}
+use Rattle.store.specs.Rep.{isText, Stands, Names, objectAt, Sealed}
 use Rattle.store.proofs.Standing.{names-stands, kind-at}
 use Rattle.store.proofs.Rooting.{root-placed, rep-alike}
 use Rattle.store.proofs.Fresh.{Adds, rep-array, rep-string, stands-made, new-array, new-string}
+use Rattle.store.proofs.Sealing.{sealed-new}
 use Rattle.machine.specs.Words.{itemTag, itemPayload}
 use Rattle.machine.specs.Places.{Nameless, rootCount, roots, keys}
 use Rattle.machine.specs.Rep.{Rep, World, Stored, Is, IsIn, Items, bottom, item, MovesHeap}
@@ -81,6 +82,10 @@ module _ {m : Machine} {st e d c l : List ℕ} {μ : Floo.Machine} (R : Rep m st
         stands = stands-made (R .world .ghost) (μ .store) o x fresh (h .alive) (h .stands);
         alive = λ l. A .grows .lives p (λ q. fresh (subst (λ y. R .world .ghost .own y ≡ live) q (h .alive l))) (h .alive l) .0;
       }
+
+  -- objects have the marks that they had, the new one none,
+  pub sealed-added : Sealed (added .ρ) (added .ghost) c′ (μ .store ++ (o ∷ [])) (μ .readOnly)
+  sealed-added = sealed-new A fresh (R .sealed)
 
   -- and procedures have their lengths.
   pub long-added : (j t p : ℕ)
@@ -149,8 +154,12 @@ module _ {m : Machine} {st e d c l : List ℕ} {μ : Floo.Machine} (R : Rep m st
       let st′ = set (set st (2 * k) t) (2 * k + 1) x in
       let room : 2 * k + 2 ≤ length st = omega (arith, R .rooms .stack-fits) in
       let here : Is world (keys μ) (map isText store) v t x = record { stands = new; alive = λ _. A .lives } in
+      let marks = sealed-added R x o A fresh in
       let words : Is world (keys μ) (map isText store) v (itemTag st′ k) (itemPayload st′ k) = rw (two-first st k t x room, two-second st k t x room) here in
-      rehoused R world stack store stored (λ v t p _ h. carry v t p h) (long-added R x o A fresh) (λ i t p a r _ _ own. A .grows .keeps a p r own .0) st′ (m .depth)
+      rehoused R world stack store stored (λ v t p _ h. carry v t p h) (long-added R x o A fresh) (λ i t p a r _ _ own. A .grows .keeps a p r own .0)
+      (record { marks = marks .marks; made = marks .made })
+      st′
+      (m .depth)
       (two-length st k t x room)
       (R .rooms .stack-fits)
       (items-set (items-lift carry (R .items)) i k h words (two-others st k t x room))

@@ -5,24 +5,28 @@ use mathlib.Core.Path.{_≡_, refl, sym, ap, _∙_, subst}
 use mathlib.Core.Bool.{true}
 use mathlib.Core.List.{List, [], map}
 use Prim.Native.Nat.{ℕ, suc, _+_, _/_}
+use native.Mathlib.Omega.{arith}
 use lib.ListN.{length, set, length-set}
 use lib.Seq.{map-set-same}
 use Rattle.semantics.specs.Values.{Value, array, Object, elements}
 use Rattle.semantics.specs.Machine as Floo
 use Rattle.semantics.specs.Machine.{withStore, object, elementsOf, change}
+use Rattle.heap.specs.Word.{word}
 use Rattle.heap.specs.Chain.{live, on}
 use Rattle.heap.specs.Shape.{Ghost, Full, NoOut, cells, target}
 use Rattle.heap.specs.Gone.{Since}
 use Rattle.heap.specs.Assign.{aimed, Assigned, Target}
 use Rattle.heap.specs.declared.Lists.{Lists}
+use Rattle.heap.proofs.Chains.{live-on}
 use Rattle.heap.proofs.Since.{begins}
 use Rattle.store.specs.Rep as Store
-use Rattle.store.specs.Rep.{isText, Stands, Names, by-array, Alive, objectAt}
+use Rattle.store.specs.Rep.{isText, Stands, Names, by-array, Alive, Sealed, objectAt}
 use Rattle.store.proofs.Standing.{stands-names, names-stands}
 use Rattle.store.proofs.Deaths.{rep-since}
 use Rattle.store.proofs.Rooting.{rep-alike}
 use Rattle.store.proofs.Changes.{at-set}
 use Rattle.store.proofs.Elements.{rep-assign}
+use Rattle.store.proofs.Sealing.{sealed-kept}
 use Rattle.machine.specs.Words.{itemTag, itemPayload}
 use Rattle.machine.specs.Places.{rootCount, roots, keys}
 use Rattle.machine.specs.Rep.{Rep, World, Stored, Is, IsIn, MovesHeap}
@@ -68,6 +72,7 @@ module _ {m : Machine} {st e d c l : List ℕ} {μ : Floo.Machine} (R : Rep m st
       pub full : Full ghost (cells c + rootCount) 0 s c′
       pub since : Since (cells c + rootCount) (aimed (R .world .ghost) cell (target 0 tag pay)) middle ghost c′
       pub whole : NoOut ghost
+      pub heads : (x : ℕ) → R .world .ghost .own x ≡ live → word middle x 1 ≡ word c x 1
       pub rep : Store.Rep (keys μ) rootCount (R .world .ρ) ghost c′ store (roots μ)
 
     put : Put
@@ -87,6 +92,7 @@ module _ {m : Machine} {st e d c l : List ℕ} {μ : Floo.Machine} (R : Rep m st
           full = X .4;
           since = since;
           whole = X .6 (H .none-out);
+          heads = λ x l. X .3 .there x 1 (omega arith) (λ e. omega arith) (λ e. absurd (live-on (sym l ∙ ap (R .world .ghost .own) e ∙ oc)));
           rep = rep-since (X .2 .heap .shape) (X .2 .counts) rep near since;
         }
 
@@ -123,6 +129,11 @@ module _ {m : Machine} {st e d c l : List ℕ} {μ : Floo.Machine} (R : Rep m st
         → put .ghost .own a ≡ on (p + 2) r
     stays i t p a r q h o = put .since .kept a p r o (carry (array true i) t p q h .alive (stands-names (h .stands) by-array .0))
 
+    marked : Sealed (R .world .ρ) (put .ghost) c′ store (μ .readOnly)
+    marked =
+        sealed-kept (R .sealed) (omega (arith, length-set (μ .store) (R .world .ρ head) (changed (R .world .ρ head))))
+        (λ x l. let y = put .since .alive x l in (y .0, y .3 ∙ put .heads x (y .0)))
+
     long : (x : ℕ) → length (elementsOf (objectAt store x)) ≡ length (elementsOf (objectAt (μ .store) x))
     unfolding elementsOf
     long x =
@@ -134,7 +145,7 @@ module _ {m : Machine} {st e d c l : List ℕ} {μ : Floo.Machine} (R : Rep m st
     unfolding change object
     value-put =
         subst (λ id. Rep (withDepth (m .depth) s m) st e d c′ l (withStore (set (μ .store) id (changed id)) μ)) (here R i k q h b .stands)
-        (restored R next store stored carry (λ x t p _. long x) stays)
+        (restored R next store stored carry (λ x t p _. long x) stays marked)
 
 -- The value is a copy of item j.
 module _ {m : Machine} {st e d c l : List ℕ} {μ : Floo.Machine} (R : Rep m st e d c l μ) (i k q : ℕ) (h : m .depth ≡ k + suc i) (b : HasElement i q μ) (cell : ℕ)

@@ -6,7 +6,7 @@ use mathlib.Core.List.{List, [], map}
 use mathlib.Core.Option.{some}
 use Prim.Native.Nat.{ℕ, suc, _+_, _-_, _*_, _/_, _%_, _≤_, _<_}
 use native.Mathlib.Omega.{arith}
-use lib.ListN.{length, getD, set, getElem?}
+use lib.ListN.{length, getD, set, getElem?, length-set}
 use lib.Seq.{map-set-same}
 use Rattle.semantics.specs.Values.{Value, null, string, Object, elements, text}
 use Rattle.semantics.specs.Machine as Floo
@@ -15,13 +15,15 @@ use Rattle.heap.specs.Word.{word, Put}
 use Rattle.heap.specs.Chain.{live, on}
 use Rattle.heap.specs.Shape.{Full}
 use Rattle.heap.specs.declared.Lists.{Lists}
+use Rattle.heap.proofs.Chains.{live-on}
 use Rattle.heap.proofs.Shapes.{room}
-use Rattle.store.specs.Rep.{isText, Stands, a-string, by-string, byteOf, withByte, objectAt, Names}
+use Rattle.store.specs.Rep.{isText, Stands, a-string, by-string, byteOf, withByte, objectAt, Names, Sealed}
 use Rattle.store.proofs.Standing.{stands-names, is-string, kind-at, text-is}
 use Rattle.store.proofs.Sorts.{text-word, word-text}
 use Rattle.store.proofs.Changes.{at-set}
 use Rattle.store.proofs.Rooting.{rep-alike}
 use Rattle.store.proofs.Bytes.{word-full, byte-read, byte-set}
+use Rattle.store.proofs.Sealing.{sealed-kept}
 use Rattle.machine.specs.Words.{itemTag, itemPayload}
 use Rattle.machine.specs.Places.{rootCount, roots, keys}
 use Rattle.machine.specs.Rep.{Rep, World, Stored, Is, IsIn, MovesHeap}
@@ -161,11 +163,16 @@ module _ {m : Machine} {st e d c l : List ℕ} {μ : Floo.Machine} (R : Rep m st
           at-set (λ x y. length (elementsOf x) ≡ length (elementsOf y)) (μ .store) id (changed id) (R .stored .objects .id head (at .lives))
           (sym (ap (λ o. length (elementsOf o)) (at .whole))) x refl
 
+      marked : Sealed (R .world .ρ) (R .world .ghost) c′ store (μ .readOnly)
+      marked =
+          sealed-kept (R .sealed) (omega (arith, length-set (μ .store) (R .world .ρ head) (changed (R .world .ρ head))))
+          (λ x l. (l, P .there x 1 (omega arith) (λ e _. live-on (sym l ∙ ap (R .world .ghost .own) e ∙ cell-here))))
+
       pub set-here : (R′ : Rep m st e d c′ l (byteSet id q v μ)) × (R′ .world ≡ R .world)
       unfolding byteSet change object
       set-here =
           subst (λ id. (R′ : Rep m st e d c′ l (withStore (set (μ .store) id (changed id)) μ)) × (R′ .world ≡ R .world)) (at .stands)
-          (restored-in R (R .world) store stored (λ v t p _ h. carry v t p h) (λ x t p _. long x) (λ i t p a r _ _ o. o))
+          (restored-in R (R .world) store stored (λ v t p _ h. carry v t p h) (λ x t p _. long x) (λ i t p a r _ _ o. o) marked)
 
 -- The cell that `seek` finds is inside.
 pub cell-room : {c : List ℕ} (h q cell : ℕ) → HasCell c h q → Found c h q cell → cell * 4 + 4 ≤ length c

@@ -6,7 +6,7 @@ use mathlib.Core.List.{List}
 use Prim.Native.Nat.{ℕ, suc, _+_, _≤_, _<_}
 use native.Mathlib.Omega.{arith}
 use lib.ListN.{getD}
-use Rattle.semantics.specs.Values.{Value, integer, boolean, null, mark, operator, name, string, array, fault, objectId, arrayId, stringId}
+use Rattle.semantics.specs.Values.{Value, integer, boolean, null, mark, operator, name, string, array, ok, fault, objectId, arrayId, stringId}
 use Rattle.semantics.specs.declared.Error.the-variants.{TypeCheck}
 use Rattle.semantics.specs.Machine as Floo
 use Rattle.store.specs.Rep.{Stands, a-null, an-integer, a-boolean, a-mark, an-operator, a-literal, an-executable, a-string, an-array, a-procedure}
@@ -16,7 +16,7 @@ use Rattle.machine.specs.Places.{Nameless}
 use Rattle.machine.specs.Rep.{Rep, Somewhere}
 use Rattle.machine.specs.declared.Machine.{Machine}
 use Rattle.machine.proofs.Copying.{word-of}
-use Rattle.elements.specs.Elements.{tagOf, HasArray, HasString, HasPlain, ItemTag, SomewhereThat}
+use Rattle.elements.specs.Elements.{tagOf, named, HasArray, HasString, HasObject, HasPlain, ItemTag, SomewhereThat}
 
 pub stands-nameless : {keys : List (List ℕ)} {texts : List Bool} {ρ : ℕ → ℕ} {v : Value} {t p : ℕ} → Stands keys texts ρ v t p → t < 8 → Nameless v
 stands-nameless a-null l = record { none = λ t. t }
@@ -92,6 +92,18 @@ tag-array (name true n) q = absurd (omega arith)
 tag-array (string i) q = absurd (omega arith)
 tag-array (array x i) q = (x, i, refl)
 
+pub tag-object : (v : Value) → 8 ≤ tagOf v → objectId v ≡ ok (named v)
+unfolding tagOf objectId named
+tag-object null q = absurd (omega arith)
+tag-object (integer w) q = absurd (omega arith)
+tag-object (boolean b) q = absurd (omega arith)
+tag-object mark q = absurd (omega arith)
+tag-object (operator o) q = absurd (omega arith)
+tag-object (name false n) q = absurd (omega arith)
+tag-object (name true n) q = absurd (omega arith)
+tag-object (string i) q = refl
+tag-object (array x i) q = refl
+
 pub tag-no-object : (v : Value) → tagOf v < 8 → objectId v ≡ fault TypeCheck
 unfolding tagOf objectId
 tag-no-object null q = refl
@@ -135,6 +147,9 @@ module _ {m : Machine} {s e d c l : List ℕ} {μ : Floo.Machine} (R : Rep m s e
       let x = tag-array (getD (μ .stack) i null) (omega (arith, A .1, A .2 .says e d c l μ R)) in
       record { executable = x .0; id = x .1; item = x .2 }
 
+  pub object-of : {t : ℕ} → ItemTag i m s t → 8 ≤ t → HasObject i μ
+  object-of T high = record { id = _; item = tag-object (getD (μ .stack) i null) (omega (arith, high, T .says e d c l μ R)) }
+
   pub string-of : ItemTag i m s 8 → HasString i μ
   string-of T =
       let x = tag-string (getD (μ .stack) i null) (sym (T .says e d c l μ R)) in
@@ -143,6 +158,9 @@ module _ {m : Machine} {s e d c l : List ℕ} {μ : Floo.Machine} (R : Rep m s e
 module _ {i : ℕ} {m : Machine} {s c : List ℕ} where
   pub array-there : ((t : ℕ) × (9 ≤ t) × ItemTag i m s t) → Somewhere m s c → SomewhereThat (HasArray i) m s c
   array-there A (e, d, l, μ, R) = (e, d, l, μ, R, array-of R A)
+
+  pub object-there : {t : ℕ} → ItemTag i m s t → 8 ≤ t → Somewhere m s c → SomewhereThat (HasObject i) m s c
+  object-there T high (e, d, l, μ, R) = (e, d, l, μ, R, object-of R T high)
 
   pub string-there : ItemTag i m s 8 → Somewhere m s c → SomewhereThat (HasString i) m s c
   string-there T (e, d, l, μ, R) = (e, d, l, μ, R, string-of R T)

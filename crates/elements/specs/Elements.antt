@@ -5,9 +5,9 @@ use mathlib.Core.Bool.{Bool, true, false}
 use mathlib.Core.List.{List}
 use Prim.Native.Nat.{ℕ, _+_, _-_, _<_}
 use lib.ListN.{length, getD, set, replicate}
-use Rattle.semantics.specs.Values.{Value, integer, boolean, null, mark, operator, name, string, array, Object, elements, text}
+use Rattle.semantics.specs.Values.{Value, integer, boolean, null, mark, operator, name, string, array, Object, elements, text, ok, objectId}
 use Rattle.semantics.specs.Machine as Floo
-use Rattle.semantics.specs.Machine.{withStack, object, elementsOf, bytesOf, make, made, change}
+use Rattle.semantics.specs.Machine.{withStack, object, elementsOf, bytesOf, make, made, change, member, protect}
 use Rattle.heap.specs.Chain.{live}
 use Rattle.heap.specs.Shape.{Ghost, Shape, cells}
 use Rattle.store.specs.Rep.{isText, objectAt}
@@ -66,6 +66,11 @@ pub record HasByte (i q : ℕ) (μ : Floo.Machine) : Type 0 where
   pub string : HasString i μ
   pub inside : q < length (bytesOf (object μ (string .id)))
 
+-- Item i is an array or a string.
+pub record HasObject (i : ℕ) (μ : Floo.Machine) : Type 0 where
+  pub id : ℕ
+  pub item : objectId (getD (μ .stack) i null) ≡ ok id
+
 -- Item i names no object.
 abbrev pub HasPlain : ℕ → Floo.Machine → Type 0
 HasPlain i μ = Nameless (getD (μ .stack) i null)
@@ -108,7 +113,19 @@ pub record ByteOf (i q : ℕ) (m : Machine) (s c : List ℕ) (r : ℕ) : Type 0 
       → getD (μ .stack) i null ≡ string id
       → r ≡ getD (bytesOf (object μ id)) q 0
 
+-- Whether item i is read only.
+pub record ItemSealed (i : ℕ) (m : Machine) (s c : List ℕ) (r : Bool) : Type 0 where
+  pub says : (e d l : List ℕ) (μ : Floo.Machine)
+      → Rep m s e d c l μ
+      → (id : ℕ)
+      → objectId (getD (μ .stack) i null) ≡ ok id
+      → r ≡ member id (μ .readOnly)
+
 -- ---- what is done
+
+-- Item i is read only.
+unfoldable pub itemSealed : ℕ → Floo.Machine → Floo.Machine
+itemSealed i μ = protect (itemId i μ) μ
 
 -- Item j gives way to a copy of element q of item i.
 unfoldable pub elementCopied : ℕ → ℕ → ℕ → Floo.Machine → Floo.Machine

@@ -6,8 +6,8 @@ ghost use Prim.Native.Nat.{ℕ, _+_, _*_, _/_, _^_, _≤_, _<_};
 ghost use lib.ListN.{length};
 ghost use Rattle.store.specs.Rep.{byteOf, withByte};
 ghost use Rattle.machine.specs.Rep.{Somewhere, MovesHeap};
-ghost use Rattle.elements.specs.Elements.{HasArray, HasElement, HasString, HasByte, HasPlain, HasCell, SomewhereThat};
-ghost use Rattle.elements.specs.Elements.{freeCells, ItemTag, ArraySize, StringSize, ByteOf, elementCopied, elementPut, bytePut, PutsByte, arrayMade, stringMade};
+ghost use Rattle.elements.specs.Elements.{HasArray, HasElement, HasString, HasByte, HasObject, HasPlain, HasCell, SomewhereThat};
+ghost use Rattle.elements.specs.Elements.{freeCells, ItemTag, ArraySize, StringSize, ByteOf, ItemSealed, itemSealed, elementCopied, elementPut, bytePut, PutsByte, arrayMade, stringMade};
 use machine::ITEM_PAYLOAD;
 use machine::Machine;
 use machine::TAG_ARRAY;
@@ -43,6 +43,28 @@ pub fn size_of(m: Machine, stack: &[u32], cells: &[u32], i: usize) -> u32
     let k = m.depth - 1 - i;
     let h = stack[STACK_WIDTH * k + ITEM_PAYLOAD];
     heap::size(cells, h)
+}
+
+// Whether the array or string that is item i is read only.
+// Ruled out: another item's mark; the mark read from the words of the value.
+pub fn is_sealed(m: Machine, stack: &[u32], cells: &[u32], i: usize) -> bool
+    requires { ⌜ (i < m .depth) × SomewhereThat (HasObject i) m (now stack) (now cells) ⌝ }
+    ensures { λ r. ⌜ ItemSealed i m (now (stack .entry)) (now (cells .entry)) r ⌝ }
+{
+    let k = m.depth - 1 - i;
+    let h = stack[STACK_WIDTH * k + ITEM_PAYLOAD];
+    heap::is_sealed(cells, h)
+}
+
+// The array or string that is item i is read only.
+// Ruled out: the mark on another object; the mark on what its elements name.
+pub fn seal(m: Machine, stack: &[u32], cells: &mut [u32], i: usize)
+    requires { ⌜ (i < m .depth) × SomewhereThat (HasObject i) m (now stack) (now cells) ⌝ }
+    ensures { λ _. ⌜ MovesHeap (itemSealed i) m m (now (stack .entry)) (now (stack .entry)) (now (cells .entry)) (now (cells .exit)) ⌝ }
+{
+    let k = m.depth - 1 - i;
+    let h = stack[STACK_WIDTH * k + ITEM_PAYLOAD];
+    heap::seal(cells, h);
 }
 
 // Item j gives way to a copy of element q of the array that is item i. The element is counted before the item is let go: the item may be the array itself.

@@ -184,7 +184,7 @@ module _ {m : Machine} {s e d c l : List ℕ} {μ : Floo.Machine} (R : Rep m s e
       record {
         ρ = R .world .ρ;
         exact = E;
-        matches = Exactness.matches μ (H .full) (H .none-dead) (H .none-out) (H .objects) refl often;
+        matches = Exactness.matches μ (H .full) (H .none-dead) (H .none-out) (H .objects) refl often (R .sealed);
         elements = shown-elements;
         items = shown-items;
         frames = shown-frames;

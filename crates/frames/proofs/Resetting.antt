@@ -61,6 +61,7 @@ module _ {m : Machine} {st e d c l : List ℕ} {μ : Floo.Machine} (R : Rep m st
             (frame top (frames-frame (put .below) (slot R k h .below)));
         slots = R .slots;
         handled = R .handled;
+        sealed = R .sealed;
         naming = R .naming;
         logging = R .logging;
         stopped = R .stopped;

@@ -12,7 +12,7 @@ use Rattle.semantics.specs.Tokens.{Token}
 use Rattle.semantics.specs.Text.{same}
 use Rattle.semantics.specs.Values.{integer, name, string, text, Object, cells}
 use Rattle.semantics.specs.Machine as Floo
-use Rattle.semantics.specs.Machine.{object, bytesOf, made}
+use Rattle.semantics.specs.Machine.{withReadOnly, object, bytesOf, made, protect}
 use Rattle.semantics.specs.Held.{sumOf}
 use Rattle.semantics.specs.ListLaws.{All, cons}
 use Rattle.store.specs.Rep.{Stands, an-integer, a-literal, an-executable}
@@ -164,7 +164,7 @@ module _ (script : List ℕ) (u : scanned.Token) {s e d l : List ℕ} {m : Machi
 
   -- The new string has room for the token's bytes.
   pub string-fills : {x : ℕ} {r : Machine} {cs₁ : List ℕ} → SetsString c size m cs r x cs₁ → FillsAt x cs₁ script from
-  unfolding stringSet object bytesOf
+  unfolding stringSet protect withReadOnly object bytesOf
   string-fills S =
       let X = S .sets (A .rep) h k id q (A .cell) (A .empty) in
       let new = made-new id q (string (made μ)) (text (replicate size 0)) μ (array-low (A .rep) (A .cell .array)) in
@@ -194,7 +194,7 @@ pub puts-string : {d script : List ℕ} {u : scanned.Token} {m r : Machine} {cs 
     → FilledAt x cs₁ cs₂ script from
     → length cs₂ ≡ length cs₁
     → PutsLeaf d script u m cs c r cs₂
-unfolding leafSet stringSet object bytesOf
+unfolding leafSet stringSet protect withReadOnly object bytesOf
 puts-string {d} {script} {u} {m} {r} {cs} {cs₁} {cs₂} {c} {x} {from} {size} g S but free F same-size =
     record {
       puts = λ {s} {e} {l} {h} {k} {id} {q} {μ} {t} A L.

@@ -10,7 +10,7 @@ use lib.Seq.{take-append-seam, drop-append-seam}
 use Rattle.semantics.specs.Tokens.{Token}
 use Rattle.semantics.specs.Values.{null, array, Object, elements}
 use Rattle.semantics.specs.Machine as Floo
-use Rattle.semantics.specs.Machine.{withStore, elementsOf, make, made, change}
+use Rattle.semantics.specs.Machine.{withStore, withReadOnly, elementsOf, make, made, change, protect}
 use Rattle.semantics.specs.Groups.{skip}
 use Rattle.semantics.specs.ListLaws.{All, all-take, all-drop}
 use Rattle.semantics.specs.Sizes.{scriptMost}
@@ -82,7 +82,7 @@ module _ {s e d l script : List ℕ} {depth h id after : ℕ} {m : Machine} {cs 
 -- The new array's elements.
 module _ (id q n : ℕ) (μ : Floo.Machine) (low : id < length (μ .store)) where
   new-array : objectAt (arraySet id q n μ .store) (made μ) ≡ elements (replicate n null)
-  unfolding arraySet
+  unfolding arraySet protect withReadOnly
   new-array = made-new id q (array true (made μ)) (elements (replicate n null)) μ low
 
   new-long : length (elementsOf (objectAt (arraySet id q n μ .store) (made μ))) ≡ n
@@ -90,7 +90,7 @@ module _ (id q n : ℕ) (μ : Floo.Machine) (low : id < length (μ .store)) wher
   new-long = ap (λ (o : Object). length (elementsOf o)) new-array ∙ length-replicate n null
 
 same-dictionary : (id q n : ℕ) (μ : Floo.Machine) → arraySet id q n μ .dictionary ≡ μ .dictionary
-unfolding arraySet elementSet make change withStore
+unfolding arraySet protect elementSet make change withReadOnly withStore
 same-dictionary id q n μ = refl
 
 module _ {s e d l script : List ℕ} {depth h id after : ℕ} {m : Machine} {cs : List ℕ} {at c : ℕ} {μ : Floo.Machine} {q : ℕ} {ns : Nodes} {next : ℕ}

@@ -1,4 +1,4 @@
--- What `planted` comes to: the array's elements from q on are the values of the group's nodes, the new objects follow the old ones, and all else stays. By
+-- What `planted` comes to: the array's elements from q on are the values of the group's nodes, the new objects follow the old ones and are read only, and all else stays. By
 -- induction on the nodes: each of them sets one element and adds its own objects.
 -- Assumes nothing.
 use mathlib.Core.Path.{_≡_, refl, sym, ap, _∙_}
@@ -10,45 +10,47 @@ use lib.ListN.{length, set, take, drop, replicate, length-set, length-append, le
 use lib.Seq.{take-length, drop-length, set-getD, set-set, set-append-left, set-append-seam, set-at, getD-set-same, getD-append-seam, getD-at, take-suc-set, append-snoc}
 use Rattle.semantics.specs.Tokens.{Token}
 use Rattle.semantics.specs.Values.{Value, null, string, array, Object, elements, text}
-use Rattle.semantics.specs.Machine.{Machine, withDictionary, withStore, object, elementsOf, bytesOf, make, made, change}
+use Rattle.semantics.specs.Machine.{Machine, withDictionary, withStore, withReadOnly, object, elementsOf, bytesOf, make, made, change, protect}
 use Rattle.semantics.specs.Groups.{opened}
 use Rattle.store.specs.Rep.{isText, objectAt}
 use Rattle.store.proofs.Standing.{array-is}
 use Rattle.strings.specs.Strings.{stringFilled}
-use Rattle.groups.specs.Nodes.{Nodes, end, leaf, inner, leafValue, leafObjects, count, objects, values, news, names, internAll, grown, filled}
-use Rattle.groups.proofs.Trees.{news-length, nested, nested-store}
+use Rattle.groups.specs.Nodes.{Nodes, end, leaf, inner, leafValue, leafObjects, count, objects, values, news, names, internAll, upFrom, marked, grown, filled}
+use Rattle.groups.proofs.Trees.{news-length, marks-then, nested, nested-store, nested-marks}
 use Rattle.construction.specs.Growth.{elementSet, arraySet, stringSet}
 use Rattle.group_building.specs.Building.{leafSet, planted}
 
--- Object id is an array of these values, and more objects follow.
+-- Object id is an array of these values, and more objects follow, which are read only.
 abbrev pub restored : ℕ → List Value → List Object → Machine → Machine
-restored id vs more μ = withStore (set (μ .store) id (elements vs) ++ more) μ
+restored id vs more μ = withReadOnly (marked (length more) μ) (withStore (set (μ .store) id (elements vs) ++ more) μ)
 
 -- The elements of object id.
 abbrev pub held : ℕ → Machine → List Value
 held id μ = elementsOf (objectAt (μ .store) id)
 
-same-store : (μ : Machine) {a b : List Object} → a ≡ b → withStore a μ ≡ withStore b μ
-same-store μ e = ap (λ (s : List Object). withStore s μ) e
+same-parts : (μ : Machine) {r q : List ℕ} {a b : List Object} → r ≡ q → a ≡ b → withReadOnly r (withStore a μ) ≡ withReadOnly q (withStore b μ)
+same-parts μ d e = rw (d, e) refl
 
-unchanged : (μ : Machine) → withStore (μ .store) μ ≡ μ
-unfolding withStore
+unchanged : (μ : Machine) → withReadOnly (μ .readOnly) (withStore (μ .store) μ) ≡ μ
+unfolding withReadOnly withStore
 unchanged μ = refl
 
 -- ---- one node
 
--- An element is set after an object was made.
-set-made : (id q : ℕ) (v : Value) (o : Object) (μ : Machine) → id < length (μ .store) → elementSet id q v (make o μ) ≡ restored id (set (held id μ) q v) (o ∷ []) μ
-unfolding elementSet make change object withStore
+-- An element is set after an object was made, which is read only then.
+set-made : (id q : ℕ) (v : Value) (o : Object) (μ : Machine)
+    → id < length (μ .store)
+    → protect (made μ) (elementSet id q v (make o μ)) ≡ restored id (set (held id μ) q v) (o ∷ []) μ
+unfolding protect elementSet make change object withReadOnly withStore upFrom
 set-made id q v o μ low =
     let s = μ .store in
-    same-store μ
+    same-parts μ refl
     (ap (λ (y : Object). set (s ++ (o ∷ [])) id (elements (set (elementsOf y) q v))) (List·getD-append s (o ∷ []) (elements []) id low)
     ∙ set-append-left s (o ∷ []) id (elements (set (held id μ) q v)) low)
 
 set-alone : (id q : ℕ) (v : Value) (μ : Machine) → elementSet id q v μ ≡ restored id (set (held id μ) q v) [] μ
-unfolding elementSet change object
-set-alone id q v μ = same-store μ (sym (append-nil (set (μ .store) id (elements (set (held id μ) q v)))))
+unfolding elementSet change object withReadOnly withStore upFrom
+set-alone id q v μ = same-parts μ (sym (append-nil (μ .readOnly))) (sym (append-nil (set (μ .store) id (elements (set (held id μ) q v)))))
 
 pub array-is-set : (id q n : ℕ) (μ : Machine)
     → id < length (μ .store)
@@ -61,15 +63,15 @@ unfolding made
 length-made id vs μ = length-set (μ .store) id (elements vs)
 
 -- The last object is filled.
-filled-last : (bs : List ℕ) (s : List Object) (k : ℕ) (μ : Machine)
+filled-last : (bs : List ℕ) (s : List Object) (k : ℕ) (r : List ℕ) (μ : Machine)
     → length s ≡ k
-    → stringFilled k bs (withStore (s ++ (text (replicate (length bs) 0) ∷ [])) μ) ≡ withStore (s ++ (text bs ∷ [])) μ
-unfolding stringFilled change withStore object bytesOf
-filled-last bs s k μ e =
+    → stringFilled k bs (withReadOnly r (withStore (s ++ (text (replicate (length bs) 0) ∷ [])) μ)) ≡ withReadOnly r (withStore (s ++ (text bs ∷ [])) μ)
+unfolding stringFilled change withReadOnly withStore object bytesOf
+filled-last bs s k r μ e =
     let zeros : List ℕ = replicate (length bs) 0 in
     let none : drop (length bs) zeros ≡ [] = ap (λ n. drop n zeros) (sym (length-replicate (length bs) 0)) ∙ drop-length zeros in
     rw (sym e)
-    (same-store μ
+    (same-parts μ refl
     (set-append-seam s (text zeros) [] (text (bs ++ drop (length bs) (bytesOf (objectAt (s ++ (text zeros ∷ [])) (length s)))))
     ∙ ap (λ (y : Object). s ++ (text (bs ++ drop (length bs) (bytesOf y)) ∷ [])) (getD-append-seam s (text zeros) [] (elements []))
     ∙ ap (λ (y : List ℕ). s ++ (text (bs ++ y) ∷ [])) none
@@ -83,7 +85,7 @@ leaf-is-set id q (Token.integer w) μ low = set-alone id q (leafValue (made μ) 
 leaf-is-set id q (Token.string bs) μ low =
     let vs = set (held id μ) q (string (made μ)) in
     ap (λ (ν : Machine). stringFilled (made μ) bs ν) (set-made id q (string (made μ)) (text (replicate (length bs) 0)) μ low)
-    ∙ filled-last bs (set (μ .store) id (elements vs)) (made μ) μ (length-made id vs μ)
+    ∙ filled-last bs (set (μ .store) id (elements vs)) (made μ) (marked 1 μ) μ (length-made id vs μ)
 leaf-is-set id q (Token.name x n) μ low = set-alone id q (leafValue (made μ) (Token.name x n)) μ
 leaf-is-set id q Token.openBrace μ low = set-alone id q null μ
 leaf-is-set id q Token.closeBrace μ low = set-alone id q null μ
@@ -93,28 +95,29 @@ leaf-is-set id q Token.end μ low = set-alone id q null μ
 
 module _ (id : ℕ) (vs : List Value) (more : List Object) (μ : Machine) where
   pub made-restored : made (restored id vs more μ) ≡ length more + made μ
-  unfolding made withStore
+  unfolding made withReadOnly withStore
   made-restored =
       let s = set (μ .store) id (elements vs) in
       omega (arith, length-append s more, length-set (μ .store) id (elements vs))
 
   pub restored-low : length (μ .store) ≤ length (restored id vs more μ .store)
-  unfolding withStore
+  unfolding withReadOnly withStore
   restored-low =
       let s = set (μ .store) id (elements vs) in
       omega (arith, length-append s more, length-set (μ .store) id (elements vs))
 
   pub restored-again : (us : List Value) (after : List Object) → id < length (μ .store) → restored id us after (restored id vs more μ) ≡ restored id us (more ++ after) μ
-  unfolding withStore
+  unfolding withReadOnly withStore
   restored-again us after low =
       let s = μ .store in
       let inside : id < length (set s id (elements vs)) = rw (length-set s id (elements vs)) low in
-      same-store μ
+      same-parts μ
+      (sym (marks-then (μ .readOnly) (made μ) (length (more ++ after)) (length more) (length after) (made (restored id vs more μ)) (length-append more after) made-restored))
       (ap (λ (l : List Object). l ++ after) (set-append-left (set s id (elements vs)) more id (elements us) inside ∙ ap (λ (l : List Object). l ++ more) (set-set s id (elements vs) (elements us)))
       ∙ append-assoc (set s id (elements us)) more after)
 
   pub restored-object : id < length (μ .store) → objectAt (restored id vs more μ .store) id ≡ elements vs
-  unfolding withStore
+  unfolding withReadOnly withStore
   restored-object low =
       let s = μ .store in
       let inside : id < length (set s id (elements vs)) = rw (length-set s id (elements vs)) low in
@@ -162,7 +165,7 @@ then id q v more μ ns law low long ν e =
 module _ (id q : ℕ) (ms : Nodes) (law : Law ms) (μ : Machine) (low : id < length (μ .store)) where
   pub inner-set : planted (made μ) 0 ms (arraySet id q (count ms) μ)
       ≡ restored id (set (held id μ) q (array true (made μ))) (elements (values (suc (made μ)) ms) ∷ news (suc (made μ)) ms) μ
-  unfolding made elementsOf withStore
+  unfolding made elementsOf withReadOnly withStore
   inner-set =
       let k = length (μ .store) in
       let us = set (held id μ) q (array true k) in
@@ -177,17 +180,18 @@ module _ (id q : ℕ) (ms : Nodes) (law : Law ms) (μ : Machine) (low : id < len
       ap (λ (ν : Machine). planted k 0 ms ν) (array-is-set id q (count ms) μ low)
       ∙ law k 0 ρ inside (ap isText here) many
       ∙ ap (λ n. restored k (values n ms) (news n ms) ρ) next
-      ∙ same-store μ
+      ∙ same-parts μ
+      (sym (marks-then (μ .readOnly) k (suc (length (news (suc k) ms))) 1 (length (news (suc k) ms)) (length (s ++ (blank ∷ []))) (omega arith) (next ∙ omega arith)))
       (ap (λ (l : List Object). l ++ news (suc k) ms) (set-at s blank [] (elements (values (suc k) ms)) k all)
       ∙ append-assoc s (elements (values (suc k) ms) ∷ []) (news (suc k) ms))
 
 pub planted-is : (ns : Nodes) → Law ns
-unfolding planted values news count made
+unfolding planted values news count made upFrom
 planted-is end id q μ low kind long =
     let vs = held id μ in
     let size : q ≡ length vs = omega (arith, long) in
     let all : take q vs ++ [] ≡ vs = append-nil (take q vs) ∙ ap (λ n. take n vs) size ∙ take-length vs in
-    sym (same-store μ
+    sym (same-parts μ (append-nil (μ .readOnly))
     (append-nil (set (μ .store) id (elements (take q vs ++ [])))
     ∙ ap (λ (l : List Value). set (μ .store) id (elements l)) all
     ∙ ap (λ (o : Object). set (μ .store) id o) (sym (array-is (objectAt (μ .store) id) kind))
@@ -206,28 +210,32 @@ planted-is (inner ms ns) id q μ low kind long =
 pub planted-whole : (id : ℕ) (ns : Nodes) (μ : Machine)
     → id < length (μ .store)
     → objectAt (μ .store) id ≡ elements (replicate (count ns) null)
-    → planted id 0 ns μ ≡ withStore (set (μ .store) id (elements (values (made μ) ns)) ++ news (made μ) ns) μ
+    → planted id 0 ns μ ≡ restored id (values (made μ) ns) (news (made μ) ns) μ
 unfolding elementsOf
 planted-whole id ns μ low is =
     planted-is ns id 0 μ low (ap isText is) (ap (λ (o : Object). length (elementsOf o)) is ∙ length-replicate (count ns) null ∙ omega arith)
 
 -- ---- the definition's reading
 
--- Where the group's names have slots and its array was made, with a null for each element, planting comes to the machine that the definition's reading of the group gives
--- (`group-parsed`).
+-- Where the group's names have slots and its array was made, read only and with a null for each element, planting comes to the machine that the definition's reading of the
+-- group gives (`group-parsed`).
 pub planted-group : (ns : Nodes) (μ : Machine)
-    → planted (made μ) 0 ns (make (elements (replicate (count ns) null)) (withDictionary (internAll (names ns) (μ .dictionary)) μ)) ≡ nested ns μ
-unfolding made make filled grown opened change withStore withDictionary
+    → planted (made μ) 0 ns (protect (made μ) (make (elements (replicate (count ns) null)) (withDictionary (internAll (names ns) (μ .dictionary)) μ))) ≡ nested ns μ
+unfolding made make filled grown opened protect change withReadOnly withStore withDictionary upFrom
 planted-group ns μ =
     let s = μ .store in
     let k = length s in
     let blank : Object = elements (replicate (count ns) null) in
     let d = internAll (names ns) (μ .dictionary) in
-    let ν = make blank (withDictionary d μ) in
+    let ν = protect k (make blank (withDictionary d μ)) in
     let next : length (s ++ (blank ∷ [])) ≡ suc k = omega (arith, length-append s (blank ∷ [])) in
     let o : Object = elements (values (suc k) ns) in
+    let more = news (length (s ++ (blank ∷ []))) ns in
     planted-whole k ns ν (omega (arith, next)) (getD-append-seam s blank [] (elements []))
-    ∙ ap (λ (t : List Object). withDictionary d (withStore t μ))
+    ∙ same-parts (withDictionary d μ)
+    (sym (marks-then (μ .readOnly) k (suc (length more)) 1 (length more) (length (s ++ (blank ∷ []))) (omega arith) (next ∙ omega arith))
+    ∙ ap (λ n. μ .readOnly ++ upFrom k (suc n)) (news-length (length (s ++ (blank ∷ []))) ns)
+    ∙ sym (nested-marks ns μ))
     (ap (λ n. set (s ++ (blank ∷ [])) k (elements (values n ns)) ++ news n ns) next
     ∙ ap (λ (t : List Object). t ++ news (suc k) ns) (set-append-seam s blank [] o)
     ∙ append-assoc s (o ∷ []) (news (suc k) ns)

@@ -12,7 +12,7 @@ use lib.Seq.{getD-set-other}
 use Rattle.semantics.specs.Tokens.{Token}
 use Rattle.semantics.specs.Values.{Value, null, array, Object, elements, cells}
 use Rattle.semantics.specs.Machine as Floo
-use Rattle.semantics.specs.Machine.{withStore, object, elementsOf, made, change}
+use Rattle.semantics.specs.Machine.{withStore, withReadOnly, object, elementsOf, made, change}
 use Rattle.semantics.specs.Groups.{skip}
 use Rattle.semantics.specs.TokenLaws.{skip-le}
 use Rattle.semantics.specs.Held.{sumOf}
@@ -42,7 +42,7 @@ use Rattle.group_building.proofs.Opening.{all-left, all-right, first-in
 
 module _ (id q : ℕ) (v : Value) (more : List Object) (μ : Floo.Machine) (low : id < length (μ .store)) where
   restored-extended : isText (objectAt (μ .store) id) ≡ false → Extended (μ .store) (restored id (set (held id μ) q v) more μ .store)
-  unfolding elementSet change object withStore
+  unfolding elementSet change object withReadOnly withStore
   restored-extended kind = extended-trans (element-extended id q v μ low kind) (append-extended (set (μ .store) id (elements (set (held id μ) q v))) more)
 
   restored-there : (r : ℕ) → (r ≡ q → ⊥) → element (restored id (set (held id μ) q v) more μ .store) id r ≡ element (μ .store) id r
@@ -50,7 +50,7 @@ module _ (id q : ℕ) (v : Value) (more : List Object) (μ : Floo.Machine) (low 
   restored-there r ne = ap (λ (o : Object). getD (elementsOf o) r null) (restored-object id (set (held id μ) q v) more μ low) ∙ getD-set-other (held id μ) q r v null ne
 
   restored-dictionary : restored id (set (held id μ) q v) more μ .dictionary ≡ μ .dictionary
-  unfolding withStore
+  unfolding withReadOnly withStore
   restored-dictionary = refl
 
 -- What is known of the nodes after the first.

@@ -8,7 +8,7 @@ use native.Mathlib.Omega.{arith}
 use lib.ListN.{length}
 use Rattle.semantics.specs.Values.{Object, fault, array, elements, cells}
 use Rattle.semantics.specs.Machine as Floo
-use Rattle.semantics.specs.Machine.{withStack, withStore, withDictionary, push, make, made, change}
+use Rattle.semantics.specs.Machine.{withStack, withStore, withDictionary, withReadOnly, push, make, made, change, protect}
 use Rattle.semantics.specs.Sizes.{scriptMost}
 use Rattle.semantics.specs.Groups.{taken, group, opened}
 use Rattle.semantics.specs.Held.{sumOf}
@@ -94,7 +94,7 @@ module _ {script : List ℕ} {from : ℕ} (first : 1 ≤ from) (inside : from �
     stays R = kept-rep R (omega (arith, long, R .rooms .dict-fits)) (omega (arith, long, R .rooms .dict-few)) (N .kept)
 
     pub group-full : {s c : List ℕ} {x y : Error} → r ≡ named.Bad x → y ≡ faultIn r → TakesGroup script from m s s d d′ c c (Fail y after)
-    unfolding lent push withStack filled grown change opened make withStore withDictionary
+    unfolding lent push withStack filled grown change opened protect make withReadOnly withStore withDictionary
     group-full {s} {c} {x} {y} u q = record {
       takes = λ e l μ R.
           let full = subst (NamedAs (names ns) m s e d d′ c l μ) u (named-as R) in
@@ -107,11 +107,11 @@ module _ {script : List ℕ} {from : ℕ} (first : 1 ≤ from) (inside : from �
       done {s} {e} {c} {l} {μ} R = subst (NamedAs (names ns) m s e d d′ c l μ) u (named-as R)
 
       names-fit : {s e c l : List ℕ} {μ : Floo.Machine} → Rep m s e d c l μ → length (procedure ns μ .dictionary) ≤ length d / 12
-      unfolding push withStack filled grown change opened make withStore withDictionary
+      unfolding push withStack filled grown change opened protect make withReadOnly withStore withDictionary
       names-fit {μ = μ} R = subst (λ n. length (procedure ns μ .dictionary) ≤ n / 12) long (dictionary-fits (done R .0))
 
       pub group-over : {s c : List ℕ} → length s < 2 * m .depth + 2 → TakesGroup script from m s s d d′ c c (Fail StackOverflow after)
-      unfolding lent push withStack filled grown change opened make withStore withDictionary
+      unfolding lent push withStack filled grown change opened protect make withReadOnly withStore withDictionary
       group-over {s} {c} over = record {
         takes = λ e l μ R.
             let deep : length s / 2 < length (procedure ns μ .stack) = omega (arith, items-length (R .items), over) in
@@ -120,11 +120,11 @@ module _ {script : List ℕ} {from : ℕ} (first : 1 ≤ from) (inside : from �
 
       module _ {s c : List ℕ} (room : 2 * m .depth + 2 ≤ length s) where
         stack-fit : {e l : List ℕ} {μ : Floo.Machine} → Rep m s e d c l μ → length (procedure ns μ .stack) ≤ length s / 2
-        unfolding push withStack filled grown change opened make withStore withDictionary
+        unfolding push withStack filled grown change opened protect make withReadOnly withStore withDictionary
         stack-fit R = omega (arith, items-length (R .items), room)
 
         pub group-none : freeCells m c < count ns + 1 + wanted ns → TakesGroup script from m s s d d′ c c (Fail VmError after)
-        unfolding push withStack filled grown change opened make withStore withDictionary
+        unfolding push withStack filled grown change opened protect make withReadOnly withStore withDictionary
         group-none few = record {
           takes = λ e l μ R.
               let many : freeCells m c < sumOf cells (group-news ns μ) = omega (arith, few, group-cells ns μ) in
@@ -148,7 +148,7 @@ module _ {script : List ℕ} {from : ℕ} (first : 1 ≤ from) (inside : from �
           group-ready short is few (e, l, μ, R) = (inside, short, few, (e, l, withNames (names ns) μ, ns, after, roomy R, is))
 
           pub group-done : {r : Machine} {s′ c′ : List ℕ} → ConstructsGroup script from q r s s′ d′ c c′ → TakesGroup script from m s s′ d d′ c c′ (Done r after)
-          unfolding made push withStack filled grown change opened make withStore withDictionary
+          unfolding made push withStack filled grown change opened protect make withReadOnly withStore withDictionary
           group-done {r} {s′} {c′} C = record {
             takes = λ e l μ R.
                 let few : sumOf cells (group-news ns μ) ≤ freeCells m c = omega (arith, enough, group-cells ns μ) in

@@ -9,7 +9,7 @@ use Rattle.semantics.specs.Sizes.{scriptMost}
 use Rattle.semantics.specs.Tokens.{Lexing}
 use Rattle.semantics.specs.Values.{ok, fault, null, array, elements}
 use Rattle.semantics.specs.Machine as Floo
-use Rattle.semantics.specs.Machine.{push, make, made}
+use Rattle.semantics.specs.Machine.{push, make, made, protect}
 use Rattle.semantics.specs.Groups.{Taken, taken, group, opened}
 use Rattle.semantics.specs.Steps.{roomFor}
 use Rattle.groups.specs.Nodes.{Nodes, count, wanted, names}
@@ -61,8 +61,8 @@ ReadyGroup script from size m s d c =
     (from ≤ length script) × (length script ≤ scriptMost) × (size ≤ 32768)
     × ((e : List ℕ) × (l : List ℕ) × (μ : Floo.Machine) × (ns : Nodes) × (after : ℕ) × Roomy script from m s e d c l μ ns after × (size ≡ count ns))
 
--- The procedure is pushed, with its elements.
+-- The procedure is pushed, with its elements, all that was made for it read only.
 pub record ConstructsGroup (script : List ℕ) (from : ℕ) (m r : Machine) (s s′ d c c′ : List ℕ) : Type 0 where
   pub constructs : {e l : List ℕ} {μ : Floo.Machine} {ns : Nodes} {after : ℕ}
       → Roomy script from m s e d c l μ ns after
-      → Rep r s′ e d c′ l (push (array true (made μ)) (planted (made μ) 0 ns (make (elements (replicate (count ns) null)) μ)))
+      → Rep r s′ e d c′ l (push (array true (made μ)) (planted (made μ) 0 ns (protect (made μ) (make (elements (replicate (count ns) null)) μ))))

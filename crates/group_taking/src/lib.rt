@@ -52,7 +52,7 @@ pub fn take_group(
     )
 }
 
-// A procedure for the group is made, pushed and filled. Its names have slots, and there is room.
+// A procedure for the group is made, pushed, marked as read only and filled. Its names have slots, and there is room.
 fn construct(
     m: Machine,
     stack: &mut [u32],
@@ -68,6 +68,7 @@ fn construct(
     let n = m.depth;
     let deeper = taking::push_words(m, stack, TAG_NULL, 0);
     let made = elements::new_array(deeper, stack, cells, 0, size as u32);
+    elements::seal(made, stack, cells, 0);
     stack[STACK_WIDTH * n] = TAG_PROCEDURE;
     let first = group_building::first_cell(cells, stack[STACK_WIDTH * n + ITEM_PAYLOAD], size);
     let built = group_building::build(made, dict, cells, script, from, first, 15);

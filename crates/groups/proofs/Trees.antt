@@ -1,5 +1,5 @@
 -- The definition's reading of a brace group that is there gives what its nodes say: by induction on the nodes, each of which adds its own names and
--- objects to the machine.
+-- objects to the machine, and marks what it adds as read only.
 -- Assumes nothing.
 use mathlib.Core.Path.{_≡_, refl, sym, ap, _∙_}
 use mathlib.Core.Bool.{true, false≢true}
@@ -10,12 +10,12 @@ use lib.ListN.{length, set, length-append}
 use lib.Seq.{set-append-seam}
 use Rattle.semantics.specs.Tokens.{Lexing, Token, lexeme}
 use Rattle.semantics.specs.Values.{Value, integer, name, string, array, Object, elements, cells, _>>=_}
-use Rattle.semantics.specs.Machine.{Machine, Slot, withDictionary, withStore, make, made, change, intern, slotted}
+use Rattle.semantics.specs.Machine.{Machine, Slot, withDictionary, withStore, withReadOnly, make, made, change, protect, intern, slotted}
 use Rattle.semantics.specs.Held.{sumOf}
-use Rattle.semantics.specs.Groups.{Taken, taken, skip, Reader, opened, closed, element, group}
+use Rattle.semantics.specs.Groups.{Taken, taken, skip, Reader, opened, enclosed, closed, element, group}
 use Rattle.semantics.specs.TokenLaws.{skip-le}
 use Rattle.token.specs.Lexing.{Lexes}
-use Rattle.groups.specs.Nodes.{Nodes, end, leaf, inner, isLeaf, leafValue, leafObjects, leafNames, count, objects, values, news, wanted, names, internAll, grown, filled}
+use Rattle.groups.specs.Nodes.{Nodes, end, leaf, inner, isLeaf, leafValue, leafObjects, leafNames, count, objects, values, news, wanted, names, internAll, upFrom, marked, grown, filled}
 use Rattle.groups.specs.Parsing.{Parsed, closes, token, opens}
 
 -- ---- counting
@@ -60,33 +60,60 @@ unfolding internAll
 intern-append [] b d = refl
 intern-append (n ∷ a) b d = intern-append a b (slotted n d)
 
+-- ---- marks
+
+up-append : (k a b : ℕ) → upFrom k (a + b) ≡ upFrom k a ++ upFrom (a + k) b
+unfolding upFrom
+up-append k zero b =
+    let many : 0 + b ≡ b = omega arith in
+    let first : k ≡ 0 + k = omega arith in
+    ap (upFrom k) many ∙ ap (λ n. upFrom n b) first
+up-append k (suc a) b =
+    let many : suc a + b ≡ suc (a + b) = omega arith in
+    let first : a + suc k ≡ suc a + k = omega arith in
+    ap (upFrom k) many ∙ ap (λ (l : List ℕ). k ∷ l) (up-append (suc k) a b ∙ ap (λ n. upFrom (suc k) a ++ upFrom n b) first)
+
+-- n objects are read only: a of them, and then b others, of which the first has number j.
+pub marks-then : (r : List ℕ) (k n a b j : ℕ) → n ≡ a + b → j ≡ a + k → r ++ upFrom k n ≡ (r ++ upFrom k a) ++ upFrom j b
+marks-then r k n a b j d e =
+    ap (λ i. r ++ upFrom k i) d
+    ∙ ap (λ (l : List ℕ). r ++ l) (up-append k a b)
+    ∙ sym (append-assoc r (upFrom k a) (upFrom (a + k) b))
+    ∙ ap (λ n. (r ++ upFrom k a) ++ upFrom n b) (sym e)
+
 -- ---- the machine after each node
 
 -- The machine after a token.
 abbrev pub leafed : Token → Machine → Machine
-leafed t m = withDictionary (internAll (leafNames t) (m .dictionary)) (withStore (m .store ++ leafObjects t) m)
+leafed t m =
+    withReadOnly (marked (length (leafObjects t)) m) (withDictionary (internAll (leafNames t) (m .dictionary)) (withStore (m .store ++ leafObjects t) m))
 
-machine-same : (m : Machine) {d e : List Slot} {s t : List Object} → d ≡ e → s ≡ t → withDictionary d (withStore s m) ≡ withDictionary e (withStore t m)
-machine-same m p q = rw (p, q) refl
+machine-same : (m : Machine) {q r : List ℕ} {d e : List Slot} {s t : List Object}
+    → q ≡ r
+    → d ≡ e
+    → s ≡ t
+    → withReadOnly q (withDictionary d (withStore s m)) ≡ withReadOnly r (withDictionary e (withStore t m))
+machine-same m o p q = rw (o, p, q) refl
 
 -- One machine by its parts.
-parts : (m : Machine) → withDictionary (m .dictionary) (withStore (m .store) m) ≡ m
-unfolding withDictionary withStore
+parts : (m : Machine) → withReadOnly (m .readOnly) (withDictionary (m .dictionary) (withStore (m .store) m)) ≡ m
+unfolding withReadOnly withDictionary withStore
 parts m = refl
 
 grown-end : (m : Machine) → grown end m ≡ m
-unfolding grown names news internAll
-grown-end m = machine-same m refl (append-nil (m .store)) ∙ parts m
+unfolding grown objects names news internAll upFrom
+grown-end m = machine-same m (append-nil (m .readOnly)) refl (append-nil (m .store)) ∙ parts m
 
 grown-leaf : (t : Token) (ns : Nodes) (m : Machine) → grown (leaf t ns) m ≡ grown ns (leafed t m)
-unfolding grown names news made withDictionary withStore
+unfolding grown objects names news made withReadOnly withDictionary withStore
 grown-leaf t ns m =
     let e : length (m .store ++ leafObjects t) ≡ length (leafObjects t) + length (m .store) = omega (arith, length-append (m .store) (leafObjects t)) in
-    machine-same m (intern-append (leafNames t) (names ns) (m .dictionary))
+    machine-same m (marks-then (m .readOnly) (length (m .store)) _ (length (leafObjects t)) (objects ns) (length (m .store ++ leafObjects t)) refl e)
+    (intern-append (leafNames t) (names ns) (m .dictionary))
     (sym (append-assoc (m .store) (leafObjects t) _) ∙ ap (λ k. (m .store ++ leafObjects t) ++ news k ns) (sym e))
 
 values-leaf : (t : Token) (ns : Nodes) (m : Machine) → values (length (leafObjects t) + made m) ns ≡ values (made (leafed t m)) ns
-unfolding made withDictionary withStore
+unfolding made withReadOnly withDictionary withStore
 values-leaf t ns m =
     let e : length (m .store ++ leafObjects t) ≡ length (leafObjects t) + length (m .store) = omega (arith, length-append (m .store) (leafObjects t)) in
     ap (λ k. values k ns) (sym e)
@@ -96,12 +123,12 @@ abbrev pub nested : Nodes → Machine → Machine
 nested ms m = filled (made m) (values (made (opened m)) ms) (grown ms (opened m))
 
 made-opened : (m : Machine) → made (opened m) ≡ suc (made m)
-unfolding opened make made withStore
+unfolding opened protect make made withReadOnly withStore
 made-opened m = omega (arith, length-append (m .store) (elements [] ∷ []))
 
 -- Its objects: what there was, the group, and what is inside.
 pub nested-store : (ms : Nodes) (m : Machine) → nested ms m .store ≡ m .store ++ (elements (values (suc (made m)) ms) ∷ news (suc (made m)) ms)
-unfolding filled grown opened make change withStore withDictionary made
+unfolding filled grown opened protect make change withReadOnly withStore withDictionary made
 nested-store ms m =
     let s = m .store in
     let blank : Object = elements [] in
@@ -118,13 +145,24 @@ nested-made ms m =
     ∙ length-append s (elements (values (suc (length s)) ms) ∷ news (suc (length s)) ms)
     ∙ omega (arith, news-length (suc (length s)) ms)
 
+-- What a group makes, itself included, is read only.
+pub nested-marks : (ms : Nodes) (m : Machine) → nested ms m .readOnly ≡ marked (suc (objects ms)) m
+unfolding filled grown opened protect make change withReadOnly withStore withDictionary made upFrom
+nested-marks ms m =
+    let s = m .store in
+    let blank : Object = elements [] in
+    sym (marks-then (m .readOnly) (length s) (suc (objects ms)) 1 (objects ms) (length (s ++ (blank ∷ []))) (omega arith) (omega (arith, length-append s (blank ∷ []))))
+
 grown-inner : (ms ns : Nodes) (m : Machine) → grown (inner ms ns) m ≡ grown ns (nested ms m)
-unfolding grown names news made filled opened make change withStore withDictionary
+unfolding grown objects names news made filled opened protect make change withReadOnly withStore withDictionary
 grown-inner ms ns m =
     let s = m .store in
     let k = length s in
     let o : Object = elements (values (suc k) ms) in
-    machine-same m (intern-append (names ms) (names ns) (m .dictionary))
+    machine-same m
+    (marks-then (m .readOnly) k (suc (objects ms + objects ns)) (suc (objects ms)) (objects ns) (made (nested ms m)) (omega arith) (nested-made ms m ∙ omega arith)
+    ∙ ap (λ (l : List ℕ). l ++ upFrom (made (nested ms m)) (objects ns)) (sym (nested-marks ms m)))
+    (intern-append (names ms) (names ns) (m .dictionary))
     (sym (append-assoc s (o ∷ news (suc k) ms) (news (suc (objects ms + k)) ns))
     ∙ ap (λ (l : List Object). l ++ news (suc (objects ms + k)) ns) (sym (nested-store ms m))
     ∙ ap (λ j. nested ms m .store ++ news j ns) (sym (nested-made ms m)))
@@ -145,17 +183,22 @@ module _ (script : List ℕ) where
       let e : skip script o + (next - skip script o) ≡ next = omega (arith, h .past) in
       rw (h .lexes) (ap (λ n. element (group script fuel) i brace depth (skip script o) n vs m t) e)
 
+-- A token that makes no object adds no mark.
+nothing-made : (m : Machine) (d : List Slot) → withDictionary d m ≡ withReadOnly (m .readOnly ++ []) (withDictionary d (withStore (m .store ++ []) m))
+unfolding withReadOnly withDictionary withStore
+nothing-made m d = sym (machine-same m (append-nil (m .readOnly)) refl (append-nil (m .store)))
+
 -- A token that is no brace adds its value, its names and its objects.
 pub element-leaf : (t : Token)
     → isLeaf t ≡ true
     → (rest : Reader) (i brace depth start after : ℕ) (vs : List Value) (m : Machine)
     → element rest i brace depth start after vs m t ≡ rest i brace depth after (leafValue (made m) t ∷ vs) (leafed t m)
-unfolding element intern internAll make made withDictionary withStore
+unfolding element enclosed protect intern internAll make made withReadOnly withDictionary withStore upFrom
 element-leaf (Token.integer w) h rest i brace depth start after vs m =
-    ap (λ s. rest i brace depth after (integer w ∷ vs) (withStore s m)) (sym (append-nil (m .store)))
+    ap (λ (n : Machine). rest i brace depth after (integer w ∷ vs) n) (nothing-made m (m .dictionary))
 element-leaf (Token.string bs) h rest i brace depth start after vs m = refl
 element-leaf (Token.name x n) h rest i brace depth start after vs m =
-    ap (λ s. rest i brace depth after (name x n ∷ vs) (withDictionary (slotted n (m .dictionary)) (withStore s m))) (sym (append-nil (m .store)))
+    ap (λ (y : Machine). rest i brace depth after (name x n ∷ vs) y) (nothing-made m (slotted n (m .dictionary)))
 element-leaf Token.openBrace h rest i brace depth start after vs m = absurd (false≢true h)
 element-leaf Token.closeBrace h rest i brace depth start after vs m = absurd (false≢true h)
 element-leaf Token.end h rest i brace depth start after vs m = absurd (false≢true h)

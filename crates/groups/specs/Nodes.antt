@@ -2,11 +2,11 @@
 -- Assumes nothing.
 use mathlib.Core.Bool.{Bool, true, false}
 use mathlib.Core.List.{List, [], _∷_, _++_}
-use Prim.Native.Nat.{ℕ, suc, _+_}
+use Prim.Native.Nat.{ℕ, zero, suc, _+_}
 use lib.ListN.{length}
 use Rattle.semantics.specs.Tokens.{Token}
 use Rattle.semantics.specs.Values.{Value, integer, null, name, string, array, Object, elements, text, cells}
-use Rattle.semantics.specs.Machine.{Machine, Slot, withDictionary, withStore, made, change, slotted}
+use Rattle.semantics.specs.Machine.{Machine, Slot, withDictionary, withStore, withReadOnly, made, change, slotted}
 use Rattle.semantics.specs.Held.{sumOf}
 
 -- The elements of a group.
@@ -94,9 +94,18 @@ unfoldable pub internAll : List (List ℕ) → List Slot → List Slot
 internAll [] d = d
 internAll (n ∷ ns) d = internAll ns (slotted n d)
 
--- The machine with these names and objects.
+-- k, k + 1, .. , n numbers
+unfoldable pub upFrom : ℕ → ℕ → List ℕ
+upFrom k zero = []
+upFrom k (suc n) = k ∷ upFrom (suc k) n
+
+-- The objects that are read only once the next n are too.
+abbrev pub marked : ℕ → Machine → List ℕ
+marked n m = m .readOnly ++ upFrom (made m) n
+
+-- The machine with these names and objects, all of them read only.
 unfoldable pub grown : Nodes → Machine → Machine
-grown ns m = withDictionary (internAll (names ns) (m .dictionary)) (withStore (m .store ++ news (made m) ns) m)
+grown ns m = withReadOnly (marked (objects ns) m) (withDictionary (internAll (names ns) (m .dictionary)) (withStore (m .store ++ news (made m) ns) m))
 
 -- Object i is an array of these values.
 unfoldable pub filled : ℕ → List Value → Machine → Machine

@@ -62,6 +62,7 @@ kinds =
         after-new = there-after-new;
         after-change = λ s i o e r h. there-after-change s i o (e tt) r h;
         kind = λ q s i b h. h .kind;
+        inside = λ q s i b h. h .inside;
       };
     }
 

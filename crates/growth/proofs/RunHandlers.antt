@@ -37,6 +37,7 @@ names-stay ks =
       halting = λ m h. h;
       writing = λ t m h. h;
       making = λ o m h. h;
+      protecting = λ i m a h. h;
       changing = λ i o m a h. h;
       filling = λ i o m b h. h;
     }

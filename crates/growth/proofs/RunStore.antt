@@ -1,4 +1,4 @@
--- A run loses no object, since a step loses none and values go on naming objects of their own kind.
+-- A run loses no object and no mark for read only, since a step loses none and values go on naming objects of their own kind.
 -- Assumes nothing.
 use mathlib.Core.List.{List}
 use Prim.Native.Nat.{ℕ, _≤_}
@@ -8,7 +8,7 @@ use Rattle.growth.specs.Stores.{Remains}
 use Rattle.growth.proofs.Kinding.{Kinded, initial-kinded}
 use Rattle.growth.proofs.StepStore.{remains-itself, remains-then, step-store, step-kinded}
 
--- Each later state of a run keeps the objects of each earlier one.
+-- Each later state of a run keeps the objects and the marks of each earlier one.
 pub run-store-later : (l : Limits) (script : List ℕ) (early late : ℕ)
     → early ≤ late
     → (σ : State)

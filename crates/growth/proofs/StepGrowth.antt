@@ -32,6 +32,7 @@ log-grows L =
       halting = λ m h. h;
       writing = λ t m h. extends-more h t;
       making = λ o m h. h;
+      protecting = λ i m a h. h;
       changing = λ i o m a h. h;
       filling = λ i o m b h. h;
     }

@@ -206,6 +206,7 @@ module _ {m : Machine} {st e d c l : List ℕ} {μ : Floo.Machine} (R : Rep m st
           errorname = rw (getD-set-other (set d 623 a) 635 623 b 0 (λ q. omega arith), getD-set-same d 623 a 0 (omega (arith, rows-room R))) first;
           command = rw (getD-set-same (set d 623 a) 635 b 0 (omega (arith, rows-room R, length-set d 623 a))) second;
         };
+        sealed = R .sealed;
         naming = R .naming;
         logging = R .logging;
         stopped = R .stopped;

@@ -36,13 +36,14 @@ pub fn row_of(e: Error) -> usize
         Error::Undefined => 6,
         Error::StackUnderflow => 7,
         Error::TypeCheck => 8,
-        Error::RangeCheck => 9,
-        Error::UndefinedResult => 10,
-        Error::UnmatchedMark => 11,
-        Error::ExecStackOverflow => 12,
-        Error::StackOverflow => 13,
-        Error::VmError => 14,
-        Error::IoError => 15,
+        Error::InvalidAccess => 9,
+        Error::RangeCheck => 10,
+        Error::UndefinedResult => 11,
+        Error::UnmatchedMark => 12,
+        Error::ExecStackOverflow => 13,
+        Error::StackOverflow => 14,
+        Error::VmError => 15,
+        Error::IoError => 16,
     }
 }
 
@@ -55,8 +56,8 @@ pub fn row_named(dict: &[u32], slot: usize) -> usize
     row_among(
         dict,
         slot,
-        b"badnumber badescape openstring badbrace badbyte limitcheck undefined stackunderflow typecheck rangecheck \
-            undefinedresult unmatchedmark execstackoverflow stackoverflow VMerror ioerror ",
+        b"badnumber badescape openstring badbrace badbyte limitcheck undefined stackunderflow typecheck \
+            invalidaccess rangecheck undefinedresult unmatchedmark execstackoverflow stackoverflow VMerror ioerror ",
     )
 }
 

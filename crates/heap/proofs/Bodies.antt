@@ -209,6 +209,7 @@ pub grown : {g : Ghost} {p hand h c first n w was v : ℕ} {s r : Lists} {m m₁
     → ((g : Ghost) (e s : ℕ) → Shape g e m → 2 ≤ s → g .size s ≡ n → g .top s ≡ first → (k : ℕ) → n ≡ suc k → Skip (g .own) s k w) → (n ≡ 0 → w ≡ first)
     → Filled m c first w m₁ → Put m₁ h 3 (headerMark + c) m₂ → Put m₂ h 1 v m₃ → Longer was first c v
     → (g′ : Ghost) × Full g′ p hand r m₃ × Grows h g m g′ m₃ × (g′ .own h ≡ live) × (g′ .size (h + 2) ≡ 1 + g .size (h + 2)) × (NoOut g → NoOut g′)
+    × (word m₃ h 1 / sizeUnit % 2 ≡ word m h 1 / sizeUnit % 2)
 grown {g} {p} {hand} {h} {c} {first} {n} {w} {was} {v} {s} {r} {m} {m₁} {m₂} {m₃} F l T ef ew es K K₀ Fi P₂ P₃ L =
     let X = T p hand g F in
     let g₁ = X .0 in
@@ -247,6 +248,7 @@ grown {g} {p} {hand} {h} {c} {first} {n} {w} {was} {v} {s} {r} {m} {m₁} {m₂}
       upd-other (g₁ .own) c (on (h + 2) (g₁ .size (h + 2))) h hc ∙ l₁ X,
       upd-same (g₁ .size) (h + 2) (suc (g₁ .size (h + 2))) ∙ omega (arith, X .3 c .lives h hc l .1),
       λ n. no-out (g₁ .own) c (on (h + 2) (g₁ .size (h + 2))) (X .4 n) (λ q. out-on (sym q)),
+      h1 .kept,
     )
   where
     -- h is not the cell taken
@@ -255,7 +257,7 @@ grown {g} {p} {hand} {h} {c} {first} {n} {w} {was} {v} {s} {r} {m} {m₁} {m₂}
 
 pub headed : {g : Ghost} {p h kind : ℕ} {s r : Lists} {m m₁ m₂ m₃ m₄ : List ℕ} → Full g p 0 s m → Took s m h r → Put m h 0 kind m₁ → Put m₁ h 1 0 m₂ → Put m₂ h 2 1 m₃ → Put m₃ h 3 headerMark m₄
     → (g′ : Ghost) × Full g′ p (suc h) r m₄ × Grows h g m g′ m₄ × (g′ .own h ≡ live) × (g′ .size (h + 2) ≡ 0) × (word m₄ h 0 ≡ kind) × (g .own h ≡ live → ⊥) × (NoOut g → NoOut g′)
-    × ((c k : ℕ) → g .own c ≡ on (h + 2) k → ⊥)
+    × ((c k : ℕ) → g .own c ≡ on (h + 2) k → ⊥) × (word m₄ h 1 / sizeUnit % 2 ≡ 0)
 headed {g} {p} {h} {kind} {s} {r} {m} {m₁} {m₂} {m₃} {m₄} F T P₁ P₂ P₃ P₄ =
     let X = T p 0 g F in
     let g₁ = X .0 in
@@ -284,4 +286,5 @@ headed {g} {p} {h} {kind} {s} {r} {m} {m₁} {m₂} {m₃} {m₄} F T P₁ P₂ 
       λ q. out-live (sym (X .2) ∙ was q),
       λ n. no-out (g₁ .own) h live (X .4 n) (λ q. out-live (sym q)),
       λ c k q. not-header S h (ap isHead (X .2)) c h k (X .3 h .keeps c h k q .0) refl,
+      omega (arith, w1),
     )

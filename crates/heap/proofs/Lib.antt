@@ -7,6 +7,7 @@ pub mod Walks
 pub mod Pops
 pub mod Falls
 pub mod Scratches
+pub mod Sealings
 pub mod Since
 pub mod Parts
 pub mod Growing

@@ -6,3 +6,4 @@ pub mod Gone
 pub mod Grow
 pub mod Assign
 pub mod Reading
+pub mod Seal

@@ -6,7 +6,7 @@ use mathlib.Core.Path.{_≡_}
 use mathlib.Core.Bool.{Bool, true, false, not, _||_}
 use mathlib.Core.List.{List, [], _∷_, _++_}
 use mathlib.Core.Logic.{_⊎_}
-use Prim.Native.Nat.{ℕ, zero, suc, _+_, _-_, _%_, _<_}
+use Prim.Native.Nat.{ℕ, zero, suc, _+_, _-_, _/_, _%_, _<_}
 use lib.ListN.{length}
 use lib.Dec.{T, eqb, leb}
 use Rattle.heap.specs.Word.{word}
@@ -72,6 +72,10 @@ kindOf m h = word m h 0
 unfoldable pub bodySize : List ℕ → ℕ → ℕ
 bodySize m h = word m h 1 % sizeUnit
 
+-- Whether it is read only (02, W7).
+unfoldable pub isSealed : List ℕ → ℕ → Bool
+isSealed m h = eqb (word m h 1 / sizeUnit % 2) 1
+
 unfoldable pub countOf : List ℕ → ℕ → ℕ
 countOf m h = word m h 2
 
@@ -80,7 +84,7 @@ cellsOf m h = h ∷ walk m (bodySize m h) (word m h 3 % firstUnit)
 
 -- Opens every definition of this file.
 unfoldable pub reading : Unit {0}
-unfolding member keep only from walk sumOf freeCells occupied isHeader headers kindOf bodySize countOf cellsOf
+unfolding member keep only from walk sumOf freeCells occupied isHeader headers kindOf bodySize isSealed countOf cellsOf
 reading = tt
 
 -- ---- what a reading is to be

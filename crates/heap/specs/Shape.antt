@@ -58,7 +58,8 @@ pub record Ghost : Type 0 where
 abbrev pub headerMark : ℕ
 headerMark = 2 ^ 31
 
--- a header's word 3 is its body's first cell in units of it, and a header's word 1 its body's size in units of the other; what is above has its own uses
+-- a header's word 3 modulo it is its body's first cell, and a header's word 1 modulo the other its body's size; what is above has its own uses: a header's word 1
+-- in units of it is odd where its object is read only
 abbrev pub firstUnit : ℕ
 firstUnit = 32768
 

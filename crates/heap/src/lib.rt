@@ -1,6 +1,6 @@
 // Arrays and strings in cells of four words, over a lent slice, each object with the number of places that name it.
 // A header is (kind, number of body cells, count, first body cell and a mark), and a body cell (tag, payload, next cell, skip word).
-// Of a header's word 1 the lower 16 bits and SCATTERED and of its word 3 the lower 15 bits and the topmost are meant; the others may be anything.
+// Of a header's word 1 the lower 16 bits, READ_ONLY and SCATTERED and of its word 3 the lower 15 bits and the topmost are meant; the others may be anything.
 // The promise: where every count is exact before, it is exact after, and what is freed is what only dead objects name.
 ghost use mathlib.Core.Path.{_≡_};
 ghost use Prim.Native.Nat.{ℕ, suc, _+_, _-_, _*_, _%_, _<_, _≤_};
@@ -11,6 +11,8 @@ ghost use Rattle.heap.specs.Shape.{Ghost, Shape, Skip, Empty, Heap, Full
 ghost use Rattle.heap.specs.Assign.{Alives, Assigned, Target, Risen};
 ghost use Rattle.heap.specs.Grow.{Fine, FineLive, Took, Grew, Made, Filled, Longer};
 ghost use Rattle.heap.specs.Gone.{Sound, Goes, Shed, Freed};
+ghost use Rattle.heap.specs.Reading.{isSealed};
+ghost use Rattle.heap.specs.Seal.{Seals};
 
 // Tags below it are plain values; from it on the payload is a header cell.
 pub const FIRST_OBJECT: u32 = 8;
@@ -26,6 +28,9 @@ pub const FIRST_UNIT: u32 = 32768;
 
 // A header's word 1 modulo it is the number of cells of its body.
 const SIZE_UNIT: u32 = 65536;
+
+// A header's word 1 has it where its object is read only.
+const READ_ONLY: u32 = 65536;
 
 // A header's word 1 has it where the cells of its body do not stand side by side, the first one last.
 const SCATTERED: u32 = 131072;
@@ -98,6 +103,27 @@ pub fn size(m: &[u32], h: u32) -> u32
     ensures { λ r. ⌜ r ≡ word (now (m .entry)) h 1 % sizeUnit ⌝ }
 {
     get(m, h, 1) % SIZE_UNIT
+}
+
+// Whether the object of the header h is read only.
+// Ruled out: the mark of another object; the number of its cells read for the mark.
+pub fn is_sealed(m: &[u32], h: u32) -> bool
+    requires { ⌜ h * 4 + 4 ≤ length (now m) ⌝ }
+    ensures { λ r. ⌜ r ≡ isSealed (now (m .entry)) h ⌝ }
+{
+    get(m, h, 1) / READ_ONLY % 2 == 1
+}
+
+// The object of the header h is read only.
+// Ruled out: a mark that a second one takes away; the number of its cells changed.
+pub fn seal(m: &mut [u32], h: u32)
+    requires { ⌜ h * 4 + 4 ≤ length (now m) ⌝ }
+    ensures { λ _. ⌜ Seals (now (m .entry)) h (now (m .exit)) ⌝ }
+{
+    let w = get(m, h, 1);
+    if w / READ_ONLY % 2 == 0 {
+        put(m, h, 1, w + READ_ONLY);
+    }
 }
 
 // Cell i of the body of the header h: at once where the cells stand side by side.

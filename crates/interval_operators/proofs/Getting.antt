@@ -32,12 +32,12 @@ use Rattle.machine.proofs.Operands.{pop2-some}
 use Rattle.machine.proofs.Outcomes.{stack-depth, fails-heap, then-heap, stack-heap, two-fault}
 use Rattle.machine.proofs.Rooms.{stack-fits}
 use Rattle.elements.specs.Elements.{tagOf, named, itemId, freeCells, ItemTag, ArraySize, StringSize, arrayMade, stringMade}
-use Rattle.elements.proofs.Tags.{tag-string, tag-array, tag-no-object}
+use Rattle.elements.proofs.Tags.{tag-object, tag-string, tag-array, tag-no-object}
 use Rattle.elements.proofs.Vacancy.{push-makes, makes-heap, full-heap}
 use Rattle.strings.specs.Strings.{pasted, bytesCopied}
 use Rattle.interval_operators.specs.Intervals.{Integers, elementsCopied, resultLeft}
 use Rattle.word.proofs.Counts.{count-low, count-high}
-use Rattle.interval_operators.proofs.Splitting.{three, refit, tag-x, known, tag-object, text-of, array-of, text-size, array-size, getting, get-is, get-under}
+use Rattle.interval_operators.proofs.Splitting.{three, refit, tag-x, known, text-of, array-of, text-size, array-size, getting, get-is, get-under}
 
 abbrev op : Floo.Machine → Result Floo.Machine
 op = perform (bytes "getinterval")

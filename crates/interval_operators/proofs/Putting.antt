@@ -1,7 +1,7 @@
 -- putinterval: what each return shows, by the tags and sizes that the code has compared and by what its primitives did.
 -- Assumes nothing.
 use mathlib.Core.Path.{_≡_, refl, sym, ap, _∙_, subst}
-use mathlib.Core.Bool.{Bool}
+use mathlib.Core.Bool.{Bool, true, false}
 use mathlib.Core.List.{List, _∷_, _++_}
 use Prim.Native.Nat.{ℕ, _+_, _-_, _^_, _≤_, _<_}
 use native.Mathlib.Omega.{arith}
@@ -11,23 +11,24 @@ use lib.Seq.{take-length}
 use Rattle.semantics.specs.Text.{bytes}
 use Rattle.semantics.specs.Values.{Value, integer, null, string, array, Object, elements, text, Result, ok, fault, _>>=_, check, int, objectId}
 use Rattle.semantics.specs.Machine as Floo
-use Rattle.semantics.specs.Machine.{withStack, withStore, object, elementsOf, bytesOf, change}
+use Rattle.semantics.specs.Machine.{withStack, withStore, object, elementsOf, bytesOf, change, writable}
 use Rattle.semantics.specs.ObjectOperators as Def
 use Rattle.semantics.specs.ObjectOperators.{size, putAll}
 use Rattle.semantics.specs.Operators.{perform}
-use Rattle.semantics.specs.declared.Error.the-variants.{StackUnderflow, TypeCheck, RangeCheck}
+use Rattle.semantics.specs.declared.Error.the-variants.{StackUnderflow, TypeCheck, InvalidAccess, RangeCheck}
 use Rattle.machine.specs.Rep.{Rep, Somewhere, MovesHeap}
 use Rattle.machine.specs.Moves.{dropped}
 use Rattle.machine.specs.Room.{DoesHeap}
 use Rattle.machine.specs.declared.Machine.{Machine}
 use Rattle.machine.specs.declared.Did.the-variants.{Ok, Fail}
 use Rattle.machine.proofs.Outcomes.{KeepsStore, stack-depth, fails-heap, moves-heap, then-heap}
-use Rattle.elements.specs.Elements.{tagOf, named, itemId, ItemTag, ArraySize, StringSize}
-use Rattle.elements.proofs.Tags.{tag-string, tag-array, tag-no-object}
+use Rattle.elements.specs.Elements.{tagOf, named, itemId, ItemTag, ItemSealed, ArraySize, StringSize}
+use Rattle.elements.proofs.Tags.{tag-string, tag-array, tag-object, tag-no-object}
+use Rattle.elements.proofs.Marking.{item-writable, item-refused}
 use Rattle.strings.specs.Strings.{pasted, bytesCopied}
 use Rattle.interval_operators.specs.Intervals.{ArrayItem, ItemInteger, elementsCopied, threeDropped}
 use Rattle.word.proofs.Counts.{count-low, count-high}
-use Rattle.interval_operators.proofs.Splitting.{Three, three, refit, tag-x, tag-y, tag-z, known, tag-object, tag-integer, tag-no-integer, nine, text-of, array-of, text-size, array-size, putting, put-is, put-under}
+use Rattle.interval_operators.proofs.Splitting.{Three, three, refit, tag-x, tag-y, tag-z, known, tag-integer, tag-no-integer, nine, text-of, array-of, text-size, array-size, putting, put-is, put-under}
 
 abbrev op : Floo.Machine → Result Floo.Machine
 op = perform (bytes "putinterval")
@@ -130,18 +131,22 @@ record Objects (x z : Value) (τ : Floo.Machine) : Type 0 where
   kinds : putAll (object τ i) (object τ j) ≡ ok written
 
 module _ {x z : Value} {τ : Floo.Machine} (O : Objects x z τ) (w : ℕ) where
-  negative : 2 ^ 31 ≤ w → w < 2 ^ 32 → putting x (integer w) z τ ≡ fault RangeCheck
+  refused : writable (O .i) τ ≡ fault InvalidAccess → putting x (integer w) z τ ≡ fault InvalidAccess
   unfolding _>>=_ int
-  negative l h = rw (O .target, O .source, O .kinds, count-high w l h) refl
+  refused q = rw (O .target, O .source, O .kinds, q) refl
 
-  module _ (l : w < 2 ^ 31) where
+  negative : writable (O .i) τ ≡ ok tt → 2 ^ 31 ≤ w → w < 2 ^ 32 → putting x (integer w) z τ ≡ fault RangeCheck
+  unfolding _>>=_ int
+  negative q l h = rw (O .target, O .source, O .kinds, q, count-high w l h) refl
+
+  module _ (q : writable (O .i) τ ≡ ok tt) (l : w < 2 ^ 31) where
     outside : size (object τ (O .i)) < w + size (object τ (O .j)) → putting x (integer w) z τ ≡ fault RangeCheck
     unfolding _>>=_ int check
-    outside h = rw (O .target, O .source, O .kinds, count-low w l, lt-leb (w + size (object τ (O .j))) (size (object τ (O .i))) h) refl
+    outside h = rw (O .target, O .source, O .kinds, q, count-low w l, lt-leb (w + size (object τ (O .j))) (size (object τ (O .i))) h) refl
 
     inside : w + size (object τ (O .j)) ≤ size (object τ (O .i)) → putting x (integer w) z τ ≡ ok (change (O .i) (O .written w) τ)
     unfolding _>>=_ int check
-    inside h = rw (O .target, O .source, O .kinds, count-low w l, le-leb (w + size (object τ (O .j))) (size (object τ (O .i))) h) refl
+    inside h = rw (O .target, O .source, O .kinds, q, count-low w l, le-leb (w + size (object τ (O .j))) (size (object τ (O .i))) h) refl
 
 unfoldable texts : (μ : Floo.Machine) (i j : ℕ) → object μ i ≡ text (bytesOf (object μ i)) → object μ j ≡ text (bytesOf (object μ j)) → Objects (string i) (string j) μ
 unfolding objectId putAll
@@ -221,16 +226,28 @@ record Case (μ : Floo.Machine) (start : ℕ) : Type 0 where
   objects : Objects x z (withStack rest μ)
   split : μ .stack ≡ z ∷ integer start ∷ x ∷ rest
 
-module _ {μ : Floo.Machine} {start : ℕ} (C : Case μ start) where
-  case-negative : 2 ^ 31 ≤ start → start < 2 ^ 32 → op μ ≡ fault RangeCheck
-  case-negative l h = put-is μ (C .split) ∙ negative (C .objects) start l h
+module _ {m : Machine} {s c : List ℕ} {p : Bool} (M : ItemSealed 2 m s c p) {e d l : List ℕ} {μ : Floo.Machine} (R : Rep m s e d c l μ) {start : ℕ} (C : Case μ start) where
+  target-named : objectId (getD (μ .stack) 2 null) ≡ ok (C .objects .i)
+  target-named = ap (λ (r : List Value). objectId (getD r 2 null)) (C .split) ∙ C .objects .target
 
-  module _ (l : start < 2 ^ 31) {n k : ℕ} (source-size : n ≡ size (object (withStack (C .rest) μ) (C .objects .j))) (target-size : k ≡ size (object (withStack (C .rest) μ) (C .objects .i))) where
-    case-outside : k < start + n → op μ ≡ fault RangeCheck
-    case-outside h = put-is μ (C .split) ∙ outside (C .objects) start l (omega (arith, h, source-size, target-size))
+  case-refused : p ≡ true → op μ ≡ fault InvalidAccess
+  unfolding withStack
+  case-refused q = put-is μ (C .split) ∙ refused (C .objects) start (item-refused M R target-named (withStack (C .rest) μ) refl q)
 
-    case-inside : start + n ≤ k → op μ ≡ ok (change (C .objects .i) (C .objects .written start) (withStack (C .rest) μ))
-    case-inside h = put-is μ (C .split) ∙ inside (C .objects) start l (omega (arith, h, source-size, target-size))
+  module _ (plain : p ≡ false) where
+    writes : writable (C .objects .i) (withStack (C .rest) μ) ≡ ok tt
+    unfolding withStack
+    writes = item-writable M R target-named (withStack (C .rest) μ) refl plain
+
+    case-negative : 2 ^ 31 ≤ start → start < 2 ^ 32 → op μ ≡ fault RangeCheck
+    case-negative l h = put-is μ (C .split) ∙ negative (C .objects) start writes l h
+
+    module _ (low : start < 2 ^ 31) {n k : ℕ} (source-size : n ≡ size (object (withStack (C .rest) μ) (C .objects .j))) (target-size : k ≡ size (object (withStack (C .rest) μ) (C .objects .i))) where
+      case-outside : k < start + n → op μ ≡ fault RangeCheck
+      case-outside h = put-is μ (C .split) ∙ outside (C .objects) start writes low (omega (arith, h, source-size, target-size))
+
+      case-inside : start + n ≤ k → op μ ≡ ok (change (C .objects .i) (C .objects .written start) (withStack (C .rest) μ))
+      case-inside h = put-is μ (C .split) ∙ inside (C .objects) start writes low (omega (arith, h, source-size, target-size))
 
 record Strings (start : ℕ) (μ : Floo.Machine) : Type 0 where
   i : ℕ
@@ -313,63 +330,71 @@ module _ {m : Machine} {s c : List ℕ} (deep : 3 ≤ m .depth) {start : ℕ} (I
 
   -- ---- strings
 
-  module _ (X : ItemTag 2 m s 8) (Z : ItemTag 0 m s 8) where
-    pub put-bytes-negative : 2 ^ 31 ≤ start → start < 2 ^ 32 → DoesHeap op m s s c c (Fail RangeCheck)
-    put-bytes-negative l h = fails-heap (λ e d l′ μ R. case-negative (strings-case (two-strings X Z R)) l h)
+  module _ (X : ItemTag 2 m s 8) (Z : ItemTag 0 m s 8) {p : Bool} (M : ItemSealed 2 m s c p) where
+    pub put-bytes-refused : p ≡ true → DoesHeap op m s s c c (Fail InvalidAccess)
+    put-bytes-refused q = fails-heap (λ e d l μ R. case-refused M R (strings-case (two-strings X Z R)) q)
 
-    module _ (low : start < 2 ^ 31) {n k : ℕ} (N : StringSize 0 m s c n) (K : StringSize 2 m s c k) where
-      module _ {e d l : List ℕ} {μ : Floo.Machine} (R : Rep m s e d c l μ) where
-        bytes-source : n ≡ size (object μ (two-strings X Z R .j))
-        bytes-source = let S = two-strings X Z R in N .says e d l μ R (S .j) (ap (λ (r : List Value). getD r 0 null) (S .split)) ∙ sym (text-size (S .source))
+    module _ (plain : p ≡ false) where
+      pub put-bytes-negative : 2 ^ 31 ≤ start → start < 2 ^ 32 → DoesHeap op m s s c c (Fail RangeCheck)
+      put-bytes-negative l h = fails-heap (λ e d l′ μ R. case-negative M R (strings-case (two-strings X Z R)) plain l h)
 
-        bytes-target : k ≡ size (object μ (two-strings X Z R .i))
-        bytes-target = let S = two-strings X Z R in K .says e d l μ R (S .i) (ap (λ (r : List Value). getD r 2 null) (S .split)) ∙ sym (text-size (S .target))
+      module _ (low : start < 2 ^ 31) {n k : ℕ} (N : StringSize 0 m s c n) (K : StringSize 2 m s c k) where
+        module _ {e d l : List ℕ} {μ : Floo.Machine} (R : Rep m s e d c l μ) where
+          bytes-source : n ≡ size (object μ (two-strings X Z R .j))
+          bytes-source = let S = two-strings X Z R in N .says e d l μ R (S .j) (ap (λ (r : List Value). getD r 0 null) (S .split)) ∙ sym (text-size (S .source))
 
-      pub put-bytes-outside : k < start + n → DoesHeap op m s s c c (Fail RangeCheck)
-      unfolding strings-case texts object withStack
-      put-bytes-outside h = fails-heap (λ e d l μ R. case-outside (strings-case (two-strings X Z R)) low (bytes-source R) (bytes-target R) h)
+          bytes-target : k ≡ size (object μ (two-strings X Z R .i))
+          bytes-target = let S = two-strings X Z R in K .says e d l μ R (S .i) (ap (λ (r : List Value). getD r 2 null) (S .split)) ∙ sym (text-size (S .target))
 
-      pub put-bytes-done : start + n ≤ k
-          → {m′ : Machine} {c₁ c₂ : List ℕ}
-          → MovesHeap (bytesCopied 2 start 0 0 n) m m s s c c₁
-          → MovesHeap threeDropped m m′ s s c₁ c₂
-          → DoesHeap op m s s c c₂ (Ok m′)
-      unfolding strings-case texts object withStack
-      put-bytes-done h A B =
-          moves-heap (then-heap A B) (bytes-store start n) refl (λ e d l μ R.
-          let S = two-strings X Z R in
-          case-inside (strings-case S) low (bytes-source R) (bytes-target R) h
-          ∙ ap ok (sym (ap (λ (τ : Floo.Machine). threeDropped (bytesCopied 2 start 0 0 n τ)) (sym (refit μ (S .split)))
-          ∙ copied-text μ (S .i) (S .j) start n (integer start) (S .rest) (bytes-source R ∙ text-size (S .source)))))
+        pub put-bytes-outside : k < start + n → DoesHeap op m s s c c (Fail RangeCheck)
+        unfolding strings-case texts object withStack
+        put-bytes-outside h = fails-heap (λ e d l μ R. case-outside M R (strings-case (two-strings X Z R)) plain low (bytes-source R) (bytes-target R) h)
+
+        pub put-bytes-done : start + n ≤ k
+            → {m′ : Machine} {c₁ c₂ : List ℕ}
+            → MovesHeap (bytesCopied 2 start 0 0 n) m m s s c c₁
+            → MovesHeap threeDropped m m′ s s c₁ c₂
+            → DoesHeap op m s s c c₂ (Ok m′)
+        unfolding strings-case texts object withStack
+        put-bytes-done h A B =
+            moves-heap (then-heap A B) (bytes-store start n) refl (λ e d l μ R.
+            let S = two-strings X Z R in
+            case-inside M R (strings-case S) plain low (bytes-source R) (bytes-target R) h
+            ∙ ap ok (sym (ap (λ (τ : Floo.Machine). threeDropped (bytesCopied 2 start 0 0 n τ)) (sym (refit μ (S .split)))
+            ∙ copied-text μ (S .i) (S .j) start n (integer start) (S .rest) (bytes-source R ∙ text-size (S .source)))))
 
   -- ---- arrays
 
-  module _ (X : ArrayItem 2 m s) (Z : ArrayItem 0 m s) where
-    pub put-elements-negative : 2 ^ 31 ≤ start → start < 2 ^ 32 → DoesHeap op m s s c c (Fail RangeCheck)
-    put-elements-negative l h = fails-heap (λ e d l′ μ R. case-negative (arrays-case (two-arrays X Z R)) l h)
+  module _ (X : ArrayItem 2 m s) (Z : ArrayItem 0 m s) {p : Bool} (M : ItemSealed 2 m s c p) where
+    pub put-elements-refused : p ≡ true → DoesHeap op m s s c c (Fail InvalidAccess)
+    put-elements-refused q = fails-heap (λ e d l μ R. case-refused M R (arrays-case (two-arrays X Z R)) q)
 
-    module _ (low : start < 2 ^ 31) {n k : ℕ} (N : ArraySize 0 m s c n) (K : ArraySize 2 m s c k) where
-      module _ {e d l : List ℕ} {μ : Floo.Machine} (R : Rep m s e d c l μ) where
-        elements-source : n ≡ size (object μ (two-arrays X Z R .j))
-        elements-source = let S = two-arrays X Z R in N .says e d l μ R (S .b) (S .j) (ap (λ (r : List Value). getD r 0 null) (S .split)) ∙ sym (array-size (S .source))
+    module _ (plain : p ≡ false) where
+      pub put-elements-negative : 2 ^ 31 ≤ start → start < 2 ^ 32 → DoesHeap op m s s c c (Fail RangeCheck)
+      put-elements-negative l h = fails-heap (λ e d l′ μ R. case-negative M R (arrays-case (two-arrays X Z R)) plain l h)
 
-        elements-target : k ≡ size (object μ (two-arrays X Z R .i))
-        elements-target = let S = two-arrays X Z R in K .says e d l μ R (S .a) (S .i) (ap (λ (r : List Value). getD r 2 null) (S .split)) ∙ sym (array-size (S .target))
+      module _ (low : start < 2 ^ 31) {n k : ℕ} (N : ArraySize 0 m s c n) (K : ArraySize 2 m s c k) where
+        module _ {e d l : List ℕ} {μ : Floo.Machine} (R : Rep m s e d c l μ) where
+          elements-source : n ≡ size (object μ (two-arrays X Z R .j))
+          elements-source = let S = two-arrays X Z R in N .says e d l μ R (S .b) (S .j) (ap (λ (r : List Value). getD r 0 null) (S .split)) ∙ sym (array-size (S .source))
 
-      pub put-elements-outside : k < start + n → DoesHeap op m s s c c (Fail RangeCheck)
-      unfolding arrays-case arrays object withStack
-      put-elements-outside h = fails-heap (λ e d l μ R. case-outside (arrays-case (two-arrays X Z R)) low (elements-source R) (elements-target R) h)
+          elements-target : k ≡ size (object μ (two-arrays X Z R .i))
+          elements-target = let S = two-arrays X Z R in K .says e d l μ R (S .a) (S .i) (ap (λ (r : List Value). getD r 2 null) (S .split)) ∙ sym (array-size (S .target))
 
-      pub put-elements-done : start + n ≤ k
-          → {m₁ m′ : Machine} {s′ c₁ c₂ : List ℕ}
-          → MovesHeap (elementsCopied 2 start 0 0 n) m m₁ s s′ c c₁
-          → MovesHeap threeDropped m₁ m′ s′ s′ c₁ c₂
-          → length s′ ≡ length s
-          → DoesHeap op m s s′ c c₂ (Ok m′)
-      unfolding arrays-case arrays object withStack
-      put-elements-done h A B long =
-          moves-heap (then-heap A B) (elements-store start n) long (λ e d l μ R.
-          let S = two-arrays X Z R in
-          case-inside (arrays-case S) low (elements-source R) (elements-target R) h
-          ∙ ap ok (sym (ap (λ (τ : Floo.Machine). threeDropped (elementsCopied 2 start 0 0 n τ)) (sym (refit μ (S .split)))
-          ∙ copied-array μ (S .a) (S .b) (S .i) (S .j) start n (integer start) (S .rest) (elements-source R ∙ array-size (S .source)))))
+        pub put-elements-outside : k < start + n → DoesHeap op m s s c c (Fail RangeCheck)
+        unfolding arrays-case arrays object withStack
+        put-elements-outside h = fails-heap (λ e d l μ R. case-outside M R (arrays-case (two-arrays X Z R)) plain low (elements-source R) (elements-target R) h)
+
+        pub put-elements-done : start + n ≤ k
+            → {m₁ m′ : Machine} {s′ c₁ c₂ : List ℕ}
+            → MovesHeap (elementsCopied 2 start 0 0 n) m m₁ s s′ c c₁
+            → MovesHeap threeDropped m₁ m′ s′ s′ c₁ c₂
+            → length s′ ≡ length s
+            → DoesHeap op m s s′ c c₂ (Ok m′)
+        unfolding arrays-case arrays object withStack
+        put-elements-done h A B long =
+            moves-heap (then-heap A B) (elements-store start n) long (λ e d l μ R.
+            let S = two-arrays X Z R in
+            case-inside M R (arrays-case S) plain low (elements-source R) (elements-target R) h
+            ∙ ap ok (sym (ap (λ (τ : Floo.Machine). threeDropped (elementsCopied 2 start 0 0 n τ)) (sym (refit μ (S .split)))
+            ∙ copied-array μ (S .a) (S .b) (S .i) (S .j) start n (integer start) (S .rest) (elements-source R ∙ array-size (S .source)))))

@@ -11,7 +11,7 @@ use lib.Dec.{leb}
 use Rattle.semantics.specs.Text.{bytes, textual}
 use Rattle.semantics.specs.Values.{Value, integer, boolean, null, mark, operator, name, string, array, Object, elements, text, Result, ok, fault, _>>=_, check, int, objectId, count}
 use Rattle.semantics.specs.Machine as Floo
-use Rattle.semantics.specs.Machine.{withStack, object, elementsOf, bytesOf, change, pop3}
+use Rattle.semantics.specs.Machine.{withStack, object, elementsOf, bytesOf, change, writable, pop3}
 use Rattle.semantics.specs.ObjectOperators.{size, part, redirect, pushNew, putAll, getinterval, putinterval}
 use Rattle.semantics.specs.Operators.{perform, find, table, _is_}
 use Rattle.semantics.specs.declared.Error.the-variants.{StackUnderflow, TypeCheck, RangeCheck}
@@ -27,18 +27,6 @@ use Rattle.elements.proofs.Arrays.{array-item}
 use Rattle.elements.proofs.Strings.{string-item}
 
 -- ---- tags
-
-pub tag-object : (v : Value) → 8 ≤ tagOf v → objectId v ≡ ok (named v)
-unfolding tagOf objectId named
-tag-object null q = absurd (omega arith)
-tag-object (integer w) q = absurd (omega arith)
-tag-object (boolean b) q = absurd (omega arith)
-tag-object mark q = absurd (omega arith)
-tag-object (operator o) q = absurd (omega arith)
-tag-object (name false n) q = absurd (omega arith)
-tag-object (name true n) q = absurd (omega arith)
-tag-object (string i) q = refl
-tag-object (array x i) q = refl
 
 pub tag-integer : (v : Value) → tagOf v ≡ 1 → (w : ℕ) × (v ≡ integer w)
 unfolding tagOf
@@ -150,6 +138,7 @@ putting x y z τ =
     int y >>= λ p.
     objectId z >>= λ j.
     putAll (object τ i) (object τ j) >>= λ written.
+    writable i τ >>= λ w.
     count p >>= λ start.
     check (leb (start + size (object τ j)) (size (object τ i))) RangeCheck >>= λ u.
     ok (change i (written start) τ)

@@ -50,7 +50,7 @@ pub fn getinterval(m: Machine, stack: &mut [u32], cells: &mut [u32]) -> Did
     }
 }
 
-// Ruled out: rangecheck for a negative start where the operands are of two kinds, and bytes after those written that are lost.
+// Ruled out: rangecheck for a negative start where the operands are of two kinds or the target is read only, and bytes after those written that are lost.
 pub fn putinterval(m: Machine, stack: &mut [u32], cells: &mut [u32]) -> Did
     requires { ⌜ Somewhere m (now stack) (now cells) ⌝ }
     ensures { λ r. ⌜ DoesHeap (perform (bytes "putinterval")) m (now (stack .entry)) (now (stack .exit)) (now (cells .entry)) (now (cells .exit)) r ⌝ }
@@ -127,6 +127,9 @@ fn put_bytes(m: Machine, stack: &mut [u32], cells: &mut [u32]) -> Did
     ensures { λ r. ⌜ DoesHeap (perform (bytes "putinterval")) m (now (stack .entry)) (now (stack .exit)) (now (cells .entry)) (now (cells .exit)) r ⌝ }
 {
     let start = integer_at(m, stack, 1);
+    if elements::is_sealed(m, stack, cells, 2) {
+        return Did::Fail(Error::InvalidAccess);
+    }
     if SIGN <= start {
         return Did::Fail(Error::RangeCheck);
     }
@@ -144,6 +147,9 @@ fn put_elements(m: Machine, stack: &mut [u32], cells: &mut [u32]) -> Did
     ensures { λ r. ⌜ DoesHeap (perform (bytes "putinterval")) m (now (stack .entry)) (now (stack .exit)) (now (cells .entry)) (now (cells .exit)) r ⌝ }
 {
     let start = integer_at(m, stack, 1);
+    if elements::is_sealed(m, stack, cells, 2) {
+        return Did::Fail(Error::InvalidAccess);
+    }
     if SIGN <= start {
         return Did::Fail(Error::RangeCheck);
     }

@@ -60,6 +60,7 @@ restacked R z few =
       frames = R .frames;
       slots = R .slots;
       handled = R .handled;
+      sealed = R .sealed;
     }
 
 -- ---- on machines

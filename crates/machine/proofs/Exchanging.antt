@@ -60,6 +60,7 @@ module _ {m : Machine} {st e d c l : List ℕ} {μ : Floo.Machine} (R : Rep m st
         frames = frames-map carry (λ i t p w. refl) (λ i t p a r q w s. s) (all-reached frameValue exec) frames;
         slots = slots-map carry (all-reached (λ (s : Slot). bound (s .binding)) (μ .dictionary)) (R .slots);
         handled = handled-map carry (all-reached (λ (s : Slot). bound (s .binding)) (μ .handlers)) (R .handled);
+        sealed = record { marks = R .sealed .marks; made = R .sealed .made };
         naming = R .naming;
         logging = R .logging;
         stopped = R .stopped;

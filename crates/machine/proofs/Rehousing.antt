@@ -1,5 +1,5 @@
 -- The objects, the heap and the stack change at once: `Rep` holds of the new machine where the heap stands for the new objects, what places still reach is
--- carried over, and a running procedure keeps its length and its cells.
+-- carried over, a running procedure keeps its length and its cells, and the mark for read only is on the same objects.
 -- Assumes nothing.
 use mathlib.Core.Path.{_≡_, refl, sym, subst}
 use mathlib.Core.Bool.{true}
@@ -13,7 +13,7 @@ use Rattle.semantics.specs.Machine.{Slot, elementsOf, withStack, withStore}
 use Rattle.semantics.specs.ListLaws.{All}
 use Rattle.heap.specs.Chain.{on}
 use Rattle.heap.specs.declared.Lists.{Lists}
-use Rattle.store.specs.Rep.{isText, Names, Alive, objectAt}
+use Rattle.store.specs.Rep.{isText, Names, Alive, Sealed, objectAt}
 use Rattle.store.proofs.Deaths.{root-alive}
 use Rattle.machine.specs.Places.{frameValue, bound, roots, keys}
 use Rattle.machine.specs.Rep.{Rep, World, Stored, Is, IsIn, Items}
@@ -35,7 +35,8 @@ module _ {m : Machine} {st e d c l : List ℕ} {μ : Floo.Machine} (R : Rep m st
     → Reached (Alive (w .ρ) (w .ghost)) (array true i)
     → IsIn (R .world) μ (array true i) t p
     → R .world .ghost .own a ≡ on (p + 2) r
-    → w .ghost .own a ≡ on (p + 2) r) where
+    → w .ghost .own a ≡ on (p + 2) r)
+    (M : Sealed (w .ρ) (w .ghost) c′ store (μ .readOnly)) where
   abbrev after : Floo.Machine
   after = withStack stack (withStore store μ)
 
@@ -74,6 +75,7 @@ module _ {m : Machine} {st e d c l : List ℕ} {μ : Floo.Machine} (R : Rep m st
       frames = frames-map carry long stays frames-reached (R .frames);
       slots = slots-map carry slots-reached (R .slots);
       handled = handled-map carry handlers-reached (R .handled);
+      sealed = M;
       naming = R .naming;
       logging = R .logging;
       stopped = R .stopped;
@@ -105,12 +107,13 @@ module _ {m : Machine} {st e d c l : List ℕ} {μ : Floo.Machine} (R : Rep m st
     → Reached (Alive (w .ρ) (w .ghost)) (array true i)
     → IsIn (R .world) μ (array true i) t p
     → R .world .ghost .own a ≡ on (p + 2) r
-    → w .ghost .own a ≡ on (p + 2) r) where
+    → w .ghost .own a ≡ on (p + 2) r)
+    (M : Sealed (w .ρ) (w .ghost) c′ store (μ .readOnly)) where
   pub restored-in : (R′ : Rep (withDepth (m .depth) s m) st e d c′ l (withStore store μ)) × (R′ .world ≡ w)
   unfolding withStack withStore
   restored-in =
-      rehoused-in R w (μ .stack) store H carry long stays st (m .depth) refl (R .rooms .stack-fits)
-      (items-map carry (items-reached R w (μ .stack) store H carry long stays) (R .items))
+      rehoused-in R w (μ .stack) store H carry long stays M st (m .depth) refl (R .rooms .stack-fits)
+      (items-map carry (items-reached R w (μ .stack) store H carry long stays M) (R .items))
 
   pub restored : Rep (withDepth (m .depth) s m) st e d c′ l (withStore store μ)
   restored = restored-in .0

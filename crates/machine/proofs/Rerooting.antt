@@ -103,6 +103,7 @@ module _ {m : Machine} {st e d c l : List ℕ} {μ : Floo.Machine} (R : Rep m st
               (frames-map carry (λ i t p w. refl) (Worlds.stays (R .stored) r inside old new K) frames-reached frames);
           slots = subst (λ ks. Slots (Now ks) d′ 0 dictionary) back (slots-map carry slots-reached slots);
           handled = subst (λ ks. Handled (Now ks) ks d′ handlers (μ .latest)) back (handled-map carry handlers-reached handled);
+          sealed = Worlds.marked (R .stored) r inside old new K (R .sealed);
           naming = record {
             many = R .naming .many ∙ same-count (μ .dictionary) dictionary (sym named);
             titled = ap (take operatorCount) named ∙ R .naming .titled;

@@ -17,11 +17,12 @@ use Rattle.heap.specs.declared.Lists.{Lists}
 use Rattle.heap.proofs.Parts as parts
 use Rattle.heap.proofs.Since.{lt-or-le}
 use Rattle.store.specs.Rep as Store
-use Rattle.store.specs.Rep.{isText, Names, by-array, Alive}
+use Rattle.store.specs.Rep.{isText, Names, by-array, Alive, Sealed}
 use Rattle.store.proofs.Standing.{names-stands, stands-names, stands-plain}
 use Rattle.store.proofs.Deaths.{rep-since, root-alive}
 use Rattle.store.proofs.Rooting.{root-placed}
 use Rattle.store.proofs.Changes.{rep-words}
+use Rattle.store.proofs.Sealing.{sealed-kept}
 use Rattle.machine.specs.Places.{rootCount}
 use Rattle.machine.specs.Rep.{World, Stored, Is}
 use Rattle.machine.specs.Recount.{Place, Change, Recounts}
@@ -84,6 +85,12 @@ module _ {w : World} {s : Lists} {c : List ℕ} {names : List (List ℕ)} {store
             none-out = change .whole (H .none-out);
             objects = rep-since (placed .0 .heap .shape) (placed .0 .counts) (placed .1) near (change .since);
           }
+
+      -- Objects have the marks that they had.
+      pub marked : {ids : List ℕ} → Sealed (w .ρ) (w .ghost) c store ids → Sealed (w .ρ) (change .ghost) c′ store ids
+      marked S =
+          sealed-kept S (omega arith)
+          (λ h l. let x = change .since .alive h l in (x .0, x .3 ∙ change .same h 1 (omega arith) (λ e. omega arith)))
 
       -- What a place still reaches is what it was.
       pub carry : (v : Value) (t p : ℕ) → Reached (Alive (w .ρ) (change .ghost)) v → Is w names (map isText store) v t p → Is next names (map isText store) v t p

@@ -19,7 +19,7 @@ use Rattle.heap.specs.Shape.{Ghost, Full, NoOut, cells}
 use Rattle.heap.specs.Assign.{Alives}
 use Rattle.heap.specs.declared.Lists.{Lists}
 use Rattle.store.specs.Rep as Store
-use Rattle.store.specs.Rep.{Stands, byteOf, titles}
+use Rattle.store.specs.Rep.{Stands, Sealed, byteOf, titles}
 use Rattle.machine.specs.Words.{itemTag, itemPayload, frameKind, frameTag, framePayload, frameCell, frameLeft, frameFinal, bindingTag, bindingPayload, handlerTag, handlerPayload, handlerName, latestError, latestCommand}
 use Rattle.semantics.specs.NameLaws.{Distinct}
 use Rattle.semantics.specs.SlotLaws.{keysOf}
@@ -154,6 +154,7 @@ pub record Rep (m : Machine) (stack exec dict cs log : List ℕ) (μ : Floo.Mach
   pub frames : Frames (IsIn world μ) (world .ghost) (μ .store) exec (m .frames) (μ .exec)
   pub slots : Slots (IsIn world μ) dict 0 (μ .dictionary)
   pub handled : Handled (IsIn world μ) (keys μ) dict (μ .handlers) (μ .latest)
+  pub sealed : Sealed (world .ρ) (world .ghost) cs (μ .store) (μ .readOnly)
 
 -- ---- promises
 

@@ -289,7 +289,10 @@ pub fn rare(
     if k < 57 {
         return errors(k, m, stack, dict, cells);
     }
-    pegs(k, m, stack)
+    if k < 60 {
+        return pegs(k, m, stack);
+    }
+    array_operators::readonly(m, stack, cells)
 }
 
 // The same answer, made anew field by field: the compiler then keeps the fields of the state apart.

@@ -120,6 +120,7 @@ fn write_error(out: &mut [u8], at: usize, error: Error) -> usize
         Error::Undefined => text::copy(out, at, b"undefined"),
         Error::StackUnderflow => text::copy(out, at, b"stackunderflow"),
         Error::TypeCheck => text::copy(out, at, b"typecheck"),
+        Error::InvalidAccess => text::copy(out, at, b"invalidaccess"),
         Error::RangeCheck => text::copy(out, at, b"rangecheck"),
         Error::UndefinedResult => text::copy(out, at, b"undefinedresult"),
         Error::UnmatchedMark => text::copy(out, at, b"unmatchedmark"),

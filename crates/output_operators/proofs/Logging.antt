@@ -75,6 +75,7 @@ module _ {m : Machine} {s e d c l : List ℕ} {μ : Floo.Machine} (R : Rep m s e
         frames = R .frames;
         slots = R .slots;
         handled = R .handled;
+        sealed = R .sealed;
         naming = R .naming;
         logging = record { logged = taken (m .written) t l l′ r (R .logging .fits) w ∙ ap (λ (x : List ℕ). x ++ t) (R .logging .logged); fits = omega (arith, w .end, room, kept room w) };
         stopped = R .stopped;

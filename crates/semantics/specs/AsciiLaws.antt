@@ -23,7 +23,7 @@ use Rattle.semantics.specs.ListLaws.{All, nil, cons, every, both, all-ap
 use Rattle.semantics.specs.declared.Error.{Error}
 use Rattle.semantics.specs.declared.Fault.{Fault}
 use Rattle.semantics.specs.declared.Fault.the-variants.{BadNumber, BadEscape, OpenString, BadBrace, BadByte, OverLimit}
-use Rattle.semantics.specs.declared.Error.the-variants.{LimitCheck, Undefined, StackUnderflow, TypeCheck, RangeCheck, UndefinedResult, UnmatchedMark, ExecStackOverflow, StackOverflow, VmError, IoError}
+use Rattle.semantics.specs.declared.Error.the-variants.{LimitCheck, Undefined, StackUnderflow, TypeCheck, InvalidAccess, RangeCheck, UndefinedResult, UnmatchedMark, ExecStackOverflow, StackOverflow, VmError, IoError}
 
 abbrev pub Ascii : List ℕ → Type 0
 Ascii t = All (λ b. b < 128) t
@@ -118,6 +118,7 @@ error-ascii LimitCheck = words-ascii _ tt
 error-ascii Undefined = words-ascii _ tt
 error-ascii StackUnderflow = words-ascii _ tt
 error-ascii TypeCheck = words-ascii _ tt
+error-ascii InvalidAccess = words-ascii _ tt
 error-ascii RangeCheck = words-ascii _ tt
 error-ascii UndefinedResult = words-ascii _ tt
 error-ascii UnmatchedMark = words-ascii _ tt

@@ -22,7 +22,7 @@ use Rattle.semantics.specs.ListLaws.{inside-list}
 use Rattle.semantics.specs.NameLaws.{Distinct, error-count, errors-distinct}
 use Rattle.semantics.specs.SlotLaws.{keysOf, has-key, lacks-key, lookup-place, assign-place, slotted-known, slotted-unknown, lookup-slotted}
 use Rattle.semantics.specs.declared.Error.{Error}
-use Rattle.semantics.specs.declared.Error.the-variants.{LimitCheck, Undefined, StackUnderflow, TypeCheck, RangeCheck, UndefinedResult, UnmatchedMark, ExecStackOverflow, StackOverflow, VmError, IoError}
+use Rattle.semantics.specs.declared.Error.the-variants.{LimitCheck, Undefined, StackUnderflow, TypeCheck, InvalidAccess, RangeCheck, UndefinedResult, UnmatchedMark, ExecStackOverflow, StackOverflow, VmError, IoError}
 
 -- ---- errors by their places
 
@@ -32,13 +32,14 @@ errorRow LimitCheck = 5
 errorRow Undefined = 6
 errorRow StackUnderflow = 7
 errorRow TypeCheck = 8
-errorRow RangeCheck = 9
-errorRow UndefinedResult = 10
-errorRow UnmatchedMark = 11
-errorRow ExecStackOverflow = 12
-errorRow StackOverflow = 13
-errorRow VmError = 14
-errorRow IoError = 15
+errorRow InvalidAccess = 9
+errorRow RangeCheck = 10
+errorRow UndefinedResult = 11
+errorRow UnmatchedMark = 12
+errorRow ExecStackOverflow = 13
+errorRow StackOverflow = 14
+errorRow VmError = 15
+errorRow IoError = 16
 
 pub error-named : (e : Error) → getElem? errorNames (errorRow e) ≡ some (errorText e)
 unfolding errorNames errorText
@@ -46,6 +47,7 @@ error-named LimitCheck = refl
 error-named Undefined = refl
 error-named StackUnderflow = refl
 error-named TypeCheck = refl
+error-named InvalidAccess = refl
 error-named RangeCheck = refl
 error-named UndefinedResult = refl
 error-named UnmatchedMark = refl
@@ -63,6 +65,7 @@ error-not-empty LimitCheck = omega arith
 error-not-empty Undefined = omega arith
 error-not-empty StackUnderflow = omega arith
 error-not-empty TypeCheck = omega arith
+error-not-empty InvalidAccess = omega arith
 error-not-empty RangeCheck = omega arith
 error-not-empty UndefinedResult = omega arith
 error-not-empty UnmatchedMark = omega arith

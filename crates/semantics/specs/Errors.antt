@@ -1,10 +1,10 @@
--- The paper's names of errors and faults (01, Order within a step; 02, W4 and W1).
+-- The paper's names of errors and faults (01, Order within a step; 02, W4, W1 and W7).
 -- Assumes nothing.
 use mathlib.Core.List.{List, [], _∷_}
 use Prim.Native.Nat.{ℕ}
 use Rattle.semantics.specs.Text.{bytes, decimal}
 use Rattle.semantics.specs.declared.Error.{Error}
-use Rattle.semantics.specs.declared.Error.the-variants.{LimitCheck, Undefined, StackUnderflow, TypeCheck, RangeCheck, UndefinedResult, UnmatchedMark, ExecStackOverflow, StackOverflow, VmError, IoError}
+use Rattle.semantics.specs.declared.Error.the-variants.{LimitCheck, Undefined, StackUnderflow, TypeCheck, InvalidAccess, RangeCheck, UndefinedResult, UnmatchedMark, ExecStackOverflow, StackOverflow, VmError, IoError}
 use Rattle.semantics.specs.declared.Fault.{Fault}
 use Rattle.semantics.specs.declared.Fault.the-variants.{BadNumber, BadEscape, OpenString, BadBrace, BadByte, OverLimit}
 
@@ -14,6 +14,7 @@ errorText LimitCheck = bytes "limitcheck"
 errorText Undefined = bytes "undefined"
 errorText StackUnderflow = bytes "stackunderflow"
 errorText TypeCheck = bytes "typecheck"
+errorText InvalidAccess = bytes "invalidaccess"
 errorText RangeCheck = bytes "rangecheck"
 errorText UndefinedResult = bytes "undefinedresult"
 errorText UnmatchedMark = bytes "unmatchedmark"
@@ -40,7 +41,7 @@ whereText (BadBrace at) = decimal at
 whereText (BadByte at) = decimal at
 whereText OverLimit = []
 
--- Every name that an error can have, in the order of 01, the faults of tokens first: a handler can be set for each (W1.2).
+-- Every name that an error can have, in the order of 01 and 02, the faults of tokens first: a handler can be set for each (W1.2).
 unfoldable pub errorNames : List (List ℕ)
 errorNames =
     bytes "badnumber"
@@ -52,6 +53,7 @@ errorNames =
     ∷ bytes "undefined"
     ∷ bytes "stackunderflow"
     ∷ bytes "typecheck"
+    ∷ bytes "invalidaccess"
     ∷ bytes "rangecheck"
     ∷ bytes "undefinedresult"
     ∷ bytes "unmatchedmark"

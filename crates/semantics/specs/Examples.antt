@@ -1,5 +1,5 @@
 -- The starred cases of 01's "Checked by hand" and its worked example, computed by the definition; setup and token reading at some edges; handlers (02,
--- W1); pegs (02, W5); and what is wrong with tokens, and where (02, W4).
+-- W1); pegs (02, W5); the mark for read only (02, W7); and what is wrong with tokens, and where (02, W4).
 -- Assumes nothing.
 use mathlib.Core.Path.{_≡_, refl}
 use mathlib.Core.List.{List, [], _∷_, _++_, map, reverse}
@@ -15,10 +15,10 @@ use Rattle.semantics.specs.Printing.{printing, joined, item}
 use Rattle.semantics.specs.Operators.{operators}
 use Rattle.semantics.specs.Held.{holding}
 use Rattle.semantics.specs.Groups.{grouping}
-use Rattle.semantics.specs.Steps.{Run, run, initial, stepping}
+use Rattle.semantics.specs.Steps.{Ending, finished, stopped, outOfFuel, failed, misread, Run, run, initial, stepping}
 use Rattle.semantics.specs.Outcome.{outcomes}
 use Rattle.semantics.specs.Setup.{Lent, limits, refusal, printed, refused, faulty, read, reading, settings}
-use Rattle.semantics.specs.Errors.{errors}
+use Rattle.semantics.specs.Errors.{errorText, errors}
 use Rattle.semantics.specs.declared.Fault.the-variants.{BadNumber, BadEscape, OpenString, BadByte, OverLimit}
 use Rattle.semantics.specs.declared.Kind.the-variants.{String as StringKind, LiteralName, End}
 
@@ -51,6 +51,17 @@ itemsOf r = joined (bytes " ") (map (item (r .final .machine)) (reverse (r .fina
 
 left : String → List ℕ
 left s = itemsOf (run (limits (lent 4096 dictionaryWordsMost)) (bytes "#FLOO\n" ++ bytes s) 1000 initial)
+
+-- The error that ends it; nothing where none does.
+errorIn : Ending → List ℕ
+errorIn finished = []
+errorIn stopped = []
+errorIn outOfFuel = []
+errorIn (failed e c) = errorText e
+errorIn (misread f) = []
+
+error : String → List ℕ
+error s = errorIn (run (limits (lent 4096 dictionaryWordsMost)) (bytes "#FLOO\n" ++ bytes s) 1000 initial .ending)
 
 cases : List Case
 cases =
@@ -89,6 +100,22 @@ cases =
     ∷ (left "1 highpeg 12 highpeg -1 highpeg 0x80000000 highpeg 0x7FFFFFFF highpeg" gives "integer:0 integer:3 integer:31 integer:31 integer:30")
     ∷ (whole 4096 1000 "#FLOO\n0 lowpeg" gives "ending=error\nerror=undefinedresult\ncommand=lowpeg\nat=8\nwhere=\nsteps=3\ndepth=1\nheld=0\nlog=0\nitem=integer:0\n")
     ∷ (whole 4096 1000 "#FLOO\n0 highpeg" gives "ending=error\nerror=undefinedresult\ncommand=highpeg\nat=8\nwhere=\nsteps=3\ndepth=1\nheld=0\nlog=0\nitem=integer:0\n")
+    ∷ (whole 4096 1000 "#FLOO\n/p { \"abc\" dup 0 65 put } def p"
+    gives "ending=error\nerror=invalidaccess\ncommand=put\nat=36\nwhere=\nsteps=13\ndepth=4\nheld=8\nlog=0\nitem=string:3/3\nitem=string:3/3\nitem=integer:0\nitem=integer:65\n")
+    ∷ (whole 4096 1000 "#FLOO\n/p { \"abc\" } def p p" gives "ending=finished\nerror=none\ncommand=\nat=26\nwhere=\nsteps=12\ndepth=2\nheld=4\nlog=0\nitem=string:3/3\nitem=string:3/3\n")
+    ∷ (left "{ 1 2 3 } 0 2 getinterval dup 0 9 put dup 0 get" gives "procedure:2 integer:9")
+    ∷ (left "{ add } bind 0 get [ /sub cvx ] cvx readonly bind 0 get" gives "operator:add operator:sub")
+    ∷ (left "/invalidaccess { errorname command } onerror { 1 2 } 9 3 put"
+    gives "procedure:2 integer:9 integer:3 name:/invalidaccess name:/put")
+    ∷ (error "{ 1 2 } 9 3 put" gives "invalidaccess")
+    ∷ (error "{ 1 \"ab\" } 1 get 9 true put" gives "typecheck")
+    ∷ (error "{ 1 \"ab\" } 1 get 2 0 put" gives "invalidaccess")
+    ∷ (error "{ 1 2 } astore" gives "invalidaccess")
+    ∷ (error "{ } astore" gives "invalidaccess")
+    ∷ (error "[ 1 ] readonly -1 [ ] putinterval" gives "invalidaccess")
+    ∷ (error "[ 1 ] readonly 0 \"\" putinterval" gives "typecheck")
+    ∷ (error "7 \"\" readonly cvs" gives "invalidaccess")
+    ∷ (error "7 readonly" gives "typecheck")
     ∷ (whole 4096 1000 "#FLOO\n99999999999" gives "ending=error\nerror=limitcheck\ncommand=\nat=6\nwhere=\nsteps=1\ndepth=0\nheld=0\nlog=0\n")
     ∷ []
 
@@ -98,8 +125,8 @@ Hold [] = Unit {0}
 Hold (c ∷ cs) = (c .computed ≡ c .expected) × Hold cs
 
 checked : Hold cases
-unfolding textual words values errors tokens machinery printing operators holding grouping stepping outcomes settings lent _gives_ whole narrow itemsOf left cases
-checked = (refl, (refl, (refl, (refl, (refl, (refl, (refl, (refl, (refl, (refl, (refl, (refl, (refl, (refl, (refl, (refl, (refl, (refl, (refl, (refl, (refl, (refl, (refl, (refl, (refl, (refl, (refl, (refl, (refl, (refl, (refl, (refl, (refl, (refl, tt))))))))))))))))))))))))))))))))))
+unfolding textual words values errors tokens machinery printing operators holding grouping stepping outcomes settings lent _gives_ whole narrow itemsOf left errorIn error cases
+checked = (refl, (refl, (refl, (refl, (refl, (refl, (refl, (refl, (refl, (refl, (refl, (refl, (refl, (refl, (refl, (refl, (refl, (refl, (refl, (refl, (refl, (refl, (refl, (refl, (refl, (refl, (refl, (refl, (refl, (refl, (refl, (refl, (refl, (refl, (refl, (refl, (refl, (refl, (refl, (refl, (refl, (refl, (refl, (refl, (refl, (refl, (refl, (refl, tt))))))))))))))))))))))))))))))))))))))))))))))))
 
 -- ---- setup and the token reading
 

@@ -6,7 +6,7 @@ use Prim.Native.Nat.{ℕ, zero, suc, _+_}
 use lib.ListN.{length, drop}
 use Rattle.semantics.specs.Tokens.{Lexing, Token, lex, blanks}
 use Rattle.semantics.specs.Values.{ok, fault, _>>=_, Value, integer, name, string, array, elements, text}
-use Rattle.semantics.specs.Machine.{Machine, make, made, change, intern}
+use Rattle.semantics.specs.Machine.{Machine, make, made, change, protect, intern}
 use Rattle.semantics.specs.declared.Fault.the-variants.{BadBrace, OverLimit}
 
 -- A value read from the script, the machine with the objects and names that it needs, and the offset after it.
@@ -27,10 +27,14 @@ skip script offset = offset + blanks (drop offset script)
 abbrev pub Reader : Type 0
 Reader = ℕ → ℕ → ℕ → ℕ → List Value → Machine → Lexing Taken
 
--- A group's object is made at its opening brace, so that objects are numbered in the order of their first bytes; its strings and inner groups are made once,
--- with it (R36).
+-- What a group makes has the mark for read only from the start (02, W7): the group's own object, which is made at its opening brace, so that objects are
+-- numbered in the order of their first bytes,
 unfoldable pub opened : Machine → Machine
-opened m = make (elements []) m
+opened m = protect (made m) (make (elements []) m)
+
+-- and a string in it. Its strings and inner groups are made once, with it (R36).
+unfoldable pub enclosed : List ℕ → Machine → Machine
+enclosed bs m = protect (made m) (make (text bs) m)
 
 -- It has its elements at the closing brace.
 unfoldable pub closed : ℕ → List Value → Machine → ℕ → Lexing Taken
@@ -40,7 +44,7 @@ closed i vs m after = taken (array true i) (change i (elements (reverse vs)) m) 
 -- and none is executed (R35); the first fault from the left wins (R31). An unclosed brace is the innermost one that is open (02, W4).
 unfoldable pub element : Reader → ℕ → ℕ → ℕ → ℕ → ℕ → List Value → Machine → Token → Lexing Taken
 element rest i brace depth start after vs m (Token.integer w) = rest i brace depth after (integer w ∷ vs) m
-element rest i brace depth start after vs m (Token.string bs) = rest i brace depth after (string (made m) ∷ vs) (make (text bs) m)
+element rest i brace depth start after vs m (Token.string bs) = rest i brace depth after (string (made m) ∷ vs) (enclosed bs m)
 element rest i brace depth start after vs m (Token.name x n) = rest i brace depth after (name x n ∷ vs) (intern n m)
 element rest i brace zero start after vs m Token.openBrace = fault OverLimit
 element rest i brace (suc d) start after vs m Token.openBrace = do
@@ -75,5 +79,5 @@ takeToken script start m = do
 
 -- Opens every definition of this file.
 unfoldable pub grouping : Unit {0}
-unfolding taken skip opened closed element group tokenValue takeToken
+unfolding taken skip opened enclosed closed element group tokenValue takeToken
 grouping = tt

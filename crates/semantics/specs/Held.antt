@@ -1,14 +1,14 @@
 -- Held objects (01, Room). Held is the largest set of made objects in which each is named by a root, or by an element of a member.
 -- It is computed by leaving out what is not named, again and again. `HeldLaws` proves that it is that set.
 -- Assumes nothing.
-use mathlib.Core.Bool.{Bool, true, false, _||_}
+use mathlib.Core.Bool.{Bool, true, false}
 use mathlib.Core.List.{List, [], _∷_, _++_}
 use mathlib.Core.Option.{Option, none, some}
 use Prim.Native.Nat.{ℕ, zero, suc, _+_}
 use lib.ListN.{length}
 use lib.Dec.{eqb}
 use Rattle.semantics.specs.Values.{Value, integer, boolean, null, mark, operator, name, string, array, Object, elements, text, cells}
-use Rattle.semantics.specs.Machine.{Machine, Frame, pending, running, looping, repeating, counting, object}
+use Rattle.semantics.specs.Machine.{Machine, Frame, pending, running, looping, repeating, counting, object, member}
 
 -- ---- what a place names
 
@@ -56,10 +56,6 @@ roots m =
 unfoldable pub namedBy : Machine → List ℕ → List ℕ
 namedBy m ids = roots m ++ gather (λ i. ofObject (object m i)) ids
 
-unfoldable pub member : ℕ → List ℕ → Bool
-member i [] = false
-member i (j ∷ js) = eqb i j || member i js
-
 unfoldable pub keep : Bool → ℕ → List ℕ → List ℕ
 keep true i ids = i ∷ ids
 keep false i ids = ids
@@ -96,5 +92,5 @@ heldCells m = sumOf (λ i. cells (object m i)) (held m)
 
 -- Opens every definition of this file.
 unfoldable pub holding : Unit {0}
-unfolding ofValue ofFrame ofBinding gather ofObject roots namedBy member keep among prune pruned below held sumOf heldCells
+unfolding ofValue ofFrame ofBinding gather ofObject roots namedBy keep among prune pruned below held sumOf heldCells
 holding = tt

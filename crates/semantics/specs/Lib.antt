@@ -37,4 +37,5 @@ pub mod NameLaws
 pub mod SlotLaws
 pub mod ErrorLaws
 pub mod HeldLaws
+pub mod MarkLaws
 pub mod WhereLaws

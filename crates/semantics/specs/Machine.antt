@@ -1,14 +1,15 @@
 -- The machine that operators act on: both stacks, the dictionary, the made objects and the log (000, chapters 2 and 4; 01, Steps and Room).
 -- Assumes nothing.
-use mathlib.Core.Bool.{Bool, true, false}
+use mathlib.Core.Bool.{Bool, true, false, not, _||_}
 use mathlib.Core.List.{List, [], _∷_, _++_}
 use mathlib.Core.Option.{Option, none, some}
 use Prim.Native.Nat.{ℕ}
 use lib.IntN.{ℤ}
 use lib.ListN.{length, getD, set}
+use lib.Dec.{eqb}
 use Rattle.semantics.specs.Text.{same}
-use Rattle.semantics.specs.Values.{Result, ok, fault, Value, null, name, Object, elements, text}
-use Rattle.semantics.specs.declared.Error.the-variants.{StackUnderflow}
+use Rattle.semantics.specs.Values.{Result, ok, fault, check, Value, null, name, Object, elements, text}
+use Rattle.semantics.specs.declared.Error.the-variants.{StackUnderflow, InvalidAccess}
 
 -- A slot of the execution stack.
 pub data Frame : Type 0 where
@@ -33,34 +34,38 @@ pub record Machine : Type 0 where
   pub dictionary : List Slot
   pub exec : List Frame  -- the top first
   pub store : List Object  -- every object made so far
+  pub readOnly : List ℕ  -- the objects that carry the mark for read only (02, W7)
   pub handlers : List Slot  -- by the errors' names: what handles the error, if anything does
   pub latest : Latest
   pub log : List ℕ
   pub stopped : Bool  -- by stop, or by exit or continue with no loop
 
 unfoldable pub withStack : List Value → Machine → Machine
-withStack s m = record { stack = s; dictionary = m .dictionary; exec = m .exec; store = m .store; handlers = m .handlers; latest = m .latest; log = m .log; stopped = m .stopped }
+withStack s m = record { stack = s; dictionary = m .dictionary; exec = m .exec; store = m .store; readOnly = m .readOnly; handlers = m .handlers; latest = m .latest; log = m .log; stopped = m .stopped }
 
 unfoldable pub withDictionary : List Slot → Machine → Machine
-withDictionary d m = record { stack = m .stack; dictionary = d; exec = m .exec; store = m .store; handlers = m .handlers; latest = m .latest; log = m .log; stopped = m .stopped }
+withDictionary d m = record { stack = m .stack; dictionary = d; exec = m .exec; store = m .store; readOnly = m .readOnly; handlers = m .handlers; latest = m .latest; log = m .log; stopped = m .stopped }
 
 unfoldable pub withExec : List Frame → Machine → Machine
-withExec e m = record { stack = m .stack; dictionary = m .dictionary; exec = e; store = m .store; handlers = m .handlers; latest = m .latest; log = m .log; stopped = m .stopped }
+withExec e m = record { stack = m .stack; dictionary = m .dictionary; exec = e; store = m .store; readOnly = m .readOnly; handlers = m .handlers; latest = m .latest; log = m .log; stopped = m .stopped }
 
 unfoldable pub withStore : List Object → Machine → Machine
-withStore o m = record { stack = m .stack; dictionary = m .dictionary; exec = m .exec; store = o; handlers = m .handlers; latest = m .latest; log = m .log; stopped = m .stopped }
+withStore o m = record { stack = m .stack; dictionary = m .dictionary; exec = m .exec; store = o; readOnly = m .readOnly; handlers = m .handlers; latest = m .latest; log = m .log; stopped = m .stopped }
+
+unfoldable pub withReadOnly : List ℕ → Machine → Machine
+withReadOnly r m = record { stack = m .stack; dictionary = m .dictionary; exec = m .exec; store = m .store; readOnly = r; handlers = m .handlers; latest = m .latest; log = m .log; stopped = m .stopped }
 
 unfoldable pub withHandlers : List Slot → Machine → Machine
-withHandlers h m = record { stack = m .stack; dictionary = m .dictionary; exec = m .exec; store = m .store; handlers = h; latest = m .latest; log = m .log; stopped = m .stopped }
+withHandlers h m = record { stack = m .stack; dictionary = m .dictionary; exec = m .exec; store = m .store; readOnly = m .readOnly; handlers = h; latest = m .latest; log = m .log; stopped = m .stopped }
 
 unfoldable pub withLatest : Latest → Machine → Machine
-withLatest t m = record { stack = m .stack; dictionary = m .dictionary; exec = m .exec; store = m .store; handlers = m .handlers; latest = t; log = m .log; stopped = m .stopped }
+withLatest t m = record { stack = m .stack; dictionary = m .dictionary; exec = m .exec; store = m .store; readOnly = m .readOnly; handlers = m .handlers; latest = t; log = m .log; stopped = m .stopped }
 
 unfoldable pub write : List ℕ → Machine → Machine
-write t m = record { stack = m .stack; dictionary = m .dictionary; exec = m .exec; store = m .store; handlers = m .handlers; latest = m .latest; log = m .log ++ t; stopped = m .stopped }
+write t m = record { stack = m .stack; dictionary = m .dictionary; exec = m .exec; store = m .store; readOnly = m .readOnly; handlers = m .handlers; latest = m .latest; log = m .log ++ t; stopped = m .stopped }
 
 unfoldable pub halt : Machine → Machine
-halt m = record { stack = m .stack; dictionary = m .dictionary; exec = m .exec; store = m .store; handlers = m .handlers; latest = m .latest; log = m .log; stopped = true }
+halt m = record { stack = m .stack; dictionary = m .dictionary; exec = m .exec; store = m .store; readOnly = m .readOnly; handlers = m .handlers; latest = m .latest; log = m .log; stopped = true }
 
 -- ---- stacks
 
@@ -127,6 +132,20 @@ made m = length (m .store)
 unfoldable pub change : ℕ → Object → Machine → Machine
 change i o m = withStore (set (m .store) i o) m
 
+-- ---- the mark for read only (02, W7)
+
+unfoldable pub member : ℕ → List ℕ → Bool
+member i [] = false
+member i (j ∷ js) = eqb i j || member i js
+
+-- An object gets the mark, for good.
+unfoldable pub protect : ℕ → Machine → Machine
+protect i m = withReadOnly (m .readOnly ++ (i ∷ [])) m
+
+-- An object that may be written to, else invalidaccess.
+unfoldable pub writable : ℕ → Machine → Result (Unit {0})
+writable i m = check (not (member i (m .readOnly))) InvalidAccess
+
 -- ---- names
 
 unfoldable pub lookup : List ℕ → List Slot → Option Value
@@ -153,5 +172,5 @@ nameOrNull (some n) = name false n
 
 -- Opens every definition of this file.
 unfoldable pub machinery : Unit {0}
-unfolding withStack withDictionary withExec withStore withHandlers withLatest write halt push enter pop1 pop2 pop3 pop4 object elementsOf bytesOf make made change lookup assign slotted intern nameOrNull
+unfolding withStack withDictionary withExec withStore withReadOnly withHandlers withLatest write halt push enter pop1 pop2 pop3 pop4 object elementsOf bytesOf make made change member protect writable lookup assign slotted intern nameOrNull
 machinery = tt

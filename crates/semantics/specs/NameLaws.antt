@@ -1,4 +1,4 @@
--- There are as many operators, predefined names and names of errors as 01 and 02 say (House rules; W1, W4 and W5), all different: no text has two places among them.
+-- There are as many operators, predefined names and names of errors as 01 and 02 say (House rules; W1, W4, W5 and W7), all different: no text has two places among them.
 -- Assumes nothing.
 use mathlib.Core.Path.{_≡_, refl, sym, ap, _∙_, subst}
 use mathlib.Core.Bool.{Bool, true, not, _&&_}

@@ -7,7 +7,7 @@ use lib.IntN.{ℤ}
 use lib.ListN.{length, take, drop, set, getD, getElem?, replicate}
 use lib.Dec.{leb, ltb, eqb}
 use Rattle.semantics.specs.Values.{Result, ok, fault, _>>=_, check, given, Value, integer, boolean, null, mark, operator, name, string, array, Object, elements, text, current, int, arrayId, objectId, count}
-use Rattle.semantics.specs.Machine.{Machine, withStack, push, pop1, pop2, pop3, object, elementsOf, make, made, change}
+use Rattle.semantics.specs.Machine.{Machine, withStack, push, pop1, pop2, pop3, object, elementsOf, make, made, change, protect, writable}
 use Rattle.semantics.specs.StackOperators.{Operator}
 use Rattle.semantics.specs.declared.Error.the-variants.{LimitCheck, StackUnderflow, TypeCheck, RangeCheck, UnmatchedMark}
 
@@ -90,26 +90,37 @@ get m = do
   v ← got (object τ i) n
   ok (push v τ)
 
--- Stored bytes are 0 to 255. put at position n of a string of maximum n accepts only 0, and changes nothing. The value's type comes before the ranges (R60).
-unfoldable pub putInto : Object → ℤ → Value → Result Object
-putInto (elements vs) z v = do
+-- An array with a value at a place,
+unfoldable pub putElement : List Value → Value → ℤ → Result Object
+putElement vs v z = do
   n ← count z
   _ ← check (ltb n (length vs)) RangeCheck
   ok (elements (set vs n v))
-putInto (text bs) z v = do
-  y ← int v
+
+-- a string with a byte there. Stored bytes are 0 to 255. At position n of a string of maximum n only 0 is accepted, and changes nothing.
+unfoldable pub putByte : List ℕ → ℤ → ℤ → Result Object
+putByte bs y z = do
   n ← count z
   b ← count y
   _ ← check (leb b 255) RangeCheck
   _ ← check (ltb n (length bs) || (eqb n (length bs) && eqb b 0)) RangeCheck
   ok (text (set bs n b))
 
+-- The object with a value written into it, at a place to be given. The value's type comes before the mark and the ranges (R60; 02, W7).
+unfoldable pub putInto : Object → Value → Result (ℤ → Result Object)
+putInto (elements vs) v = ok (putElement vs v)
+putInto (text bs) v = do
+  y ← int v
+  ok (putByte bs y)
+
 unfoldable pub put : Operator
 put m = do
   (x, y, v, τ) ← pop3 m
   i ← objectId x
   z ← int y
-  o ← putInto (object τ i) z v
+  written ← putInto (object τ i) v
+  _ ← writable i τ
+  o ← written z
   ok (change i o τ)
 
 -- ---- intervals
@@ -165,6 +176,7 @@ putinterval m = do
   p ← int y
   j ← objectId z
   written ← putAll (object τ i) (object τ j)
+  _ ← writable i τ
   start ← count p
   _ ← check (leb (start + size (object τ j)) (size (object τ i))) RangeCheck
   ok (change i (written start) τ)
@@ -182,11 +194,21 @@ unfoldable pub astore : Operator
 astore m = do
   (x, τ) ← pop1 m
   i ← arrayId x
+  _ ← writable i τ
   let n = size (object τ i)
   _ ← check (leb n (length (τ .stack))) StackUnderflow
   ok (push x (change i (elements (reverse (take n (τ .stack)))) (withStack (drop n (τ .stack)) τ)))
 
+-- ---- the mark for read only (02, W7)
+
+-- An object that has it keeps it (W7.3).
+unfoldable pub readonly : Operator
+readonly m = do
+  (x, τ) ← pop1 m
+  i ← objectId x
+  ok (push x (protect i τ))
+
 -- Opens every definition of this file.
 unfoldable pub object-operators : Unit {0}
-unfolding newLength pushNew array′ string′ mark′ isMark aboveMark close lengthOf length′ got get putInto put size part redirect getinterval pasted putAll putinterval aload astore
+unfolding newLength pushNew array′ string′ mark′ isMark aboveMark close lengthOf length′ got get putElement putByte putInto put size part redirect getinterval pasted putAll putinterval aload astore readonly
 object-operators = tt

@@ -1,4 +1,4 @@
--- The operators by name (01, House rules: those of 000's 6.2 to 6.10 without glk and handleerror, and with string and print; and those of 02, W1 and W5). strlen and strcat are none (R1).
+-- The operators by name (01, House rules: those of 000's 6.2 to 6.10 without glk and handleerror, and with string and print; and those of 02, W1, W5 and W7). strlen and strcat are none (R1).
 -- Assumes nothing.
 use mathlib.Core.Bool.{true, false, not, _&&_, _||_, Bool·beq}
 use mathlib.Core.List.{List, [], _∷_}
@@ -12,7 +12,7 @@ use Rattle.semantics.specs.Values.{ok, fault}
 use Rattle.semantics.specs.StackOperators.{Operator, dup, exch, pop, index, copy, roll, stack-operators}
 use Rattle.semantics.specs.NumberOperators.{arithmetic, arithmetic1, division, bitshift, onesIn, lowestIn, highestIn, pegs, connective, negation, equality, comparison, number-operators}
 use Rattle.semantics.specs.ControlOperators.{def, load, bind, exec, if′, ifelse, loop, repeat, for, exit, continue, stop, onerror, errorname, command, control-operators}
-use Rattle.semantics.specs.ObjectOperators.{array′, string′, mark′, close, length′, get, put, getinterval, putinterval, aload, astore, object-operators}
+use Rattle.semantics.specs.ObjectOperators.{array′, string′, mark′, close, length′, get, put, getinterval, putinterval, aload, astore, readonly, object-operators}
 use Rattle.semantics.specs.TextOperators.{cvs, convert, cvn, print, echo, echostack, text-operators}
 use Rattle.semantics.specs.declared.Error.the-variants.{Undefined}
 
@@ -87,6 +87,7 @@ table =
     ∷ (bytes "ones" is pegs (λ w. some (onesIn 32 w)))
     ∷ (bytes "lowpeg" is pegs (lowestIn 32))
     ∷ (bytes "highpeg" is pegs (highestIn 32))
+    ∷ (bytes "readonly" is readonly)
     ∷ []
 
 -- The clause of the empty list is never met: an operator's name is in the table.

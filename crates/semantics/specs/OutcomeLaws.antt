@@ -24,7 +24,7 @@ use Rattle.semantics.specs.ResultLaws.{choose-cond}
 use Rattle.semantics.specs.declared.Error.{Error}
 use Rattle.semantics.specs.declared.Fault.{Fault}
 use Rattle.semantics.specs.declared.Fault.the-variants.{BadNumber, BadEscape, OpenString, BadBrace, BadByte, OverLimit}
-use Rattle.semantics.specs.declared.Error.the-variants.{LimitCheck, Undefined, StackUnderflow, TypeCheck, RangeCheck, UndefinedResult, UnmatchedMark, ExecStackOverflow, StackOverflow, VmError, IoError}
+use Rattle.semantics.specs.declared.Error.the-variants.{LimitCheck, Undefined, StackUnderflow, TypeCheck, InvalidAccess, RangeCheck, UndefinedResult, UnmatchedMark, ExecStackOverflow, StackOverflow, VmError, IoError}
 
 -- ---- names
 
@@ -103,6 +103,7 @@ error-length LimitCheck = omega arith
 error-length Undefined = omega arith
 error-length StackUnderflow = omega arith
 error-length TypeCheck = omega arith
+error-length InvalidAccess = omega arith
 error-length RangeCheck = omega arith
 error-length UndefinedResult = omega arith
 error-length UnmatchedMark = omega arith

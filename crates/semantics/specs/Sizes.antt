@@ -5,15 +5,15 @@ use Prim.Native.Nat.{ℕ, _+_, _*_}
 -- ---- names (01, House rules and Tokens)
 
 abbrev pub operatorCount : ℕ
-operatorCount = 60
+operatorCount = 61
 
 -- The operators, and [, true, false and null.
 abbrev pub nameCount : ℕ
 nameCount = operatorCount + 4
 
--- The names of errors (01, Order within a step; 02, W4).
+-- The names of errors (01, Order within a step; 02, W4 and W7).
 abbrev pub errorCount : ℕ
-errorCount = 16
+errorCount = 17
 
 -- The bytes of a name.
 abbrev pub nameMost : ℕ

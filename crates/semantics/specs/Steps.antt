@@ -264,9 +264,9 @@ startOf m = record { machine = m; next = 0; at = 0; steps = 0 }
 unfoldable pub unhandled : List Slot
 unhandled = map (λ n. record { key = n; binding = none }) errorNames
 
--- Both stacks empty, the predefined names, no object, no handler and no error.
+-- Both stacks empty, the predefined names, no object, no mark, no handler and no error.
 unfoldable pub initial : State
-initial = startOf (record { stack = []; dictionary = predefined; exec = []; store = []; handlers = unhandled; latest = record { errorname = none; command = none }; log = []; stopped = false })
+initial = startOf (record { stack = []; dictionary = predefined; exec = []; store = []; readOnly = []; handlers = unhandled; latest = record { errorname = none; command = none }; log = []; stopped = false })
 
 -- A string is made and bound to a name before step 1 (02, W3).
 unfoldable pub lending : List ℕ → List ℕ → Machine → Machine

@@ -8,7 +8,7 @@ use lib.Dec.{leb}
 use Rattle.semantics.specs.Sizes.{nameMost}
 use Rattle.semantics.specs.Text.{bytes}
 use Rattle.semantics.specs.Values.{ok, _>>=_, check, Value, integer, boolean, null, mark, operator, name, string, array, text, current, stringId}
-use Rattle.semantics.specs.Machine.{write, push, pop1, pop2, object, bytesOf, change, intern}
+use Rattle.semantics.specs.Machine.{write, push, pop1, pop2, object, bytesOf, change, writable, intern}
 use Rattle.semantics.specs.Printing.{joined, echoed, stringval}
 use Rattle.semantics.specs.StackOperators.{Operator}
 use Rattle.semantics.specs.declared.Error.the-variants.{LimitCheck, RangeCheck}
@@ -23,6 +23,7 @@ unfoldable pub cvs : Operator
 cvs m = do
   (x, y, τ) ← pop2 m
   i ← stringId y
+  _ ← writable i τ
   let t = stringval τ x
   let bs = bytesOf (object τ i)
   _ ← check (leb (length t) (length bs)) RangeCheck

@@ -2,11 +2,11 @@
 // against the definition.
 
 // Counts and limits, as specs/Sizes has them.
-pub const OPERATOR_COUNT: usize = 60;
+pub const OPERATOR_COUNT: usize = 61;
 
 pub const NAME_COUNT: usize = OPERATOR_COUNT + 4;
 
-pub const ERROR_COUNT: usize = 16;
+pub const ERROR_COUNT: usize = 17;
 
 pub const NAME_MOST: usize = 31;
 
@@ -50,6 +50,7 @@ pub enum Error {
     Undefined,
     StackUnderflow,
     TypeCheck,
+    InvalidAccess,
     RangeCheck,
     UndefinedResult,
     UnmatchedMark,

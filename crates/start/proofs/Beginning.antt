@@ -13,7 +13,7 @@ use Rattle.semantics.specs.Machine.{Slot}
 use Rattle.semantics.specs.Operators.{table}
 use Rattle.semantics.specs.Steps as Steps
 use Rattle.semantics.specs.Steps.{predefined, initial}
-use Rattle.semantics.specs.ListLaws.{every, some-one, none-some}
+use Rattle.semantics.specs.ListLaws.{nil, every, some-one, none-some}
 use Rattle.semantics.specs.NameLaws.{name-count, names-differ}
 use Rattle.heap.specs.Shape.{Empty, blank, cells}
 use Rattle.heap.specs.declared.Lists.{Lists}
@@ -127,6 +127,7 @@ begins E few large small W U =
             frames = Words.bottom;
             slots = slots (keys (initial .machine)) [] F;
             handled = handled-none U;
+            sealed = record { marks = λ h l. absurd (fresh-live l); made = nil };
             naming = record {
               many = sym name-count;
               titled = titled;

@@ -37,7 +37,7 @@ pub fn begin(dict: &mut [u32], cells: &[u32]) -> Machine
         b"dup exch pop index copy roll add sub mul idiv mod abs neg bitshift not and or xor eq ne lt le gt ge def load \
             bind exec if ifelse loop repeat for exit continue stop array mark ] length get put getinterval putinterval \
             aload astore string cvs cvx cvlit cvn echo echostack print onerror errorname command \
-            ones lowpeg highpeg [ true false null ",
+            ones lowpeg highpeg readonly [ true false null ",
     );
     forget_handlers(dict);
     Machine {

@@ -20,21 +20,26 @@ use Rattle.store.proofs.Deaths.{dead-keeps, alive?, element-alive}
 
 -- ---- words that stand for nothing
 
--- Counts and links may change.
-pub rep-words : {keys : List (List ℕ)} {n : ℕ} {ρ : ℕ → ℕ} {g : Ghost} {m m′ : List ℕ} {store : List Object} {roots : ℕ → Value} → Rep keys n ρ g m store roots
-    → length m′ ≡ length m → ((x u : ℕ) → u < 2 → word m′ x u ≡ word m x u) → Rep keys n ρ g m′ store roots
-rep-words {m = m} {m′ = m′} R size same = record {
+-- All but words 0 and word 1 of body cells may change.
+pub rep-kept : {keys : List (List ℕ)} {n : ℕ} {ρ : ℕ → ℕ} {g : Ghost} {m m′ : List ℕ} {store : List Object} {roots : ℕ → Value} → Rep keys n ρ g m store roots
+    → length m′ ≡ length m → ((x : ℕ) → word m′ x 0 ≡ word m x 0) → ((c a k : ℕ) → g .own c ≡ on (a + 2) k → word m′ c 1 ≡ word m c 1) → Rep keys n ρ g m′ store roots
+rep-kept {m = m} {m′ = m′} R size same pay = record {
   id = R .id;
   one = R .one;
-  array = λ h l w. R .array h l (sym (same h 0 (omega arith)) ∙ w);
-  text = λ h max l w. R .text h max l (sym (same h 0 (omega arith)) ∙ w);
-  value = λ c a k q o l w z. rw (same c 0 (omega arith), same c 1 (omega arith)) (R .value c a k q o l (sym (same a 0 (omega arith)) ∙ w) z);
+  array = λ h l w. R .array h l (sym (same h) ∙ w);
+  text = λ h max l w. R .text h max l (sym (same h) ∙ w);
+  value = λ c a k q o l w z. rw (same c, pay c a k o) (R .value c a k q o l (sym (same a) ∙ w) z);
   bytes = λ c a k q max j o l w z j8 b.
-      byte-same m m′ c j j8 (same c 0 (omega arith)) (same c 1 (omega arith)) ∙ R .bytes c a k q max j o l (sym (same a 0 (omega arith)) ∙ w) z j8 b;
+      byte-same m m′ c j j8 (same c) (pay c a k o) ∙ R .bytes c a k q max j o l (sym (same a) ∙ w) z j8 b;
   root = λ r h q. R .root r h (rw size at q);
   rooted = λ r i v. let y = R .rooted r i v in let x = y .1 in (y .0, (x .0, rw size (x .1), x .2));
   every = R .every;
 }
+
+-- Counts and links may.
+pub rep-words : {keys : List (List ℕ)} {n : ℕ} {ρ : ℕ → ℕ} {g : Ghost} {m m′ : List ℕ} {store : List Object} {roots : ℕ → Value} → Rep keys n ρ g m store roots
+    → length m′ ≡ length m → ((x u : ℕ) → u < 2 → word m′ x u ≡ word m x u) → Rep keys n ρ g m′ store roots
+rep-words R size same = rep-kept R size (λ x. same x 0 (omega arith)) (λ c a k o. same c 1 (omega arith))
 
 -- ---- an object
 

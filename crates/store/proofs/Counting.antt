@@ -12,9 +12,9 @@ use borrow.Author.Tests.{eq-eqb, ne-eqb, lt-ltb}
 use lib.ListN.{length, getD}
 use lib.Dec.{eqb}
 use Rattle.semantics.specs.Values.{Value, integer, boolean, null, mark, operator, name, string, array, Object, elements, text}
-use Rattle.semantics.specs.Machine.{Machine, object, elementsOf}
+use Rattle.semantics.specs.Machine.{Machine, object, elementsOf, member}
 use Rattle.semantics.specs.Held
-use Rattle.semantics.specs.Held.{ofValue, ofObject, gather, member, namedBy, held, sumOf}
+use Rattle.semantics.specs.Held.{ofValue, ofObject, gather, namedBy, held, sumOf}
 use Rattle.semantics.specs.HeldLaws.{_∈_}
 use Rattle.heap.specs.Word.{word}
 use Rattle.heap.specs.Upd.{pick, total}

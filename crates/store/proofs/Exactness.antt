@@ -19,7 +19,7 @@ use Rattle.heap.proofs.Shapes.{inside, header-of}
 use Rattle.heap.proofs.Walks.{first-cell}
 use Rattle.heap.proofs.Parts as parts
 use Rattle.heap.proofs.Readings.{Starts, header-live, live-header, exact}
-use Rattle.store.specs.Rep.{Names, element, Rep}
+use Rattle.store.specs.Rep.{Names, element, Rep, Sealed}
 use Rattle.store.specs.Matching.{kind, body, place, Matches}
 use Rattle.store.proofs.Standing.{stands-names, names-stands, names-cast}
 use Rattle.store.proofs.Places.{zero-or-suc}
@@ -74,7 +74,7 @@ module _ {keys : List (List ℕ)} {n : ℕ} {ρ : ℕ → ℕ} {g : Ghost} {p : 
       )
 
 module _ {keys : List (List ℕ)} {n : ℕ} {ρ : ℕ → ℕ} {g : Ghost} {p : ℕ} {s : Lists} {m : List ℕ} {roots : ℕ → Value} (μ : Machine)
-    (F : Full g p 0 s m) (z : s .dead ≡ 0) (whole : NoOut g) (R : Rep keys n ρ g m (μ .store) roots) (near : p ≡ cells m + n) (same : AsOften μ n roots) where
+    (F : Full g p 0 s m) (z : s .dead ≡ 0) (whole : NoOut g) (R : Rep keys n ρ g m (μ .store) roots) (near : p ≡ cells m + n) (same : AsOften μ n roots) (M : Sealed ρ g m (μ .store) (μ .readOnly)) where
   pub matches : Matches ρ μ s m
   unfolding countOf
   matches =
@@ -88,6 +88,7 @@ module _ {keys : List (List ℕ)} {n : ℕ} {ρ : ℕ → ℕ} {g : Ghost} {p : 
         one = λ h i a b. R .one h i (alive h a) (alive i b);
         kinds = λ h i. kind-is μ F R h (alive h i);
         lengths = λ h i. body-is μ F R h (alive h i);
+        marks = λ h i. M .marks h (alive h i);
         places = λ h q i a w b c. place-is μ F R h q i (alive h a) w b (alive i c);
         takes = λ h i. exact F z whole .sized h i ∙ ap (λ k. 1 + k) (body-is μ F R h (alive h i)) ∙ sym (cells-body (object μ (ρ h)));
         counts = λ h i. count-named μ S C R near none same h (alive h i);

@@ -8,6 +8,7 @@ use mathlib.Core.Logic.{inl, inr, ⊎-elim}
 use mathlib.Core.Option.{some}
 use Prim.Native.Nat.{ℕ, suc, _+_, _*_, _/_, _%_, _^_, _≤_, _<_}
 use native.Mathlib.Nat.{zero-div}
+use borrow.Author.Tests.{ne-eqb}
 use native.Mathlib.Omega.{arith}
 use lib.ListN.{length, getD, replicate, length-append, length-replicate, getD-replicate, getElem?, List·getD-append, List·getD-eq-default}
 use lib.Seq.{getD-append-seam}
@@ -16,7 +17,8 @@ use Rattle.semantics.specs.Machine.{elementsOf, bytesOf}
 use Rattle.heap.specs.Word.{word}
 use Rattle.heap.specs.Upd.{upd}
 use Rattle.heap.specs.Chain.{fresh, live, on}
-use Rattle.heap.specs.Shape.{Ghost, Shape, Counts, Full, NoOut, cells}
+use Rattle.heap.specs.Shape.{Ghost, Shape, Counts, Full, NoOut, cells, sizeUnit}
+use Rattle.heap.specs.Reading.{isSealed}
 use Rattle.heap.specs.Grow.{Grows, Made}
 use Rattle.heap.specs.Assign.{Alives}
 use Rattle.heap.specs.declared.Lists.{Lists}
@@ -194,11 +196,12 @@ pub record Adds (keys : List (List ℕ)) (n : ℕ) (ρ : ℕ → ℕ) (g : Ghost
   pub lives : ghost .own h ≡ live
   pub grows : Grows h g m ghost m′
   pub whole : NoOut g → NoOut ghost
+  pub plain : isSealed m′ h ≡ false  -- it may be written to
 
 module _ {keys : List (List ℕ)} {n : ℕ} {ρ : ℕ → ℕ} {g : Ghost} {p : ℕ} {s r : Lists} {m m′ : List ℕ} {store : List Object} {roots : ℕ → Value}
     (F : Full g p 0 s m) (R : Rep keys n ρ g m store roots) (near : p ≡ cells m + n) (h : ℕ) where
   pub rep-array : (z : ℕ) → Made 0 z h s m r m′ → Adds keys n ρ g p r m m′ store roots h (elements (replicate z null))
-  unfolding elementsOf bytesOf
+  unfolding elementsOf bytesOf isSealed
   rep-array z M = let X = M p g F in record {
     ghost = X .0;
     full = X .1;
@@ -207,10 +210,11 @@ module _ {keys : List (List ℕ)} {n : ℕ} {ρ : ℕ → ℕ} {g : Ghost} {p : 
     lives = X .3;
     grows = X .2;
     whole = X .7;
+    plain = ne-eqb (word m′ h 1 / sizeUnit % 2) 1 (λ q. omega (arith, q, X .9));
   }
 
   pub rep-string : (max : ℕ) → Made (suc max) ((max + 7) / 8) h s m r m′ → Adds keys n ρ g p r m m′ store roots h (text (replicate max 0))
-  unfolding elementsOf bytesOf
+  unfolding elementsOf bytesOf isSealed
   rep-string max M = let X = M p g F in record {
     ghost = X .0;
     full = X .1;
@@ -220,4 +224,5 @@ module _ {keys : List (List ℕ)} {n : ℕ} {ρ : ℕ → ℕ} {g : Ghost} {p : 
     lives = X .3;
     grows = X .2;
     whole = X .7;
+    plain = ne-eqb (word m′ h 1 / sizeUnit % 2) 1 (λ q. omega (arith, q, X .9));
   }

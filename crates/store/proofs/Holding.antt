@@ -9,9 +9,9 @@ use Prim.Native.Nat.{ℕ, zero, suc}
 use lib.ListN.{getD}
 use lib.Dec.{eqb, eqb→eq, eqb-refl}
 use Rattle.semantics.specs.Values.{Value, integer, boolean, null, mark, operator, name, string, array, Object, elements, text}
-use Rattle.semantics.specs.Machine.{Machine, object, elementsOf}
+use Rattle.semantics.specs.Machine.{Machine, object, elementsOf, member}
 use Rattle.semantics.specs.Held
-use Rattle.semantics.specs.Held.{ofValue, gather, ofObject, member, held}
+use Rattle.semantics.specs.Held.{ofValue, gather, ofObject, held}
 use Rattle.semantics.specs.HeldLaws as laws
 use Rattle.semantics.specs.HeldLaws.{_∈_, or-cases, or-left, or-right}
 use Rattle.heap.specs.Shape.{Ghost, Shape, Counts}

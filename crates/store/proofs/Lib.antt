@@ -6,6 +6,7 @@ pub mod Changes
 pub mod Elements
 pub mod Rooting
 pub mod Fresh
+pub mod Sealing
 pub mod Bytes
 pub mod Holding
 pub mod Rooming

@@ -12,8 +12,8 @@ use lib.ListN.{length}
 use lib.Dec.{eqb, leb, leb·zero}
 use Rattle.semantics.specs.Values.{Value, Object, check}
 use Rattle.semantics.specs.Values as values
-use Rattle.semantics.specs.Machine.{Machine, object}
-use Rattle.semantics.specs.Held.{member, keep, among, prune, pruned, namedBy, below, held, sumOf, heldCells}
+use Rattle.semantics.specs.Machine.{Machine, object, member}
+use Rattle.semantics.specs.Held.{keep, among, prune, pruned, namedBy, below, held, sumOf, heldCells}
 use Rattle.semantics.specs.Steps.{Limits, cellsFor}
 use Rattle.semantics.specs.declared.Error.the-variants.{VmError}
 use Rattle.semantics.specs.ResultLaws.{choose}

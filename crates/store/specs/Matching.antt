@@ -8,13 +8,13 @@ use Prim.Native.Nat.{ℕ, suc, _+_, _/_, _≤_, _<_}
 use lib.ListN.{length, getD}
 use lib.Dec.{eqb}
 use Rattle.semantics.specs.Values.{Object, elements, text, cells}
-use Rattle.semantics.specs.Machine.{Machine, object}
+use Rattle.semantics.specs.Machine.{Machine, object, member}
 use Rattle.semantics.specs.Held.{held, namedBy, sumOf}
 use Rattle.semantics.specs.HeldLaws.{_∈_ as _∈held_}
 use Rattle.heap.specs.Word.{word}
 use Rattle.heap.specs.Upd.{pick}
 use Rattle.heap.specs.Shape.{firstObject}
-use Rattle.heap.specs.Reading.{_∈_, headers, cellsOf, countOf, kindOf, bodySize}
+use Rattle.heap.specs.Reading.{_∈_, headers, cellsOf, countOf, kindOf, bodySize, isSealed}
 use Rattle.heap.specs.declared.Lists.{Lists}
 use Rattle.store.specs.Rep.{Names, element}
 
@@ -45,6 +45,8 @@ pub record Matches (ρ : ℕ → ℕ) (μ : Machine) (s : Lists) (m : List ℕ) 
   -- in kind, and in length or maximum
   pub kinds : (h : ℕ) → h ∈ headers s m → kindOf m h ≡ kind (object μ (ρ h))
   pub lengths : (h : ℕ) → h ∈ headers s m → bodySize m h ≡ body (object μ (ρ h))
+  -- the mark for read only is on the objects that carry it (02, W7)
+  pub marks : (h : ℕ) → h ∈ headers s m → isSealed m h ≡ member (ρ h) (μ .readOnly)
   -- an array's cells name what its elements name
   pub places : (h q i : ℕ) → h ∈ headers s m → kindOf m h ≡ 0 → q < bodySize m h → i ∈ headers s m
       → ((firstObject ≤ word m (place m h q) 0) × (word m (place m h q) 1 ≡ i)) ↔ Names (element (μ .store) (ρ h) q) (ρ i)

@@ -9,11 +9,13 @@ use mathlib.Core.Option.{some}
 use Prim.Native.Nat.{ℕ, suc, _+_, _-_, _*_, _/_, _%_, _^_, _<_}
 use lib.ListN.{length, getD, getElem?}
 use Rattle.semantics.specs.Values.{Value, integer, boolean, null, mark, operator, name, string, array, Object, elements, text}
-use Rattle.semantics.specs.Machine.{elementsOf, bytesOf}
+use Rattle.semantics.specs.Machine.{elementsOf, bytesOf, member}
 use Rattle.semantics.specs.Operators.{Entry, table}
+use Rattle.semantics.specs.MarkLaws.{Below}
 use Rattle.heap.specs.Word.{word}
 use Rattle.heap.specs.Chain.{live, on}
 use Rattle.heap.specs.Shape.{Ghost, cells}
+use Rattle.heap.specs.Reading.{isSealed}
 
 -- ---- values
 
@@ -106,3 +108,8 @@ pub record Rep (keys : List (List ℕ)) (n : ℕ) (ρ : ℕ → ℕ) (g : Ghost)
   pub root : (r h : ℕ) → g .aim (cells m + r) ≡ suc h → Names (roots r) (ρ h)
   pub rooted : (r i : ℕ) → Names (roots r) i → (r < n) × ((h : ℕ) × (g .aim (cells m + r) ≡ suc h) × (ρ h ≡ i))
   pub every : (i : ℕ) → i < length store → Alive ρ g i ⊎ Dead store roots i
+
+-- The objects `ids` are read only (02, W7): the live headers that have the mark stand for them, and each has been made.
+pub record Sealed (ρ : ℕ → ℕ) (g : Ghost) (m : List ℕ) (store : List Object) (ids : List ℕ) : Type 0 where
+  pub marks : (h : ℕ) → g .own h ≡ live → isSealed m h ≡ member (ρ h) ids
+  pub made : Below (length store) ids

@@ -11,9 +11,9 @@ use lib.IntN.{ℤ}
 use lib.Dec.{T, leb→le}
 use lib.ListN.{length, take, drop, set, length-append, length-take, length-drop, length-set, length-reverse, length-map}
 use lib.Seq.{length-take-le}
-use Rattle.semantics.specs.Values.{Value, Object, elements, text}
+use Rattle.semantics.specs.Values.{Result, Value, Object, elements, text}
 use Rattle.semantics.specs.Machine.{elementsOf, bytesOf}
-use Rattle.semantics.specs.ObjectOperators.{putInto, size, part, pasted, putAll}
+use Rattle.semantics.specs.ObjectOperators.{putElement, putByte, putInto, size, part, pasted, putAll}
 use Rattle.semantics.specs.TextOperators.{overwrite}
 use Rattle.semantics.specs.ResultLaws.{Gives, gives, fails, gives-then, gives-check}
 use Rattle.semantics.specs.ListLaws.{All, all-append, all-take, all-drop, all-reverse, all-set, all-map}
@@ -115,19 +115,21 @@ module _ {A : Parts} {s : List Object} where
   part-good a n (elements vs) h = array-object (all-take n (all-drop a (h .inside))) (A .numbers .smaller _ (length vs) (part-length a n vs) (h .extent))
   part-good a n (text bs) h = text-object (all-take n (all-drop a (h .stored))) (A .numbers .smaller _ (length bs) (part-length a n bs) (h .extent))
 
-  pub putInto-good : (o : Object) → GoodObject A s o → (z : ℤ) (v : Value) → Good A s v → Gives (λ (p : Object). Alike o p × GoodObject A s p) (putInto o z v)
-  unfolding putInto elementsOf bytesOf size
-  putInto-good (elements vs) h z v k =
-      gives-each _
+  pub putInto-good : (o : Object) → GoodObject A s o → (v : Value) → Good A s v → Gives (λ (f : ℤ → Result Object). (z : ℤ) → Gives (λ (p : Object). Alike o p × GoodObject A s p) (f z)) (putInto o v)
+  unfolding putInto putElement putByte elementsOf bytesOf size
+  putInto-good (elements vs) h v k =
+      gives
+      (λ z. gives-each _
       (λ n. gives-each _
-      (λ u. gives (record { kind = refl; extent = length-set vs n v }, array-object (all-set (h .inside) n k) (A .numbers .smaller _ (length vs) (omega (arith, length-set vs n v)) (h .extent)))))
-  putInto-good (text bs) h z v k =
+      (λ u. gives (record { kind = refl; extent = length-set vs n v }, array-object (all-set (h .inside) n k) (A .numbers .smaller _ (length vs) (omega (arith, length-set vs n v)) (h .extent))))))
+  putInto-good (text bs) h v k =
       gives-each _
-      (λ y. gives-each _
+      (λ y. gives
+      (λ z. gives-each _
       (λ n. gives-each _
       (λ b. gives-then (gives-check _ _)
       (λ u t. gives-each _
-      (λ w. gives (record { kind = refl; extent = length-set bs n b }, text-object (all-set (h .stored) n (A .numbers .byte b (leb→le b 255 t))) (A .numbers .smaller _ (length bs) (omega (arith, length-set bs n b)) (h .extent))))))))
+      (λ w. gives (record { kind = refl; extent = length-set bs n b }, text-object (all-set (h .stored) n (A .numbers .byte b (leb→le b 255 t))) (A .numbers .smaller _ (length bs) (omega (arith, length-set bs n b)) (h .extent)))))))))
 
   -- At a place where it fits.
   pub putAll-good : (o q : Object)

@@ -153,6 +153,17 @@ module _ {A : Parts} {s : List Object} where
   stringId-there v (a-string h) = gives h
   stringId-there v (an-array h) = fails
 
+  pub objectId-there : (v : Value) → Good A s v → Gives (λ (i : ℕ). (b : Bool) × A .references .Reference s (i, b)) (objectId v)
+  unfolding objectId
+  objectId-there v (a-word h) = fails
+  objectId-there v a-truth = fails
+  objectId-there v a-null = fails
+  objectId-there v a-mark = fails
+  objectId-there v (an-operator h) = fails
+  objectId-there v (a-name h) = fails
+  objectId-there v (a-string h) = gives (true, h)
+  objectId-there v (an-array h) = gives (false, h)
+
   pub objectId-redirects : (v : Value) → Good A s v → Gives (Redirects A s v) (objectId v)
   unfolding objectId redirect
   objectId-redirects v (a-word h) = fails

@@ -13,12 +13,12 @@ use lib.ListN.{length, length-replicate}
 use Rattle.semantics.specs.Text.{same}
 use Rattle.semantics.specs.declared.Error.{Error}
 use Rattle.semantics.specs.Values.{Result, ok, Value, null, string, array, Object, elements, text, current}
-use Rattle.semantics.specs.Machine.{Machine, Frame, pending, withStack, withExec, withStore, withDictionary, halt, push, enter, object, bytesOf, make, made, intern}
+use Rattle.semantics.specs.Machine.{Machine, Frame, pending, withStack, withExec, withStore, withDictionary, halt, push, enter, object, bytesOf, make, made, withReadOnly, protect, intern}
 use Rattle.semantics.specs.Printing.{stringval}
 use Rattle.semantics.specs.StackOperators.{Operator, dup, exch, pop, index, copy, modulo, roll}
 use Rattle.semantics.specs.NumberOperators.{arithmetic, arithmetic1, bitshift, pegs, connective, negation, equality, comparison}
 use Rattle.semantics.specs.ControlOperators.{def, load, bound, bind, exec, if′, ifelse, loop, repeat, for, exit, continue, stop, onerror, errorname, command}
-use Rattle.semantics.specs.ObjectOperators.{pushNew, array′, string′, mark′, close, length′, get, put, size, part, redirect, getinterval, putinterval, aload, astore}
+use Rattle.semantics.specs.ObjectOperators.{pushNew, array′, string′, mark′, close, length′, get, put, size, part, redirect, getinterval, putinterval, aload, astore, readonly}
 use Rattle.semantics.specs.TextOperators.{cvs, convert, cvn, print, echo, echostack}
 use Rattle.semantics.specs.Operators.{Entry, _is_, table, find, perform}
 use Rattle.semantics.specs.ResultLaws.{Gives, gives, fails, gives-then, gives-check, choose, choose-cond}
@@ -27,8 +27,8 @@ use Rattle.semantics.specs.PegLaws.{ones-small, lowest-finds, highest-finds, fo
 use Rattle.walk.specs.Objects.{isString}
 use Rattle.walk.specs.Parts.{Bitwise, Parts, Good, a-truth, a-null, a-mark, a-name, a-string, an-array, GoodFrame, GoodObject}
 use Rattle.walk.proofs.Parts.{array-object, text-object, lookup-good, assign-good, nameOrNull-good}
-use Rattle.walk.proofs.Property.{Property, Fit, gives-each, with-stack, with-exec, with-dictionary, with-handler, interned, written, halted, pushed, entered, maked, changed, object-good, changed-pushed, popped1, popped2, popped3, popped4}
-use Rattle.walk.proofs.Operands.{word-good, shift-good, pegs-good, length-good, logical2-good, negated-good, newLength-size, arrayId-there, procedureId-there, stringId-there, objectId-redirects, asExecutable-good, aboveMark-good, fromLoop-good, got-good, bound-good, current-bytes, stringval-bytes}
+use Rattle.walk.proofs.Property.{Property, Fit, gives-each, with-stack, with-exec, with-dictionary, with-handler, interned, written, halted, pushed, entered, protected, maked, changed, object-good, changed-pushed, popped1, popped2, popped3, popped4}
+use Rattle.walk.proofs.Operands.{word-good, shift-good, pegs-good, length-good, logical2-good, negated-good, newLength-size, arrayId-there, procedureId-there, stringId-there, objectId-there, objectId-redirects, asExecutable-good, aboveMark-good, fromLoop-good, got-good, bound-good, current-bytes, stringval-bytes}
 use Rattle.walk.proofs.Objects.{bind-alike, astore-alike, cvs-alike, bind-good, astore-good, cvs-good, part-good, putInto-good, putAll-good}
 
 part-kind : (start n : ℕ) (o : Object) → isString (part start n o) ≡ isString o
@@ -289,7 +289,8 @@ module _ (K : Property) where
       gives-then (popped3 h)
       (λ p k. gives-each _
       (λ i. gives-each _
-      (λ z. gives-then (putInto-good _ (object-good (k .3) i) z _ (k .2)) (λ o s. gives (changed (k .3) i (λ q. s .0) (s .1))))))
+      (λ z. gives-then (putInto-good _ (object-good (k .3) i) _ (k .2))
+      (λ f s. gives-each _ (λ u. gives-then (s z) (λ o t. gives (changed (k .3) i (λ q. t .0) (t .1))))))))
 
   getinterval-keeps : Keeps getinterval
   unfolding getinterval
@@ -312,10 +313,11 @@ module _ (K : Property) where
       (λ y. gives-each _
       (λ j. gives-then (putAll-good _ _ (object-good (k .3) i) (object-good (k .3) j))
       (λ f s. gives-each _
+      (λ w. gives-each _
       (λ a. gives-then (gives-check _ _)
       (λ u t.
       let r = s a (leb→le _ _ t) in
-      gives (changed (k .3) i (λ q. r .0) (r .1)))))))))
+      gives (changed (k .3) i (λ q. r .0) (r .1))))))))))
 
   aload-keeps : Keeps aload
   unfolding aload withStack
@@ -329,14 +331,22 @@ module _ (K : Property) where
   astore-keeps m h d =
       gives-then (popped1 h)
       (λ p k. gives-then (arrayId-there (p .0) (k .0))
-      (λ i t. gives-then (gives-check _ _)
+      (λ i t. gives-each _
+      (λ w. gives-then (gives-check _ _)
       (λ u c.
       let o = object (p .1) i in
       let s = k .1 .parts .stack in
       gives (changed-pushed (with-stack (k .1) (all-drop (size o) s)) i
       (λ q. astore-alike o (p .1 .stack) (K .parts .references .kind q _ i false t) (leb→le _ _ c))
       (astore-good o (object-good (k .1) i) s (leb→le _ _ c))
-      (k .0)))))
+      (k .0))))))
+
+  readonly-keeps : Keeps readonly
+  unfolding readonly made protect withReadOnly
+  readonly-keeps m h d =
+      gives-then (popped1 h)
+      (λ p k. gives-then (objectId-there (p .0) (k .0))
+      (λ i t. gives (pushed (protected (k .1) i (λ q. K .parts .references .inside q _ i (t .0) (t .1))) (k .0))))
 
   -- ---- conversions and output
 
@@ -345,14 +355,15 @@ module _ (K : Property) where
   cvs-keeps m h d =
       gives-then (popped2 h)
       (λ p k. gives-then (stringId-there (p .1) (k .1))
-      (λ i t. gives-then (gives-check _ _)
+      (λ i t. gives-each _
+      (λ w. gives-then (gives-check _ _)
       (λ u c.
       let o = object (p .2) i in
       let written = stringval (p .2) (p .0) in
       gives (changed-pushed (k .2) i
       (λ q. cvs-alike written o (K .parts .references .kind q _ i true t) (leb→le _ _ c))
       (cvs-good written o (object-good (k .2) i) (stringval-bytes (k .2) (p .0) (k .0)) (leb→le _ _ c))
-      (k .1)))))
+      (k .1))))))
 
   convert-keeps : (e : Bool) → Keeps (convert e)
   unfolding convert
@@ -396,7 +407,7 @@ module _ (K : Property) where
       getinterval-keeps & putinterval-keeps & aload-keeps & astore-keeps & string-keeps & cvs-keeps &
       (convert-keeps _) & (convert-keeps _) & cvn-keeps & echo-keeps & echostack-keeps & print-keeps &
       onerror-keeps & errorname-keeps & command-keeps &
-      (pegs-keeps _ (λ w. just (ones-small 32 w))) & (pegs-keeps _ (λ w. found-small (lowest-finds 32 w))) & (pegs-keeps _ (λ w. found-small (highest-finds 32 w))) & nil
+      (pegs-keeps _ (λ w. just (ones-small 32 w))) & (pegs-keeps _ (λ w. found-small (lowest-finds 32 w))) & (pegs-keeps _ (λ w. found-small (highest-finds 32 w))) & readonly-keeps & nil
 
   find-keeps : (n : List ℕ) {es : List Entry} → All (λ e. Keeps (e .action)) es → Keeps (find n es)
   unfolding find

@@ -2,11 +2,11 @@
 -- Assumes nothing.
 use mathlib.Core.Path.{_≡_}
 use mathlib.Core.List.{List, [], _∷_}
-use Prim.Native.Nat.{ℕ, _≤_}
+use Prim.Native.Nat.{ℕ, _≤_, _<_}
 use native.Mathlib.Omega.{arith}
 use lib.Dec.{T}
 use Rattle.semantics.specs.Values.{Attempt, ok, fault, _>>=_, Value, Object}
-use Rattle.semantics.specs.Machine.{Machine, Frame, Slot, Latest, withStack, withExec, withDictionary, withStore, withHandlers, withLatest, write, halt, push, enter, pop1, pop2, pop3, pop4, object, make, made, change, assign, intern}
+use Rattle.semantics.specs.Machine.{Machine, Frame, Slot, Latest, withStack, withExec, withDictionary, withStore, withHandlers, withLatest, write, halt, push, enter, pop1, pop2, pop3, pop4, object, make, made, change, withReadOnly, protect, assign, intern}
 use Rattle.semantics.specs.ControlOperators.{hasSlot}
 use Rattle.semantics.specs.ResultLaws.{Gives, gives, fails, gives-then, gives-any}
 use Rattle.semantics.specs.ListLaws.{All, nil, cons, all-append, all-set, all-getD, all-weaker}
@@ -30,6 +30,7 @@ pub record Property : Type 1 where
   pub halting : (m : Machine) → Whole m → Whole (halt m)
   pub writing : (t : List ℕ) (m : Machine) → Whole m → Whole (write t m)
   pub making : (o : Object) (m : Machine) → Whole m → Whole (make o m)
+  pub protecting : (i : ℕ) (m : Machine) → (parts .references .Kinds → i < made m) → Whole m → Whole (protect i m)
   pub changing : (i : ℕ) (o : Object) (m : Machine) → (parts .references .Kinds → Alike (object m i) o) → Whole m → Whole (change i o m)
   pub filling : (i : ℕ) (o : Object) (m : Machine) → base ≤ i → Whole m → Whole (change i o m)  -- an object that the step itself has made
 
@@ -54,6 +55,7 @@ parts-alone A =
       halting = λ m h. h;
       writing = λ t m h. h;
       making = λ o m h. h;
+      protecting = λ i m a h. h;
       changing = λ i o m a h. h;
       filling = λ i o m b h. h;
     }
@@ -148,6 +150,12 @@ module _ {K : Property} {m : Machine} (h : Fit K m) where
   pub entered : {f : Frame} → GoodFrame (K .parts) (m .store) f → Fit K (enter f m)
   unfolding enter
   entered k = with-exec (cons k (h .parts .exec))
+
+  pub protected : (i : ℕ) → (K .parts .references .Kinds → i < made m) → Fit K (protect i m)
+  unfolding protect withReadOnly
+  protected i a =
+      let p = h .parts in
+      record { parts = record { stack = p .stack; dictionary = p .dictionary; exec = p .exec; store = p .store; handlers = p .handlers; latest = p .latest }; whole = K .protecting i m a (h .whole) }
 
   pub maked : {o : Object} → GoodObject (K .parts) (m .store) o → Fit K (make o m)
   unfolding make withStore

@@ -6,14 +6,14 @@ use mathlib.Core.List.{List, [], _∷_, reverse}
 use mathlib.Core.Option.{Option, none, some}
 use Prim.Native.Nat.{ℕ, zero, suc, _+_, _≤_, _<_}
 use native.Mathlib.Omega.{arith}
-use lib.ListN.{length, drop, length-drop, length-reverse}
+use lib.ListN.{length, drop, length-drop, length-reverse, length-append}
 use lib.Dec.{leb, leb→le}
 use Rattle.semantics.specs.Words.{signed, word}
 use Rattle.semantics.specs.Values.{Result, ok, Value, integer, Object, elements, text}
 use Rattle.semantics.specs.Errors.{errorText}
 use Rattle.semantics.specs.Tokens.{Lexing, Token, lex}
-use Rattle.semantics.specs.Machine.{Machine, Frame, pending, running, looping, repeating, counting, Slot, withStack, withExec, withDictionary, withStore, withLatest, push, enter, object, make, made, change, slotted, intern}
-use Rattle.semantics.specs.Groups.{Taken, taken, skip, Reader, opened, closed, element, group, tokenValue, takeToken}
+use Rattle.semantics.specs.Machine.{Machine, Frame, pending, running, looping, repeating, counting, Slot, withStack, withExec, withDictionary, withStore, withLatest, push, enter, object, make, made, change, withReadOnly, protect, slotted, intern}
+use Rattle.semantics.specs.Groups.{Taken, taken, skip, Reader, opened, enclosed, closed, element, group, tokenValue, takeToken}
 use Rattle.semantics.specs.Steps.{Limits, State, Move, commandOf, execute, isProcedure, treat, silent, beyond, following, resume, passed, roomFor, Step, goes, misreads, unmoved, noted, handling, failing, ended, moved, tokenMove, tokenStep, stepOn, step}
 use Rattle.semantics.specs.Steps as Steps
 use Rattle.semantics.specs.ResultLaws.{Gives, gives, fails, gives-then, gives-weaker, gives-check, choose}
@@ -23,7 +23,7 @@ use Rattle.semantics.specs.declared.Fault.{Fault}
 use Rattle.walk.specs.Objects.{isString}
 use Rattle.walk.specs.Parts.{Parts, Good, a-word, a-truth, a-null, a-mark, an-operator, a-name, a-string, an-array, GoodFrame, GoodSlot, GoodObject, Within, Stays}
 use Rattle.walk.proofs.Parts.{Later, later-itself, later-then, good-later, array-object, text-object, lookup-good, slotted-good, error-spelled}
-use Rattle.walk.proofs.Property.{Property, Fit, gives-each, make-later, change-later, with-exec, with-dictionary, with-latest, interned, pushed, entered, maked, filled, object-good}
+use Rattle.walk.proofs.Property.{Property, Fit, gives-each, make-later, change-later, with-exec, with-dictionary, with-latest, interned, pushed, entered, protected, maked, filled, object-good}
 use Rattle.walk.proofs.Operands.{word-good}
 use Rattle.walk.proofs.OperatorsKeep.{new-string, perform-keeps}
 use Rattle.walk.proofs.TokensKeep.{GoodToken, a-number, a-text, an-opening, a-closing, an-end, GoodLexeme, lex-good}
@@ -65,6 +65,11 @@ module _ {K : Property} {m : Machine} (h : Ready K m) where
   unfolding make withStore
   ready-made k = record { fit = maked (h .fit) k; deep = h .deep }
 
+  -- With the mark for read only.
+  ready-sealed : {o : Object} → GoodObject (K .parts) (m .store) o → Ready K (protect (made m) (make o m))
+  unfolding make withStore made protect withReadOnly
+  ready-sealed {o} k = record { fit = protected (maked (h .fit) k) (made m) (λ q. omega (arith, length-append (m .store) (o ∷ []))); deep = h .deep }
+
   ready-interned : (n : List ℕ) → Ready K (intern n m)
   unfolding intern withDictionary
   ready-interned n = record { fit = interned (h .fit) n; deep = h .deep }
@@ -105,15 +110,15 @@ module _ (K : Property) where
       → Gives (FitTaken (m .store)) (rest i brace depth offset vs m)
 
   opened-there : (m : Machine) → K .parts .references .Reference (opened m .store) (made m, false)
-  unfolding opened make made withStore
+  unfolding opened make made withStore protect withReadOnly
   opened-there m = K .parts .references .new (m .store) (elements []) false (λ q. refl)
 
   opened-ready : {m : Machine} → Ready K m → Ready K (opened m)
   unfolding opened
-  opened-ready h = ready-made h (array-object nil (K .parts .numbers .size 0 (omega arith)))
+  opened-ready h = ready-sealed h (array-object nil (K .parts .numbers .size 0 (omega arith)))
 
   opened-later : (m : Machine) → Later (K .parts) (m .store) (opened m .store)
-  unfolding opened
+  unfolding opened protect withReadOnly
   opened-later m = make-later m (elements [])
 
   closed-keeps : (i after fuel : ℕ) (vs : List Value) (m : Machine)
@@ -142,7 +147,7 @@ module _ (K : Property) where
         → Ready K m
         → GoodToken (K .parts) t
         → Gives (FitTaken (m .store)) (element rest i brace depth start after vs m t)
-    unfolding element intern withDictionary
+    unfolding element enclosed protect withReadOnly intern withDictionary
     element-keeps i brace depth start after vs m b t a n h (a-number k) =
         f i brace depth after _ m b t (cons (a-word k) a) (K .parts .numbers .smaller _ (length vs + suc fuel) (omega arith) n) h
     element-keeps i brace depth start after vs m b t a n h (a-text {bs = bs} k l) =
@@ -150,7 +155,7 @@ module _ (K : Property) where
         earlier g
         (f i brace depth after _ _ b (g .still _ t) (cons (new-string m bs) (all-weaker (good-later g) a))
         (K .parts .numbers .smaller _ (length vs + suc fuel) (omega arith) n)
-        (ready-made h (text-object k l)))
+        (ready-sealed h (text-object k l)))
     element-keeps i brace depth start after vs m b t a n h (TokensKeep.a-name {n = x} k) =
         f i brace depth after _ _ b t (cons (a-name k) a) (K .parts .numbers .smaller _ (length vs + suc fuel) (omega arith) n) (ready-interned h x)
     element-keeps i brace zero start after vs m b t a n h an-opening = fails

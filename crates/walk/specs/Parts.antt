@@ -46,6 +46,7 @@ pub record References : Type 1 where
       → Reference s r
       → Reference (set s i o) r
   pub kind : Kinds → (s : List Object) (i : ℕ) (b : Bool) → Reference s (i, b) → isString (getD s i (elements [])) ≡ b
+  pub inside : Kinds → (s : List Object) (i : ℕ) (b : Bool) → Reference s (i, b) → i < length s
 
 pub record Parts : Type 1 where
   pub numbers : Numbers
@@ -79,6 +80,7 @@ any-references =
       after-new = λ s o r h. tt;
       after-change = λ s i o e r h. tt;
       kind = λ q s i b h. absurd q;
+      inside = λ q s i b h. absurd q;
     }
 
 -- The value that a frame holds; a running procedure is named by its object alone.

@@ -11,7 +11,7 @@ syn keyword flooArithmetic add sub mul idiv mod abs neg bitshift ones lowpeg hig
 syn keyword flooLogic not and or xor eq ne lt le gt ge
 syn keyword flooDictionary def load bind
 syn keyword flooControl exec if ifelse loop repeat for exit continue stop
-syn keyword flooObject array length get put getinterval putinterval aload astore string
+syn keyword flooObject array length get put getinterval putinterval aload astore string readonly
 syn keyword flooConversion cvs cvx cvlit cvn
 syn keyword flooOutput echo echostack print
 syn keyword flooException onerror errorname command

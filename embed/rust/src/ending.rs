@@ -101,6 +101,8 @@ pub enum ErrorName {
     StackUnderflow,
     /// An operand has the wrong type.
     TypeCheck,
+    /// What would be written to is read only.
+    InvalidAccess,
     /// An operand has a value out of range.
     RangeCheck,
     /// A division by zero, or the place of a bit of 0.
@@ -119,7 +121,7 @@ pub enum ErrorName {
     IoError,
 }
 
-const ERRORS: [ErrorName; 16] = [
+const ERRORS: [ErrorName; 17] = [
     ErrorName::BadNumber,
     ErrorName::BadEscape,
     ErrorName::OpenString,
@@ -128,6 +130,7 @@ const ERRORS: [ErrorName; 16] = [
     ErrorName::Undefined,
     ErrorName::StackUnderflow,
     ErrorName::TypeCheck,
+    ErrorName::InvalidAccess,
     ErrorName::RangeCheck,
     ErrorName::UndefinedResult,
     ErrorName::UnmatchedMark,
@@ -154,6 +157,7 @@ impl ErrorName {
             ErrorName::Undefined => "undefined",
             ErrorName::StackUnderflow => "stackunderflow",
             ErrorName::TypeCheck => "typecheck",
+            ErrorName::InvalidAccess => "invalidaccess",
             ErrorName::RangeCheck => "rangecheck",
             ErrorName::UndefinedResult => "undefinedresult",
             ErrorName::UnmatchedMark => "unmatchedmark",

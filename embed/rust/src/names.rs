@@ -7,7 +7,7 @@
 /// let mut runner = floo::Runner::new(least);
 /// assert!(runner.run(b"#FLOO\n1 echo", 100).is_ok());
 /// ```
-pub const PREDEFINED_NAMES: usize = 64;
+pub const PREDEFINED_NAMES: usize = 65;
 
 /// These names: the operators by family, `[`, true, false and null.
 ///
@@ -22,7 +22,7 @@ pub const NAMES: [&str; PREDEFINED_NAMES] = [
     "bitshift", "ones", "lowpeg", "highpeg", "not", "and", "or", "xor", "eq", "ne", "lt", "le", "gt", "ge", // bits and comparison
     "def", "load", "bind", // dictionary
     "exec", "if", "ifelse", "loop", "repeat", "for", "exit", "continue", "stop", // control
-    "array", "mark", "[", "]", "length", "get", "put", "getinterval", "putinterval", "aload", "astore", "string", // objects
+    "array", "mark", "[", "]", "length", "get", "put", "getinterval", "putinterval", "aload", "astore", "string", "readonly", // objects
     "cvs", "cvx", "cvlit", "cvn", // conversion
     "echo", "echostack", "print", // output
     "onerror", "errorname", "command", // errors

@@ -88,6 +88,7 @@ pub fn get(machine: &Machine, change: &mut Change) -> Result<(), Error> {
 pub fn put(machine: &Machine, change: &mut Change) -> Result<(), Error> {
     change.write = match machine.operands()? {
         [Value::Array { id, .. }, Value::Integer(place), object] => {
+            machine.writable(id)?;
             let start = count(place)?;
             if start >= machine.elements(id).len() {
                 return Err(Error::Rangecheck);
@@ -99,6 +100,7 @@ pub fn put(machine: &Machine, change: &mut Change) -> Result<(), Error> {
             })
         }
         [Value::String(id), Value::Integer(place), Value::Integer(number)] => {
+            machine.writable(id)?;
             let start = count(place)?;
             let byte = u8::try_from(number).map_err(|_| Error::Rangecheck)?;
             let maximum = machine.bytes(id).len();
@@ -145,6 +147,7 @@ pub fn getinterval(machine: &Machine, change: &mut Change) -> Result<(), Error> 
 pub fn putinterval(machine: &Machine, change: &mut Change) -> Result<(), Error> {
     let write = match machine.operands()? {
         [Value::Array { id: array, .. }, Value::Integer(start), Value::Array { id: source, .. }] => {
+            machine.writable(array)?;
             let elements = machine.elements(source).to_vec();
             let start = start_for(elements.len(), machine.elements(array).len(), start)?;
             Write::Elements {
@@ -154,6 +157,7 @@ pub fn putinterval(machine: &Machine, change: &mut Change) -> Result<(), Error> 
             }
         }
         [Value::String(string), Value::Integer(start), Value::String(source)] => {
+            machine.writable(string)?;
             let bytes = machine.bytes(source).to_vec();
             let start = start_for(bytes.len(), machine.bytes(string).len(), start)?;
             Write::Bytes {
@@ -189,6 +193,7 @@ pub fn aload(machine: &Machine, change: &mut Change) -> Result<(), Error> {
 pub fn astore(machine: &Machine, change: &mut Change) -> Result<(), Error> {
     let [array] = machine.operands()?;
     let id = array.array()?;
+    machine.writable(id)?;
     let items = machine.counted(machine.elements(id).len(), 1)?;
     change.write = Some(Write::Elements {
         array: id,
@@ -196,5 +201,12 @@ pub fn astore(machine: &Machine, change: &mut Change) -> Result<(), Error> {
         elements: items.to_vec(),
     });
     change.replace(items.len() + 1, [array]);
+    Ok(())
+}
+
+/// "readonly sets it on the array or string on top, which stays" (02, W7).
+pub fn readonly(machine: &Machine, change: &mut Change) -> Result<(), Error> {
+    let [object] = machine.operands()?;
+    change.marks.push(object.object().ok_or(Error::Typecheck)?);
     Ok(())
 }

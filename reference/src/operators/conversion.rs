@@ -12,6 +12,7 @@ use crate::value::Value;
 pub fn cvs(machine: &Machine, change: &mut Change) -> Result<(), Error> {
     let [object, target] = machine.operands()?;
     let string = target.string()?;
+    machine.writable(string)?;
     let maximum = machine.bytes(string).len();
     let mut bytes = print::cvs(machine, object);
     if bytes.len() > maximum {

@@ -19,7 +19,7 @@ pub fn load(machine: &Machine, change: &mut Change) -> Result<(), Error> {
     Ok(())
 }
 
-/// "bind wants a procedure and looks at its own elements only."
+/// "bind wants a procedure and looks at its own elements only", and "still replaces names" where the procedure is read only (02, W7).
 pub fn bind(machine: &Machine, change: &mut Change) -> Result<(), Error> {
     let [procedure] = machine.operands()?;
     let array = procedure.procedure()?;

@@ -84,6 +84,7 @@ const TABLE: &[(&str, Rule)] = &[
     ("ones", arithmetic::ones),
     ("lowpeg", arithmetic::lowpeg),
     ("highpeg", arithmetic::highpeg),
+    ("readonly", array::readonly),
 ];
 
 impl Operator {

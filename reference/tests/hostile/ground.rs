@@ -1,8 +1,8 @@
-//! What random runs meet of pegs: each number that ones, lowpeg and highpeg can give, and their error. And of handlers: each error that can be handled in each kind of
-//! step, and what is around them.
+//! What random runs meet of pegs: each number that ones, lowpeg and highpeg can give, and their error. Of the mark for read only: what it refuses and what it does not stop.
+//! And of handlers: each error that can be handled in each kind of step, and what is around them.
 
 use floo_reference::error;
-use floo_reference::met::{can_be_handled, Counts, TAKEN};
+use floo_reference::met::{can_be_handled, Counts, REFUSED, TAKEN};
 use floo_reference::{Ending, Machine};
 
 const PEGS: [&str; 3] = ["ones", "lowpeg", "highpeg"];
@@ -13,6 +13,10 @@ pub struct Ground {
     /// Results of ones, lowpeg and highpeg, by the number.
     pegs: [Counts; 3],
     no_peg: [usize; 2],
+    refused: [usize; REFUSED.len()],
+    marked: [usize; 2],
+    bound: usize,
+    parts: usize,
     /// Handled errors, by the place of the error's name and by what had failed.
     handled: [[usize; TAKEN.len()]; error::NAMES.len()],
     /// Faults of tokens that ended the run though they had a handler, by the place of the fault's name.
@@ -31,6 +35,10 @@ impl Ground {
             add(&mut counts.0, &met.0);
         }
         add(&mut self.no_peg, &met.no_peg);
+        add(&mut self.refused, &met.refused);
+        add(&mut self.marked, &met.marked);
+        self.bound += usize::from(met.bound > 0);
+        self.parts += usize::from(met.parts > 0);
         for (counts, met) in self.handled.iter_mut().zip(&met.handled) {
             add(counts, met);
         }
@@ -55,6 +63,12 @@ impl Ground {
         for (name, count) in PEGS[1..].iter().zip(self.no_peg) {
             all.push((format!("undefinedresult of {name}"), count));
         }
+        for (what, count) in REFUSED.iter().zip(self.refused) {
+            all.push((format!("{what} that is read only"), count));
+        }
+        let [marked, again] = self.marked;
+        let allowed = [("readonly", marked), ("readonly of what is read only", again), ("a read-only procedure changed by bind", self.bound), ("a part of what is read only", self.parts)];
+        all.extend(allowed.map(|(what, count)| (what.to_owned(), count)));
         for (place, name) in error::NAMES.iter().enumerate() {
             for (taken, what) in TAKEN.iter().enumerate() {
                 let count = self.handled[place][taken];

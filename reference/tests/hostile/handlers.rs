@@ -9,6 +9,7 @@ const FAILING: &[(&str, &[&str])] = &[
     ("undefined", &["frob%", "/frob% pop frob%", "/frob% load", "/frob% cvx exec", "\"\" cvn cvx exec", "\"a b\" cvn cvx exec"]),
     ("stackunderflow", &["99 copy", "999 % roll", "300 index", "add", "999 array astore"]),
     ("typecheck", &["true neg", "null % add", "% % onerror", "\"a\" load", "[ ] [ ] lt"]),
+    ("invalidaccess", &["{ 1 2 } 9 % put", "\"abc\" readonly % 65 put", "{ 1 2 } astore", "% \"abc\" readonly cvs", "[ 1 ] readonly -1 [ ] putinterval", "{ \"abc\" } 0 get 0 \"x\" putinterval"]),
     ("rangecheck", &["-1 array", "[ ] % 1 add get", "/syntaxerror % onerror", "\"abc\" 1 300 put", "true 1 string cvs"]),
     ("undefinedresult", &["5 0 idiv", "% 0 mod", "0 lowpeg", "0 highpeg"]),
     ("unmatchedmark", &["]", "% ]"]),

@@ -16,7 +16,7 @@ use random::Random;
 
 const ROUNDS: usize = 30_000;
 const LEAST_STEPS: u64 = 300_000;
-/// Runs that meet each of what pegs and handlers are about.
+/// Runs that meet each of what pegs, the mark for read only and handlers are about.
 const LEAST_RUNS: usize = 12;
 
 #[test]

@@ -1,4 +1,5 @@
-//! Scripts that mean no good: random bytes, random tokens, damaged programs, misspelt tokens, loops at the ends of the integers, rows of pegs, and errors with handlers.
+//! Scripts that mean no good: random bytes, random tokens, damaged programs, misspelt tokens, loops at the ends of the integers, rows of pegs, writes to what is read
+//! only, and errors with handlers.
 
 use crate::handlers;
 use crate::random::Random;
@@ -66,6 +67,7 @@ const ACTIONS: &[&str] = &[
     "ones",
     "lowpeg",
     "highpeg",
+    "readonly",
     "a",
     "b",
     "c",
@@ -100,6 +102,8 @@ const OBJECTS: &[&str] = &[
     "{ dup }",
     "{ 1 add }",
     "{ pop } bind",
+    "[ 5 6 7 ] readonly",
+    "\"xyz\" readonly",
     "{ exit }",
     "{ { 1 } /a \"x\" }",
     "1 1 9 { } for",
@@ -172,16 +176,19 @@ const PROGRAMS: &[&str] = &[
     "/VMerror { /x null def command cvx exec } onerror 40 { /x 900 array def } repeat x length",
     "/stackoverflow { exit } onerror /rangecheck { errorname null onerror } onerror { 1 } loop -1 array -1 string",
     "/row 0x80010106 def row ones { row lowpeg dup echo 1 exch bitshift row xor /row exch def } repeat row highpeg",
+    "/invalidaccess { pop pop 0 1 getinterval dup 0 65 put } onerror /p { \"abc\" dup 0 65 put } def p echo p echo",
+    "[ 1 \"ab\" readonly ] readonly dup 1 get 0 1 getinterval dup 0 48 put echo { add \"x\" } bind dup 0 get echo 1 9 put",
 ];
 
 pub fn hostile(random: &mut Random) -> Vec<u8> {
-    match random.below(17) {
+    match random.below(19) {
         0 => random_bytes(random),
         1..=4 => random_words(random),
         5..=6 => border_loops(random),
         7..=8 => misspelt(random),
         9..=12 => handlers::script(random),
         13 => rows(random),
+        14..=15 => writes(random),
         _ => damaged_program(random),
     }
 }
@@ -241,6 +248,78 @@ fn rows(random: &mut Random) -> Vec<u8> {
         };
         let then = random.choose(&["pop", "pop", "pop", "echo"]);
         script += &format!("{written} {asked} {then} ");
+    }
+    script.into_bytes()
+}
+
+/// Arrays and strings with and without the mark for read only, as literals in groups, by readonly and by getinterval, some by two names.
+const TARGETS: &[&str] = &[
+    "{ 1 2 3 }",
+    "{ add pop x }",
+    "{ }",
+    "{ 1 2 3 } cvlit",
+    "{ \"abc\" 5 } 0 get",
+    "{ { \"ab\" } } 0 get 0 get",
+    "{ { 1 2 } 5 } 0 get",
+    "/p { \"abcdefghi\" } def p",
+    "[ 1 2 3 ] readonly",
+    "[ 1 2 ] cvx dup readonly pop",
+    "\"abc\" readonly",
+    "\"\" readonly readonly",
+    "4 string dup readonly exch pop",
+    "2 array readonly",
+    "[ 1 2 3 ]",
+    "[ 4 5 ] cvx",
+    "\"abcd\"",
+    "9 string",
+    "{ 1 2 3 } 1 2 getinterval",
+    "{ \"abcdefghi\" } 0 get 1 3 getinterval",
+    "[ 1 2 3 ] readonly 0 2 getinterval",
+];
+
+/// What is done to the target, `@`: writes that are in range and out of it, that change nothing, and of the wrong type; and what the mark does not stop.
+const WRITES: &[&str] = &[
+    "@ 0 65 put",
+    "@ % 66 put",
+    "@ 0 true put",
+    "@ -1 300 put",
+    "@ dup length 0 put",
+    "@ 0 1 index put",
+    "@ 0 [ 7 ] putinterval",
+    "@ 0 \"X\" putinterval",
+    "@ % { 8 \"s\" } putinterval",
+    "@ -1 [ ] putinterval",
+    "@ dup 0 exch putinterval",
+    "5 6 7 8 9 @ astore pop",
+    "@ astore",
+    "7 @ cvs echo",
+    "/abc @ cvs pop",
+    "@ dup cvs pop",
+    "@ readonly dup readonly echo",
+    "/x @ def x 0 67 put x echo",
+    "@ 0 1 getinterval dup 0 68 put echo",
+    "@ bind 0 get echo",
+    "@ bind cvlit 0 1 getinterval echo",
+    "[ 9 @ ] 0 1 put",
+    "[ 9 @ ] 1 get 0 69 put",
+];
+
+/// Writes to such targets, with and without a handler for what is refused.
+fn writes(random: &mut Random) -> Vec<u8> {
+    let mut script = String::from("#FLOO\n");
+    for error in ["invalidaccess", "typecheck", "rangecheck", "stackunderflow"] {
+        if random.below(4) > 0 {
+            script += &format!("/{error} {} onerror ", random.choose(&["{ }", "{ pop pop }", "{ command pop }"]));
+        }
+    }
+    for _ in 0..=random.below(8) {
+        let written = random.choose(WRITES).replace('@', random.choose(TARGETS));
+        script += &match random.below(4) {
+            0 => format!("{{ {written} }} bind exec "),
+            1 => format!("2 {{ {written} }} repeat "),
+            _ => format!("{written} "),
+        }
+        .replace('%', &random.below(4).to_string());
     }
     script.into_bytes()
 }

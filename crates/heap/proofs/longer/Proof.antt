@@ -13,13 +13,13 @@ add-result : tie.Need-add-result
 add-result c = search needs
 
 returns : tie.Need-returns
-returns c = record { more = omega arith; side = λ b. (omega arith, inr (c .if1 .taken)) }
+returns c = record { more = omega arith; kept = omega arith; side = λ b. (omega arith, inr (c .if1 .taken)) }
 
 add-result-2 : tie.Need-add-result-2
 add-result-2 c = search needs
 
 returns-2 : tie.Need-returns-2
-returns-2 c = record { more = omega arith; side = λ b. (omega arith, inl (c .if2 .taken)) }
+returns-2 c = record { more = omega arith; kept = omega arith; side = λ b. (omega arith, inl (c .if2 .taken)) }
 
 add-result-3 : tie.Need-add-result-3
 add-result-3 c = search needs
@@ -28,7 +28,7 @@ add-result-4 : tie.Need-add-result-4
 add-result-4 c = search needs
 
 returns-3 : tie.Need-returns-3
-returns-3 c = record { more = omega arith; side = λ b. absurd (omega arith) }
+returns-3 c = record { more = omega arith; kept = omega arith; side = λ b. absurd (omega arith) }
 
 pub longer-spec : {M : Type 1} → statement M
 longer-spec =

@@ -1,6 +1,10 @@
 -- `operators::rare` meets its contract: each branch by the family that it calls.
 -- Assumes nothing.
-use Rattle.operators.proofs.Named.{stack-all, heap-all, dictionary-all, log-all}
+use Rattle.operators.proofs.Named.{stack-all, heap-all, heap-named, dictionary-all, log-all}
+use Rattle.store.specs.Rep.{titles}
+use Rattle.semantics.specs.Operators.{table, _is_}
+use native.Mathlib.Omega.{arith}
+use mathlib.Core.Path.{refl}
 use borrow.Author.Needs.{needs}
 use Rattle.operators.proofs.rare.Statement.{statement}
 use Rattle.operators.proofs.rare.Tie as tie
@@ -84,6 +88,23 @@ returns-5 c =
     let pegs = c .before .before .pegs in
     stack-all _ (pegs .ensures) _ _ _ _
 
+readonly-requires : tie.Need-readonly-requires
+readonly-requires c κs = search needs
+
+same-length-14 : tie.Need-same-length-14
+same-length-14 c = search needs
+
+same-length-15 : tie.Need-same-length-15
+same-length-15 c = search needs
+
+returns-6 : tie.Need-returns-6
+unfolding titles table _is_
+returns-6 c =
+    let readonly = c .before .before .readonly in
+    let pegs-not = c .before .before .before .before .before .if5 .left in
+    let pre = c .before .before .before .before .before .before .before .before .before .before .before .before .before .before .before .pre in
+    heap-all _ (heap-named 60 _ (omega (arith, pegs-not, pre .1)) refl (readonly .ensures)) _ _ _
+
 pub rare-spec : {M : Type 1} → statement M
 rare-spec =
     tie.close
@@ -110,4 +131,8 @@ rare-spec =
     returns-4
     pegs-requires
     same-length-13
-    returns-5)
+    returns-5
+    readonly-requires
+    same-length-14
+    same-length-15
+    returns-6)

@@ -108,6 +108,15 @@ slice-aggregate-copy-11 c = search needs
 copy-requires-11 : tie.Need-copy-requires-11
 copy-requires-11 c κs = omega (arith, c .before .before .before .before .before .pre)
 
+enum-told-12 : tie.Need-enum-told-12
+enum-told-12 c = c .match .keys12
+
+slice-aggregate-copy-12 : tie.Need-slice-aggregate-copy-12
+slice-aggregate-copy-12 c = search needs
+
+copy-requires-12 : tie.Need-copy-requires-12
+copy-requires-12 c κs = omega (arith, c .before .before .before .before .before .pre)
+
 same-length : tie.Need-same-length
 same-length c = c .before .before .copy .kept .0
 
@@ -185,6 +194,13 @@ returns-11 : tie.Need-returns-11
 unfolding errorText bytes
 returns-11 c = respelt (ap errorText (c .before .before .before .before .before .enum-told11 .given .1)) (c .before .before .copy11 .ensures)
 
+same-length-12 : tie.Need-same-length-12
+same-length-12 c = c .before .before .copy12 .kept .0
+
+returns-12 : tie.Need-returns-12
+unfolding errorText bytes
+returns-12 c = respelt (ap errorText (c .before .before .before .before .before .enum-told12 .given .1)) (c .before .before .copy12 .ensures)
+
 pub write-error-spec : {M : Type 1} → statement M
 write-error-spec =
     tie.close
@@ -222,6 +238,9 @@ write-error-spec =
     enum-told-11
     slice-aggregate-copy-11
     copy-requires-11
+    enum-told-12
+    slice-aggregate-copy-12
+    copy-requires-12
     same-length
     returns
     same-length-2
@@ -243,4 +262,6 @@ write-error-spec =
     same-length-10
     returns-10
     same-length-11
-    returns-11)
+    returns-11
+    same-length-12
+    returns-12)

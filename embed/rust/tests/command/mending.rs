@@ -79,3 +79,11 @@ fn a_handler_for_no_error() {
     assert_eq!(said.error(), "label.floo:2:7: typecheck in onerror");
     assert!(!said.errors.contains("wants"), "{}", said.errors);
 }
+
+#[test]
+fn a_string_of_a_procedure() {
+    let said = script("#FLOO\n/tag { \"rack\" } def tag 0 82 put", &[]);
+    assert_eq!(said.error(), "label.floo:2:30: invalidaccess in put");
+    let note = "note: what braces make is read only, and what readonly was given; getinterval makes a copy that is not\n";
+    assert!(said.errors.contains(note), "{}", said.errors);
+}

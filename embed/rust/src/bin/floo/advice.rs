@@ -46,6 +46,12 @@ pub fn of_error(source: &Source, report: &Report, error: ErrorName) -> Vec<Strin
                     .to_owned(),
             );
         }
+        if error == ErrorName::InvalidAccess {
+            notes.push(
+                "what braces make is read only, and what readonly was given; getinterval makes a copy that is not"
+                    .to_owned(),
+            );
+        }
         notes.extend(of_procedure(source, report, command));
     }
     notes.extend(of_room(report, error));

@@ -19,7 +19,7 @@ The room for a run, and what it may be:
     --fuel N        steps              up to 1000000   (1000000)
     --stack N       slots              8 to 256        (256)
     --exec N        execution slots    4 to 128        (128)
-    --dictionary N  names              64 to 512       (512)
+    --dictionary N  names              65 to 512       (512)
     --cells N       cells for objects  1 to 32768      (4096)
     --log N         bytes of the log   up to 65536     (8192)
 
