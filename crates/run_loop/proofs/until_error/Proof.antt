@@ -18,8 +18,13 @@ abbrev μ-loop : tie.MeasureT-loop
 μ-loop script limit stack₀ exec₀ dict₀ cells₀ log₀ st₀ stack exec dict cells log st = limit - st .steps
 
 -- What holds where the two kinds of steps meet.
-went : (j : tie.Joined3 Inv-loop μ-loop)
-    → Attempt (j .before .before .before .before .before .before .before .before .before .before .before .before .before .before .before .args .script .now) (j .before .before .before .before .before .before .before .loop .st) (j .before .before .before .before .before .before .before .loop .stack) (j .if3 .stack) (j .before .before .before .before .before .before .before .loop .exec) (j .if3 .exec) (j .before .before .before .before .before .before .before .loop .dict) (j .if3 .dict) (j .before .before .before .before .before .before .before .loop .cells) (j .if3 .cells) (j .before .before .before .before .before .before .before .loop .log) (j .if3 .log) (j .if3 .stepped)
+abbrev Went : tie.Joined3 Inv-loop μ-loop → Type 0
+Went j =
+    let args = j .before .before .before .before .before .before .before .before .before .before .before .before .before .before .before .args in
+    let loop = j .before .before .before .before .before .before .before .loop in
+    Attempt (args .script .now) (loop .st) (loop .stack) (j .if3 .stack) (loop .exec) (j .if3 .exec) (loop .dict) (j .if3 .dict) (loop .cells) (j .if3 .cells) (loop .log) (j .if3 .log) (j .if3 .stepped)
+
+went : (j : tie.Joined3 Inv-loop μ-loop) → Went j
 went j =
     let run = one-run (j .before .before .before .before .before .before .before .loop .inv) (may-from (j .before .before .before .before .before .before .before .before .by-fields .ensures) (j .before .before .before .before .before .before .before .before .before .before .before .before .before .before .before .pre)) in
     ⊎-elim

@@ -18,7 +18,10 @@ enum-known-e : tie.Need-enum-known-e
 enum-known-e c = search needs
 
 command-requires : tie.Need-command-requires
-command-requires c κs = (c .before .before .before .before .before .before .before .before .before .before .before .before .before .before .before .before .before .before .before .before .before .before .before .before .before .before .before .pre .0, command-there (c .before .before .before .e .given .1) (c .before .before .before .before .before .before .before .before .before .before .before .before .before .before .before .act .ensures) (c .before .before .before .before .before .before .before .before .before .before .before .before .before .before .before .before .before .before .before .before .before .before .before .before .before .before .before .pre .1 .1 .machine .0) (c .before .before .before .before .before .before .before .before .before .before .before .before .before .before .before .before .before .before .before .before .before .before .before .before .before .before .before .pre .1 .1 .machine .1))
+command-requires c κs =
+    let pre = c .before .before .before .before .before .before .before .before .before .before .before .before .before .before .before .before .before .before .before .before .before .before .before .before .before .before .before .pre in
+    let act = c .before .before .before .before .before .before .before .before .before .before .before .before .before .before .before .act in
+    (pre .0, command-there (c .before .before .before .e .given .1) (act .ensures) (pre .1 .1 .machine .0) (pre .1 .1 .machine .1))
 
 ended-requires-2 : tie.Need-ended-requires-2
 ended-requires-2 c κs = c .before .before .before .before .before .before .before .before .before .before .before .before .before .before .before .before .before .before .before .before .before .before .before .before .before .before .before .before .pre .1 .1 .few
@@ -39,7 +42,10 @@ same-length-5 : tie.Need-same-length-5
 same-length-5 c = search needs
 
 returns : tie.Need-returns
-returns c = record { tries = λ script inside within. acted (c .before .before .before .before .before .before .before .before .before .before .before .before .before .before .before .before .before .before .before .before .before .before .before .before .before .before .pre .0) inside within (c .before .before .before .before .before .before .before .before .before .before .before .before .before .before .act .ensures) (c .before .before .r .given .1) (c .ended .ensures) }
+returns c =
+    let pre = c .before .before .before .before .before .before .before .before .before .before .before .before .before .before .before .before .before .before .before .before .before .before .before .before .before .before .pre in
+    let act = c .before .before .before .before .before .before .before .before .before .before .before .before .before .before .act in
+    record { tries = λ script inside within. acted (pre .0) inside within (act .ensures) (c .before .before .r .given .1) (c .ended .ensures) }
 
 same-length-6 : tie.Need-same-length-6
 same-length-6 c = search needs
@@ -57,7 +63,11 @@ same-length-10 : tie.Need-same-length-10
 same-length-10 c = search needs
 
 returns-2 : tie.Need-returns-2
-returns-2 c = record { tries = λ script inside within. failing (c .before .before .before .before .before .before .before .before .before .before .before .before .before .before .before .before .before .before .before .before .before .before .before .before .before .before .before .before .before .pre .0) inside within (c .before .before .before .before .before .before .before .before .before .before .before .before .before .before .before .before .before .act .ensures) (c .before .before .before .before .before .e .given .1) (c .before .before .before .before .before .before .before .before .before .before .before .before .before .before .before .before .before .before .before .before .before .before .before .before .before .before .before .before .before .pre .1 .1 .machine .0) (c .before .before .before .before .before .before .before .before .before .before .before .before .before .before .before .before .before .before .before .before .before .before .before .before .before .before .before .before .before .pre .1 .1 .machine .1) (c .before .command .ensures) (c .ended2 .ensures) }
+returns-2 c =
+    let pre = c .before .before .before .before .before .before .before .before .before .before .before .before .before .before .before .before .before .before .before .before .before .before .before .before .before .before .before .before .before .pre in
+    let act = c .before .before .before .before .before .before .before .before .before .before .before .before .before .before .before .before .before .act in
+    let e = c .before .before .before .before .before .e in
+    record { tries = λ script inside within. failing (pre .0) inside within (act .ensures) (e .given .1) (pre .1 .1 .machine .0) (pre .1 .1 .machine .1) (c .before .command .ensures) (c .ended2 .ensures) }
 
 pub resume-spec : {M : Type 1} → statement M
 resume-spec =
