@@ -1,5 +1,7 @@
 // One step on the topmost execution slot: what is pending is executed, a procedure goes on, a loop turns. It does exactly what the definition's step does to
 // that slot, and then the definition's test of room; where it fails, no word has changed.
+#![tactic(auto)]
+
 ghost use Rattle.std.specs.Prelude.{◌≡◌, List, ℕ, ◌+◌, ◌-◌, ◌*◌, ◌≤◌};
 ghost use Rattle.machine.specs.Words.{frame_kind, frame_tag, frame_cell, frame_left};
 ghost use Rattle.heap.specs.Word.{word};
@@ -20,7 +22,7 @@ use operators::RARE;
 use semantics::EXEC_WIDTH;
 
 // The operator that a step executes, if it is one of the frequent, with the state in which it does: its slot has gone, or the procedure has moved on.
-#[derive(Drop)]
+#[derive(Clone, Copy)]
 enum Next {
     Frequent(u32, Machine),
     Other,

@@ -1,5 +1,7 @@
 // The operators on arrays and strings: array, string, length, get, put, aload, astore, ] and readonly. Each does exactly what the definition's operator of its name
 // does and then the definition's test of room, errors and their order included. Nothing is changed before the last check.
+#![tactic(auto)]
+
 ghost use Rattle.std.specs.Prelude.{◌≡◌, ◌&&◌, ◌||◌, ◌+◌, ◌-◌, ◌*◌, ◌^◌, ◌≤◌, ◌<◌, eqb, ltb, length as length_of};
 ghost use Rattle.semantics.specs.Text.{bytes};
 ghost use Rattle.semantics.specs.Operators.{perform};

@@ -1,5 +1,7 @@
 // The lent book of records, one for each socket: whether it is sound, and what an entry does to it (02, W3). What touches the slice of records is thin
 // and walked by hand; every decision is on plain values.
+#![tactic(auto)]
+
 ghost use Rattle.std.specs.Prelude.{◌≡◌, true, ◌&&◌, cond, ◌+◌, ◌<◌, ◌≤◌, length, get_or, set, ltb, eqb};
 ghost use Rattle.book.specs.Books.{blank, room_of, are_in_range, in_range, is_sound, found_from, place_of};
 ghost use Rattle.book.specs.Fates.{fate_of, fate_in, is_replacing, is_adding, Enters};
@@ -13,7 +15,7 @@ pub const GREATEST: u32 = 2147483647;
 
 // One socket's record. Of the place the first `length` bytes count.
 #[repr(C)]
-#[derive(Drop)]
+#[derive(Clone, Copy)]
 pub struct Record {
     pub number: u32,
     pub place: [u8; 31],
@@ -22,7 +24,7 @@ pub struct Record {
 }
 
 // What becomes of an entry.
-#[derive(Drop)]
+#[derive(Clone, Copy)]
 pub enum Fate {
     Replaces,
     Adds,
@@ -31,7 +33,7 @@ pub enum Fate {
 }
 
 // What became of an entry, its place, and the count after it.
-#[derive(Drop)]
+#[derive(Clone, Copy)]
 pub struct Entered {
     pub fate: Fate,
     pub at: usize,

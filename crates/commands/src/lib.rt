@@ -1,5 +1,7 @@
 // What the topmost execution slot would execute, an operator or a name, read from the words before the step, so that a step that fails can report it.
 // It is exactly the command that the definition's step hands on.
+#![tactic(auto)]
+
 ghost use Rattle.std.specs.Prelude.{◌≤◌};
 ghost use Rattle.machine.specs.FrameMoves.{Somewhere};
 ghost use Rattle.commands.specs.Commands.{CommandIs, Commands};

@@ -1,5 +1,7 @@
 // Primitives that fill the elements of an array while it is built from a brace group. The array is no item of the stack: its elements are body cells, and
 // each contract shows the world, so that cells which are held are known to be the same elements afterwards. Nothing is freed. What is made is read only (02, W7).
+#![tactic(auto)]
+
 ghost use Rattle.std.specs.Prelude.{◌≡◌, List, ℕ, ◌+◌, ◌*◌, ◌/◌, ◌≤◌, ◌<◌, length};
 ghost use Rattle.machine.specs.Rep.{Somewhere};
 ghost use Rattle.elements.specs.Elements.{free_cells};
@@ -8,7 +10,7 @@ ghost use Rattle.construction.specs.Growth.{SetsPlain, SetsArray, SetsString, Sa
 use machine::{Machine, TAG_PROCEDURE, TAG_STRING};
 
 // The header of the new object, and the machine that has it.
-#[derive(Drop)]
+#[derive(Clone, Copy)]
 pub struct Placed {
     pub machine: Machine,
     pub header: u32,

@@ -1,5 +1,7 @@
 // The operators on the flow of control. Each does exactly what the definition's operator of its name does, with the test of room after it, errors and
 // their order included; where it fails, no word has changed.
+#![tactic(auto)]
+
 ghost use Rattle.std.specs.Prelude.{◌≡◌, ◌+◌, ◌-◌, ◌*◌, ◌≤◌, length};
 ghost use Rattle.semantics.specs.Text.{bytes};
 ghost use Rattle.semantics.specs.Operators.{perform};

@@ -1,5 +1,7 @@
 // The operator cvs: the text of a value goes into a string. It does exactly what the definition's operator does and then the definition's test of room, errors
 // and their order included. Nothing is changed before the last check.
+#![tactic(auto)]
+
 ghost use Rattle.std.specs.Prelude.{◌≡◌, false, ◌≤◌, ◌<◌, length};
 ghost use Rattle.semantics.specs.Sizes.{name_most};
 ghost use Rattle.semantics.specs.Text.{bytes};

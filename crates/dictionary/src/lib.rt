@@ -1,5 +1,7 @@
 // The dictionary: a name's slot is found or added, and bindings go to items, to execution slots and come from items. Each function keeps `Rep`, and
 // does to the machine of the definition what its contract names.
+#![tactic(auto)]
+
 ghost use Rattle.std.specs.Prelude.{◌≡◌, ◌+◌, ◌*◌, ◌≤◌, ◌<◌, length, get_or};
 ghost use Rattle.machine.specs.Words.{binding_tag, binding_payload};
 ghost use Rattle.semantics.specs.Sizes.{name_most, dictionary_words_most};

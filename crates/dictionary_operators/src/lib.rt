@@ -1,5 +1,7 @@
 // The operators on the dictionary, def, load, bind and cvn. Each does exactly what the definition's operator of its name does and then the definition's test of
 // room, errors and their order included. Nothing is changed before the last check.
+#![tactic(auto)]
+
 ghost use Rattle.std.specs.Prelude.{◌≡◌, ◌≤◌, length};
 ghost use Rattle.semantics.specs.Sizes.{name_most};
 ghost use Rattle.semantics.specs.Text.{bytes};

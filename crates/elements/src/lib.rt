@@ -1,5 +1,7 @@
 // Primitives on the elements of arrays and the bytes of strings that are items of the stack. Each is lent the stack and the cells alone, and does to
 // the machine that they stand for what its contract names. `put_byte_at` takes a string by its header, and shows the world.
+#![tactic(auto)]
+
 ghost use Rattle.std.specs.Prelude.{◌≡◌, List, ℕ, ◌+◌, ◌*◌, ◌/◌, ◌^◌, ◌≤◌, ◌<◌, length};
 ghost use Rattle.store.specs.Rep.{byte_of, with_byte};
 ghost use Rattle.machine.specs.Rep.{Somewhere, MovesHeap};

@@ -1,9 +1,11 @@
 // How a run ends, said in numbers and offsets: what a failing step hands on and the outcome writes.
+#![tactic(auto)]
+
 use semantics::{Error, Fault};
 
 // The operator or executable name whose execution failed: none, an operator by its number, a name by its slot, or a name of the script by its offset and size. Of
 // a script token that is no name, none, and the offset after it.
-#[derive(Drop)]
+#[derive(Clone, Copy)]
 pub enum Command {
     Nothing,
     Operator(u32),
@@ -12,7 +14,7 @@ pub enum Command {
     Taken(usize),
 }
 
-#[derive(Drop)]
+#[derive(Clone, Copy)]
 pub enum Ending {
     Finished,
     Stopped,

@@ -1,5 +1,7 @@
 // eq and ne. Each does exactly what the definition's operator of its name does and then the definition's test of room, errors and their order included.
 // Both compare by the two words of each item, and by their bytes where these name two strings.
+#![tactic(auto)]
+
 ghost use Rattle.std.specs.Prelude.{◌≡◌, false, ◌≤◌, ◌<◌};
 ghost use Rattle.semantics.specs.Operators.{perform};
 ghost use Rattle.machine.specs.Rep.{Somewhere, MovesHeap};

@@ -1,5 +1,7 @@
 // The operators on errors: onerror, errorname and command. Each does exactly what the definition's operator of its name does and then the definition's test of
 // room, errors and their order included. Nothing is changed before the last check.
+#![tactic(auto)]
+
 ghost use Rattle.semantics.specs.Text.{bytes};
 ghost use Rattle.semantics.specs.Operators.{perform};
 ghost use Rattle.dictionary_operators.specs.Promises.{Represented, DoesDictionary};

@@ -1,5 +1,7 @@
 // The program: a script on standard input is run with the sizes of the scope paper. Printed are its log and then its outcome, or the number of the refusal.
 // What is printed is proved; that the bytes are those of standard input and go to standard output is not, since no contract can say it.
+#![tactic(auto)]
+
 ghost use Rattle.semantics.specs.Setup.{printed};
 ghost use Rattle.text.specs.Writing.{Written};
 ghost use Rattle.floo.specs.Sizes.{fuel, sizes};

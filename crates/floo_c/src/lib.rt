@@ -1,4 +1,6 @@
 // The runner and the token reading for programs in C and Rust: two exported functions, which include/floo.h declares. A slice is a pointer and a length there.
+#![tactic(auto)]
+
 ghost use Rattle.std.specs.Prelude.{◌≡◌, ◌+◌, ◌≤◌, length};
 ghost use Rattle.semantics.specs.Setup as setup;
 ghost use Rattle.floo_c.specs.Reply.{Replies};
@@ -10,7 +12,7 @@ use token::Located;
 
 // The number of the refusal, or 0 and what the run came to.
 #[repr(C)]
-#[derive(Drop)]
+#[derive(Clone, Copy)]
 pub struct Reply {
     pub refused: u32,
     pub steps: u32,
@@ -21,7 +23,7 @@ pub struct Reply {
 // The number of the refusal, of the fault or of the token's kind, the other two being 0; the offset of the first byte that could not be accepted, of a fault that
 // has one; the offset after the token, and where in the script its own bytes begin and how many they are. A function for C can hand out no part of a slice.
 #[repr(C)]
-#[derive(Drop)]
+#[derive(Clone, Copy)]
 pub struct TokenReply {
     pub refused: u32,
     pub fault: u32,

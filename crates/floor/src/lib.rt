@@ -1,5 +1,7 @@
 // The floor rule for late scans: a label is lent to a script, the script is run, and what it leaves on the stack goes into the lent book, unless it is late. The
 // second library, on top of the runner.
+#![tactic(auto)]
+
 ghost use Rattle.std.specs.Prelude.{◌≡◌, false};
 ghost use Rattle.std.proofs.Math.Option.{none};
 ghost use Rattle.semantics.specs.Text.{bytes};
@@ -25,7 +27,7 @@ const PLACE_MOST: usize = 31;
 const GREATEST: u32 = 2147483647;
 
 // What a scan came to: a refusal of setup by its number, or by its name; the place in the book where a record was replaced or added.
-#[derive(Drop)]
+#[derive(Clone, Copy)]
 pub enum Answer {
     Refused(u32),
     BookMalformed,
@@ -41,7 +43,7 @@ pub enum Answer {
 }
 
 // The answer, what is reported of the run, all zero where none was made, and how many records the book has after it.
-#[derive(Drop)]
+#[derive(Clone, Copy)]
 pub struct Scanned {
     pub answer: Answer,
     pub report: Report,
@@ -49,7 +51,7 @@ pub struct Scanned {
 }
 
 // What the run left for the book: an entry where `live`, else the answer.
-#[derive(Drop)]
+#[derive(Clone, Copy)]
 pub struct Ran {
     pub answer: Answer,
     pub report: Report,
@@ -58,14 +60,14 @@ pub struct Ran {
 }
 
 // What is refused before the run, or nothing.
-#[derive(Drop)]
+#[derive(Clone, Copy)]
 enum Before {
     Go,
     Stop(Answer),
 }
 
 // An entry read from the stack, where `live`.
-#[derive(Drop)]
+#[derive(Clone, Copy)]
 struct Read {
     live: bool,
     entry: Record,

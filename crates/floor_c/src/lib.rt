@@ -1,4 +1,6 @@
 // The floor rule for programs in C and Rust: one exported function, which include/floor.h declares. A slice is a pointer and a length there.
+#![tactic(auto)]
+
 ghost use Rattle.std.specs.Prelude.{◌≡◌};
 ghost use Rattle.floor.specs.Promise.{asked};
 ghost use Rattle.floor_c.specs.Reply.{Replies, reply_of, answer_number, refused_number, place_number};
@@ -9,7 +11,7 @@ use floor::{Answer, Scanned};
 // The answer by its number, the number of setup's refusal, what the run came to, how many records the book has, and the place of the one that was written; 0 where
 // there is none.
 #[repr(C)]
-#[derive(Drop)]
+#[derive(Clone, Copy)]
 pub struct Reply {
     pub answer: u32,
     pub refused: u32,

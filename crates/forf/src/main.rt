@@ -1,5 +1,7 @@
 // The program: a Forf script on standard input is run with the sizes of the scope paper and a memory of zeros. Printed is its outcome, or the refusal.
 // What is printed is proved; that the bytes are those of standard input and go to standard output is not, since no contract can say it.
+#![tactic(auto)]
+
 ghost use Rattle.text.specs.Writing.{Written};
 ghost use Rattle.forf.specs.Telling.{Within, told, printed_text};
 

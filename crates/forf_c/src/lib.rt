@@ -1,4 +1,6 @@
 // The runner and the token reading of Forf for programs in C and Rust: two exported functions, which include/forf.h declares. A slice is a pointer and a length there.
+#![tactic(auto)]
+
 ghost use Rattle.std.specs.Prelude.{◌≡◌, ◌+◌, ◌≤◌, length};
 ghost use Rattle.forf_semantics.specs.Setup as setup;
 ghost use Rattle.forf_c.specs.Reply.{Replies, reply_of, token_reply_of, refusal_number, fault_number, kind_number};
@@ -9,7 +11,7 @@ use forf_token::Located;
 
 // The number of the refusal, or 0; 1 where the memory has not 32 slots, or 0; and what the run came to.
 #[repr(C)]
-#[derive(Drop)]
+#[derive(Clone, Copy)]
 pub struct Reply {
     pub refused: u32,
     pub memory: u32,
@@ -20,7 +22,7 @@ pub struct Reply {
 // The number of the refusal, 1 where the token is a syntaxerror, or the number of the token's kind, the other two being 0; the offset after the token, and where in
 // the script its own bytes begin and how many they are.
 #[repr(C)]
-#[derive(Drop)]
+#[derive(Clone, Copy)]
 pub struct TokenReply {
     pub refused: u32,
     pub fault: u32,

@@ -1,5 +1,7 @@
 // Items of a Forf script: the next one from an offset on, a substack read whole to its closing brace, and how many items it has. A substack is known by the
 // offset after its opening brace, and is read again from the script whenever it runs.
+#![tactic(auto)]
+
 ghost use Rattle.std.specs.Prelude.{◌≡◌, ◌≤◌, length};
 ghost use Rattle.semantics.specs.Sizes.{script_most};
 ghost use Rattle.forf_semantics.specs.Items.{count};
@@ -13,14 +15,14 @@ use forf_token::{Lexed, Token};
 const INNER: u32 = 15;
 
 // Where a group ends, or a syntaxerror in it.
-#[derive(Drop)]
+#[derive(Clone, Copy)]
 pub enum Ended {
     At(usize),
     Bad,
 }
 
 // An item: an integer by its 32 bits, a word by where its bytes begin and how many they are, a substack by the offset after its brace.
-#[derive(Drop)]
+#[derive(Clone, Copy)]
 pub enum Item {
     Number(u32),
     Word(usize, usize),
@@ -28,7 +30,7 @@ pub enum Item {
 }
 
 // The next item and the offset after it; or there is none: a closing brace, the end, or a syntaxerror.
-#[derive(Drop)]
+#[derive(Clone, Copy)]
 pub enum Read {
     Item(Item, usize),
     Nothing,

@@ -1,5 +1,7 @@
 // The machine of Forf in the lent words, and the 26 words that act on it: the operand stack, the execution stack and the memory. Each function does exactly
 // what the definition's operator does, errors and their order and the test of room included.
+#![tactic(auto)]
+
 ghost use Rattle.std.specs.Prelude.{◌≡◌, ◌+◌, ◌*◌, ◌≤◌, ◌<◌, length};
 ghost use Rattle.forf_semantics.specs.Operators.{if', ifelse, pop, dup, exch, mset, mget};
 ghost use Rattle.forf_machine.specs.Slots.{slots, put_slot};
@@ -28,27 +30,27 @@ pub const RUNNING: u32 = 1;
 const MEMORY_SLOTS: u32 = 32;
 
 // The small state: how many slots of each stack are in use.
-#[derive(Drop)]
+#[derive(Clone, Copy)]
 pub struct Machine {
     pub depth: usize,
     pub frames: usize,
 }
 
 // The machine after a word or a push, or its error.
-#[derive(Drop)]
+#[derive(Clone, Copy)]
 pub enum Acted {
     Went(Machine),
     Failed(Error),
 }
 
 // Operands that are integers, or what is wrong with them.
-#[derive(Drop)]
+#[derive(Clone, Copy)]
 pub enum OneInt {
     Got(u32),
     Bad(Error),
 }
 
-#[derive(Drop)]
+#[derive(Clone, Copy)]
 pub enum TwoInts {
     Got(u32, u32),
     Bad(Error),

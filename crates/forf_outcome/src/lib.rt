@@ -1,5 +1,7 @@
 // The outcome's text of a Forf run (02, W10; 01, Outcome), written from the machine's words: how the run ended, the offset of its last token, two counts, and the
 // stack's items, the bottom first. What is written are the definition's bytes.
+#![tactic(auto)]
+
 ghost use Rattle.std.specs.Prelude.{◌+◌, ◌*◌, ◌≤◌, ◌<◌, length};
 ghost use Rattle.text.specs.Writing.{Written};
 ghost use Rattle.forf_semantics.specs.Errors.{error_text};

@@ -1,4 +1,6 @@
 // The runner of Forf: setup, the steps and the outcome, in one operation that asks nothing beforehand. The memory is kept for the next run.
+#![tactic(auto)]
+
 ghost use Rattle.std.specs.Prelude.{◌≡◌};
 ghost use Rattle.forf_runner.specs.Promise.{Runs, Ready, CarriesOut, refusal_of};
 
@@ -10,7 +12,7 @@ use semantics::{
 pub const MEMORY_SLOTS: usize = 32;
 
 // The number of the refusal, the refusal of a memory that has not 32 slots, or what a run came to.
-#[derive(Drop)]
+#[derive(Clone, Copy)]
 pub enum Answer {
     Refused(u32),
     MemorySlots,
@@ -18,7 +20,7 @@ pub enum Answer {
 }
 
 // The steps made, and how many bytes of the outcome are written.
-#[derive(Drop)]
+#[derive(Clone, Copy)]
 pub struct Report {
     pub steps: u32,
     pub outcome: usize,

@@ -1,7 +1,9 @@
 // The types that the definition of Forf in specs/ shares with the code above it. Nothing runs here.
+#![tactic(auto)]
+
 
 // The errors of a step, in their order. `error_text` of specs/Outcome gives each its name in the paper.
-#[derive(Drop)]
+#[derive(Clone, Copy)]
 pub enum Error {
     SyntaxError,
     Undefined,
@@ -14,7 +16,7 @@ pub enum Error {
 }
 
 // The kinds of tokens. `kind_text` of specs/Setup gives each its words in the paper.
-#[derive(Drop)]
+#[derive(Clone, Copy)]
 pub enum Kind {
     Integer,
     Word,

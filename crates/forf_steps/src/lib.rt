@@ -1,5 +1,7 @@
 // The steps of a Forf run: on the top of the execution stack, or with an empty one on the next token of the script, until the run is finished, failed or out of
 // fuel. A step reads one item, at one place of the code whatever it is read from, so that the compiler keeps the small state in registers.
+#![tactic(auto)]
+
 ghost use Rattle.std.specs.Prelude.{◌≡◌, ◌*◌, ◌≤◌, ◌<◌, length};
 ghost use Rattle.semantics.specs.Sizes.{script_most};
 ghost use Rattle.forf_steps.specs.Stepping.{Acting, Acts, Ready, Steps, is_pending, place_of, moved_on, state_after, state_failed, without_item, command_of, is_done};
@@ -12,7 +14,7 @@ use forf_semantics::Error;
 use semantics::EXEC_WIDTH;
 
 // The small state of a run: the machine's, the offset of the script bytes that are left, that of the token last taken, and the steps made.
-#[derive(Drop)]
+#[derive(Clone, Copy)]
 pub struct State {
     pub machine: Machine,
     pub next: usize,
@@ -21,19 +23,19 @@ pub struct State {
 }
 
 // The word whose execution failed, by where its bytes begin and how many they are.
-#[derive(Drop)]
+#[derive(Clone, Copy)]
 pub enum Command {
     Nothing,
     Word(usize, usize),
 }
 
-#[derive(Drop)]
+#[derive(Clone, Copy)]
 pub enum Stepped {
     Went(State),
     Failed(Error, Command, State),
 }
 
-#[derive(Drop)]
+#[derive(Clone, Copy)]
 pub enum Ending {
     Finished,
     OutOfFuel,
@@ -41,7 +43,7 @@ pub enum Ending {
 }
 
 // The state after the last step, and how the run ended.
-#[derive(Drop)]
+#[derive(Clone, Copy)]
 pub struct Ended {
     pub state: State,
     pub ending: Ending,

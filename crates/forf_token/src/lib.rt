@@ -1,5 +1,7 @@
 // The reading of one token of a Forf script, where it stands: space and comments, integers, words and braces. `token_at` answers as the definition's `lex`
 // does, and the public reading, `read`, `part` and `locate`, as its `reading`, on every script and at every offset. No byte is copied.
+#![tactic(auto)]
+
 ghost use Rattle.std.specs.Prelude.{◌≡◌, ◌+◌, ◌≤◌, ◌<◌, length, drop};
 ghost use Rattle.semantics.specs.Sizes.{script_most};
 ghost use Rattle.forf_semantics.specs.Tokens as tokens;
@@ -15,7 +17,7 @@ use semantics::{NAME_MOST, SCRIPT_MOST};
 use token::{Number, is_space};
 
 // A token of a script: an integer by its 32 bits. A word is all bytes from where it begins to the offset after it.
-#[derive(Drop)]
+#[derive(Clone, Copy)]
 pub enum Token {
     Integer(u32),
     Word,
@@ -25,14 +27,14 @@ pub enum Token {
 }
 
 // A token and the offset after it, or a syntaxerror.
-#[derive(Drop)]
+#[derive(Clone, Copy)]
 pub enum Lexed {
     Token(Token, usize),
     Bad,
 }
 
 // The public answer: the paper's refusals 1 and 10, a syntaxerror, or the token's kind and the offset after it.
-#[derive(Drop)]
+#[derive(Clone, Copy)]
 pub enum Reading {
     TooLong,
     PastEnd,
@@ -41,7 +43,7 @@ pub enum Reading {
 }
 
 // The same with where the token's own bytes begin and how many they are.
-#[derive(Drop)]
+#[derive(Clone, Copy)]
 pub enum Located {
     TooLong,
     PastEnd,

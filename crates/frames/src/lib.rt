@@ -1,5 +1,7 @@
 // What moves values between the stack and the execution stack. Each function keeps `Rep`, and does to the machine of the definition what its contract
 // names.
+#![tactic(auto)]
+
 ghost use Rattle.std.specs.Prelude.{◌≡◌, ◌+◌, ◌*◌, ◌-◌, ◌≤◌, length};
 ghost use Rattle.machine.specs.Words.{frame_kind, frame_tag, frame_cell, frame_left, frame_final};
 ghost use Rattle.machine.specs.FrameMoves.{Somewhere, MovesFrames};

@@ -1,5 +1,7 @@
 // A brace group that has been judged, and whose names have slots, put into the cells of its array: element after element along the chain, an inner group in
 // the array that is made for it. What judging has ruled out (a fault, the end of the script) is not met again.
+#![tactic(auto)]
+
 ghost use Rattle.std.specs.Prelude.{◌<◌};
 ghost use Rattle.elements.specs.Elements.{HasCell};
 ghost use Rattle.group_building.specs.Building.{Ready, Builds, Readable, PieceAt, ReadyLeaf, PutsLeaf, ReadyName, PutsName, ReadyOpen, Opens, FirstCell};
@@ -9,21 +11,21 @@ use machine::{Machine, TAG_EXECUTABLE, TAG_INTEGER, TAG_LITERAL};
 use token::{Lexed, Token};
 
 // The machine, and the offset after the group.
-#[derive(Drop)]
+#[derive(Clone, Copy)]
 pub struct Built {
     pub machine: Machine,
     pub next: usize,
 }
 
 // The machine with an inner group's array, and the cell of its first element.
-#[derive(Drop)]
+#[derive(Clone, Copy)]
 struct Opened {
     pub machine: Machine,
     pub first: u32,
 }
 
 // A token of a group, and the offset after it: an element that is no group, or a brace.
-#[derive(Drop)]
+#[derive(Clone, Copy)]
 enum Piece {
     Leaf(Token, usize),
     Open(usize),

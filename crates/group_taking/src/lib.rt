@@ -1,5 +1,7 @@
 // A brace group of the script taken in one step: judged, its names given slots, the room tested in the definition's order, and then built. Where it fails,
 // nothing has changed but words of the dictionary past its names.
+#![tactic(auto)]
+
 ghost use Rattle.group_taking.specs.Taking.{Opened, TakesGroup, ReadyGroup, ConstructsGroup};
 
 use groups::Judged;
@@ -9,7 +11,7 @@ use taking::Named;
 
 // What taking a group came to: the machine and the offset after the group; the error and that offset, since a handled error counts the group as taken; or the
 // machine as it was, and what is wrong with the group's text. The last has the machine where the first has it, so that the compiler keeps its words whole.
-#[derive(Drop)]
+#[derive(Clone, Copy)]
 pub enum Grouped {
     Done(Machine, usize),
     Fail(Error, usize),

@@ -1,5 +1,7 @@
 // The judging of a brace group before anything is made: its tokens from left to right up to the first fault, how many elements it has, and the cells that
 // its inner groups and strings want. `judge` answers as the definition's reading of the group does.
+#![tactic(auto)]
+
 ghost use Rattle.std.specs.Prelude.{◌≡◌, ◌^◌, ◌≤◌, ◌<◌, length};
 ghost use Rattle.groups.specs.Parsing.{JudgedAs, WeighedAs, fault_of, weighed_fault};
 
@@ -7,21 +9,21 @@ use semantics::Fault;
 use token::{Lexed, Token};
 
 // A group's fault; or how many elements it has, the cells of the objects in it, and the offset after it.
-#[derive(Drop)]
+#[derive(Clone, Copy)]
 pub enum Judged {
     Bad(Fault),
     Good(usize, usize, usize),
 }
 
 // A token of a group: its fault; or what it is to the group, and the offset after it.
-#[derive(Drop)]
+#[derive(Clone, Copy)]
 enum Weighed {
     Bad(Fault),
     Good(Weight, usize),
 }
 
 // An element, with the cells that its object takes; a brace; or the script's end.
-#[derive(Drop)]
+#[derive(Clone, Copy)]
 enum Weight {
     Element(usize),
     Open,

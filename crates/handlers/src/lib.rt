@@ -1,5 +1,7 @@
 // Handlers of errors, in the words of the dictionary's slots that serve no name: the row of an error, a handler that is set or becomes pending, and the names of
 // the latest error. Each function keeps `Rep`, and does to the machine of the definition what its contract names.
+#![tactic(auto)]
+
 ghost use Rattle.std.specs.Prelude.{◌≡◌, ◌+◌, ◌*◌, ◌≤◌, ◌<◌, length};
 ghost use Rattle.semantics.specs.Sizes.{operator_count, error_count, dictionary_words_most};
 ghost use Rattle.semantics.specs.Errors.{error_names};

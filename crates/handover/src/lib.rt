@@ -1,5 +1,7 @@
 // A failing step's error is handed over to its handler (02, W1): what failed counts as taken, the names of the error and of its command are stored, and the
 // handler becomes pending. Nothing has changed where there is no handler, or no execution slot for it.
+#![tactic(auto)]
+
 ghost use Rattle.std.specs.Prelude.{◌≡◌, ◌+◌, ◌*◌, ◌≤◌, length};
 ghost use Rattle.semantics.specs.Sizes.{name_most, dictionary_words_most};
 ghost use Rattle.machine.specs.FrameMoves.{Somewhere, MovesFrames};
@@ -11,14 +13,14 @@ use machine::{FRAME_INCREMENT, FRAME_NEXT, Machine, TAG_UNBOUND};
 use semantics::{DICTIONARY_WIDTH, EXEC_WIDTH, Error};
 
 // Whether the handler took over, and the machine then.
-#[derive(Drop)]
+#[derive(Clone, Copy)]
 pub enum Handed {
     Over(Machine),
     Not,
 }
 
 // A machine whose dictionary knows a name, and the word for the name: one more than its slot, 0 for none.
-#[derive(Drop)]
+#[derive(Clone, Copy)]
 pub struct Known {
     pub machine: Machine,
     pub word: u32,

@@ -2,6 +2,8 @@
 // A header is (kind, number of body cells, count, first body cell and a mark), and a body cell (tag, payload, next cell, skip word).
 // Of a header's word 1 the lower 16 bits, READ_ONLY and SCATTERED and of its word 3 the lower 15 bits and the topmost are meant; the others may be anything.
 // The promise: where every count is exact before, it is exact after, and what is freed is what only dead objects name.
+#![tactic(auto)]
+
 ghost use Rattle.std.specs.Prelude.{◌≡◌, ℕ, suc, ◌+◌, ◌-◌, ◌*◌, ◌%◌, ◌<◌, ◌≤◌, length};
 ghost use Rattle.heap.specs.Word.{word, Put};
 ghost use Rattle.heap.specs.Chain.{live, out, on};
@@ -35,7 +37,7 @@ const SCATTERED: u32 = 131072;
 
 // The lists of cells: the free cells (first, how many), the cells from `edge` on that were never used, and the dead
 // headers whose cells are still to be freed (first, how many).
-#[derive(Drop)]
+#[derive(Clone, Copy)]
 pub struct Lists {
     pub free: u32,
     pub listed: u32,
@@ -45,7 +47,7 @@ pub struct Lists {
 }
 
 // A cell, and the lists without it.
-#[derive(Drop)]
+#[derive(Clone, Copy)]
 pub struct Taken {
     pub cell: u32,
     pub lists: Lists,

@@ -70,6 +70,8 @@
 //   seven back       slot 1 let go                                                              0 + 7                          7
 //   taken            slot 1: array of 6                                                         7 - (1 + 6)                    0
 //   all gone         slots 0, 1 let go                                                          0 + 32761 + 7              32768
+#![tactic(auto)]
+
 ghost use Rattle.std.specs.Prelude.{◌≡◌, ◌+◌, ◌-◌, ◌≤◌, length};
 ghost use Rattle.heap.specs.Shape.{cells};
 ghost use Rattle.heap_counts.specs.Slots.{Slots, Found};
@@ -90,7 +92,7 @@ const WORDS: usize = 131072;
 const SCRIPT: usize = 4096;
 
 // An element of an array: the cell that it is in, if there is one.
-#[derive(Drop)]
+#[derive(Clone, Copy)]
 enum Element {
     At(u32),
     Nowhere,

@@ -2,7 +2,7 @@
 ghost use Rattle.std.specs.Prelude.{◌≤◌, length};
 
 // A step: the first byte of its word, and its last three numbers.
-#[derive(Drop)]
+#[derive(Clone, Copy)]
 pub struct Step {
     pub what: u8,
     pub a: u16,

@@ -1,4 +1,6 @@
 // The ledger for programs in C and Rust: two exported functions, which include/floor.h declares. A slice is a pointer and a length there.
+#![tactic(auto)]
+
 ghost use Rattle.std.specs.Prelude.{◌≡◌};
 ghost use Rattle.ledger_c.specs.Reply.{written_number, written_bytes, read_number, read_records, of_written, of_reading, WriteReplies, ReadReplies};
 
@@ -8,7 +10,7 @@ use ledger_writer::Written;
 
 // The answer by its number, and how many bytes were written or records read; 0 where it is refused.
 #[repr(C)]
-#[derive(Drop)]
+#[derive(Clone, Copy)]
 pub struct Reply {
     pub answer: u32,
     pub count: usize,

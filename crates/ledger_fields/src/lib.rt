@@ -1,4 +1,6 @@
 // The fields of a ledger's text, one after another: the reading machine of the definition, byte by byte.
+#![tactic(auto)]
+
 ghost use Rattle.std.specs.Prelude.{◌≡◌, ◌&&◌, ◌≤◌, length, drop};
 ghost use Rattle.semantics.specs.Tokens.{is_digit};
 ghost use Rattle.ledger.specs.Reading as reading;
@@ -7,7 +9,7 @@ ghost use Rattle.ledger_fields.specs.Fields.{mode_is, act_is, close_is, grown_by
 
 // Where the next byte stands: at the start of a line, after a comma, in a field without quotes, between quotes, after a quote that closes
 // the field or is the first of two, after a CR outside quotes.
-#[derive(Drop)]
+#[derive(Clone, Copy)]
 pub enum Mode {
     Fresh,
     Begins,
@@ -19,7 +21,7 @@ pub enum Mode {
 
 // What the next byte does: it is the field's next byte, without quotes or between them; it opens a quoted field, closes it or is the first of two quotes, or is a CR
 // outside quotes; it ends the field or the line; or it is bad. No variant holds a mode, so that the compiler leads each straight to its arm.
-#[derive(Drop)]
+#[derive(Clone, Copy)]
 pub enum Act {
     KeepPlain,
     KeepQuoted,
@@ -32,7 +34,7 @@ pub enum Act {
 }
 
 // What closes a field: a comma, CRLF, the end, the end where no line has begun; or bad quoting.
-#[derive(Drop)]
+#[derive(Clone, Copy)]
 pub enum Close {
     Comma,
     Line,
@@ -43,7 +45,7 @@ pub enum Close {
 
 // What is kept of a field's bytes: how many there are, 32 standing for more than 31; the number that they write, 2147483648 standing for any greater; whether all are
 // digits; and the first 31 of them.
-#[derive(Drop)]
+#[derive(Clone, Copy)]
 pub struct Seen {
     pub size: u32,
     pub number: u32,
@@ -52,7 +54,7 @@ pub struct Seen {
 }
 
 // What is kept of a field, the offset after what closes it, and what that is.
-#[derive(Drop)]
+#[derive(Clone, Copy)]
 pub struct Field {
     pub seen: Seen,
     pub next: usize,

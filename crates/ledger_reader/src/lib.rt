@@ -1,5 +1,7 @@
 // The book read back from the buying office's text, by RFC 4180 (02, W11). The whole text is judged first, in the paper's order; only an accepted one is filled into the book. What touches the
 // slice of records is thin and walked by hand.
+#![tactic(auto)]
+
 ghost use Rattle.std.specs.Prelude.{◌≡◌, true, ◌≤◌, ◌<◌, length, drop};
 ghost use Rattle.semantics.specs.Text.{same};
 ghost use Rattle.book.specs.Books.{blank, is_place_length, is_in};
@@ -15,7 +17,7 @@ use book::{GREATEST, PLACE_MOST, RECORDS_MOST, Record};
 use ledger_fields::{Close, Mode, Seen};
 
 // What became of a text: how many records were read, or why it is refused.
-#[derive(Drop)]
+#[derive(Clone, Copy)]
 pub enum Reading {
     Accepted(usize),
     BadHeader,
@@ -28,7 +30,7 @@ pub enum Reading {
 }
 
 // The answer, where the first line begins, and how many records are to be filled in.
-#[derive(Drop)]
+#[derive(Clone, Copy)]
 pub struct Judged {
     pub answer: Reading,
     pub start: usize,
@@ -36,7 +38,7 @@ pub struct Judged {
 }
 
 // A line: whether there is none, its rank (0 where it has not three fields, 1 where a number is bad, 2 where the place is, else 3), its record, and where the next begins.
-#[derive(Drop)]
+#[derive(Clone, Copy)]
 pub struct Line {
     pub over: bool,
     pub rank: u32,
@@ -45,7 +47,7 @@ pub struct Line {
 }
 
 // The least rank of the lines, and how many there are.
-#[derive(Drop)]
+#[derive(Clone, Copy)]
 pub struct Tally {
     pub rank: u32,
     pub count: usize,

@@ -1,5 +1,7 @@
 // The book written for the buying office, by RFC 4180 (02, W11). The text is measured first; where it is longer than what is lent nothing is written. One set of
 // emitters measures and writes: where it is not live it only counts.
+#![tactic(auto)]
+
 ghost use Rattle.std.specs.Prelude.{◌≡◌, true, ◌&&◌, cond, [], ◌∷◌, ◌+◌, ◌≤◌, ◌<◌, length, get_or, leb};
 ghost use Rattle.semantics.specs.Text.{decimal};
 ghost use Rattle.book.specs.Books.{blank, is_sound};
@@ -9,7 +11,7 @@ ghost use Rattle.ledger_writer.specs.Emitting.{Emitted, Roomy, line_of, told, Wr
 use book::Record;
 
 // What became of a book that was to be written: `Wrote` has the bytes of its text.
-#[derive(Drop)]
+#[derive(Clone, Copy)]
 pub enum Written {
     BookMalformed,
     TooShort,

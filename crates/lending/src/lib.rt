@@ -1,4 +1,6 @@
 // A run that starts with a string made and bound to a name: the string is lent before step 1, and the run goes on from there.
+#![tactic(auto)]
+
 ghost use Rattle.lending.specs.Lending.{MayLend, Lends, Ready, Carries};
 
 use machine::{ITEM_PAYLOAD, Machine, TAG_NULL};

@@ -1,5 +1,7 @@
 // The machine's small state, its slots, and what moves a value between places. Each function keeps `Rep`: the lent words stand for a machine of
 // the definition, and the function does to that machine what its contract names.
+#![tactic(auto)]
+
 ghost use Rattle.std.specs.Prelude.{◌≡◌, ◌+◌, ◌*◌, ◌-◌, ◌≤◌, ◌<◌, length};
 ghost use Rattle.machine.specs.Rep.{Somewhere, MovesStack, MovesHeap};
 ghost use Rattle.machine.specs.Moves.{dropped, copied, copied_over, swapped, retagged, tag_as};
@@ -73,7 +75,7 @@ pub const TAG_ARRAY: u32 = 9;
 pub const TAG_PROCEDURE: u32 = 10;
 
 // How much of each lent buffer is in use: stack items, execution slots, names, log bytes; the heap's lists; and whether the run has been stopped.
-#[derive(Drop)]
+#[derive(Clone, Copy)]
 pub struct Machine {
     pub depth: usize,
     pub frames: usize,
@@ -84,28 +86,28 @@ pub struct Machine {
 }
 
 // What an operator came to.
-#[derive(Drop)]
+#[derive(Clone, Copy)]
 pub enum Did {
     Ok(Machine),
     Fail(Error),
 }
 
 // An integer operand, or what is wrong with it.
-#[derive(Drop)]
+#[derive(Clone, Copy)]
 pub enum OneInt {
     Bad(Error),
     Got(u32),
 }
 
 // Two integer operands, the upper one second, or what is wrong with them.
-#[derive(Drop)]
+#[derive(Clone, Copy)]
 pub enum TwoInts {
     Bad(Error),
     Got(u32, u32),
 }
 
 // An operand of not: a word, a truth value (0 or 1), or what is wrong with it.
-#[derive(Drop)]
+#[derive(Clone, Copy)]
 pub enum OneLogical {
     Bad(Error),
     Word(u32),
@@ -113,7 +115,7 @@ pub enum OneLogical {
 }
 
 // Two operands of one kind, words or truth values, the upper one second, or what is wrong with them.
-#[derive(Drop)]
+#[derive(Clone, Copy)]
 pub enum TwoLogical {
     Bad(Error),
     Words(u32, u32),

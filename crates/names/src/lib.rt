@@ -1,4 +1,6 @@
 // The names that have dictionary slots, by their lengths and bytes: word 12 k of slot k is the length, and the eight words after it hold the bytes.
+#![tactic(auto)]
+
 ghost use Rattle.std.specs.Prelude.{◌+◌, ◌*◌, ◌≤◌, ◌<◌, length};
 ghost use Rattle.names.specs.Names.{NameSize, NameByte};
 

@@ -1,5 +1,7 @@
 // The operators on integers and truth values: arithmetic, shifts, pegs, logic and comparisons. Each does exactly what the definition's operator of its name
 // does, errors and their order and the test of room included, and touches the stack's words alone.
+#![tactic(auto)]
+
 ghost use Rattle.std.specs.Prelude.{◌≡◌, length, ◌*◌, ◌≤◌};
 ghost use Rattle.semantics.specs.Text.{bytes};
 ghost use Rattle.semantics.specs.Operators.{perform};

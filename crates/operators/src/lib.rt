@@ -1,5 +1,7 @@
 // The operators by their numbers, which are their places in the definition's table: `frequent` those below getinterval, `rare` the rest. Each family is lent
 // only what its operators touch; `rare` is lent everything, so that any operator can be added there.
+#![tactic(auto)]
+
 ghost use Rattle.std.specs.Prelude.{◌≡◌, ◌*◌, ◌≤◌, ◌<◌, length};
 ghost use Rattle.semantics.specs.Sizes.{operator_count};
 ghost use Rattle.machine.specs.Rep.{Somewhere as StackSomewhere};

@@ -1,5 +1,7 @@
 // The outcome's text (01, Outcome; 02, W4), written from the machine's words: how the run ended, the offsets of its last token and of a fault in it, four counts, and
 // the stack's items, the bottom first. What is written are the definition's bytes, in every machine that the words stand for.
+#![tactic(auto)]
+
 ghost use Rattle.std.specs.Prelude.{◌+◌, ◌*◌, ◌≤◌, ◌<◌, length};
 ghost use Rattle.semantics.specs.Sizes.{item_room};
 ghost use Rattle.semantics.specs.Text.{bytes};

@@ -1,5 +1,7 @@
 // The operators that write to the log: print, echo and echostack. Each does exactly what the definition's operator of its name does and then the
 // definition's test of room. The text is measured before any of it is written, so that nothing has changed where there is no room for all of it.
+#![tactic(auto)]
+
 ghost use Rattle.std.specs.Prelude.{◌≡◌, List, ℕ, ◌+◌, ◌≤◌, ◌<◌, length};
 ghost use Rattle.semantics.specs.Text.{bytes};
 ghost use Rattle.semantics.specs.Operators.{perform};

@@ -1,5 +1,7 @@
 // Values as echo writes them (01, House rules): the length of the text, and the text written into the log. Both read the dictionary and the cells alone,
 // and give the definition's text of the value that the two words stand for.
+#![tactic(auto)]
+
 ghost use Rattle.std.specs.Prelude.{◌≡◌, ◌+◌, ◌≤◌, ◌<◌, length};
 ghost use Rattle.heap.specs.Word.{word};
 ghost use Rattle.names.specs.Names.{Named};

@@ -1,5 +1,7 @@
 // Runs scripts with the sizes that each names, to be compared with what the reference interpreter prints. On standard input a case is eight numbers of four
 // bytes, the lowest first (fuel; the words of stack, execution stack, dictionary and cells; the bytes of log, outcome and script), and then the script.
+#![tactic(auto)]
+
 ghost use Rattle.std.specs.Prelude.{◌≤◌, ◌<◌};
 ghost use Rattle.run_list.specs.Heads.{Fits, Within};
 
@@ -59,7 +61,7 @@ fn size(head: &[u8; 32], i: usize, most: usize) -> usize
 }
 
 // A case's head, where there is one more.
-#[derive(Drop)]
+#[derive(Clone, Copy)]
 struct Head {
     more: bool,
     fuel: u32,

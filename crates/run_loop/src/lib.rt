@@ -1,5 +1,7 @@
 // The steps of a run, one after another, until it is finished, stopped, failed or out of fuel. The promise is one claim about the whole list of steps: the moments
 // of the run, each led to by a step from the one before, against the states of the definition's run.
+#![tactic(auto)]
+
 ghost use Rattle.std.specs.Prelude.{◌≡◌, ◌≤◌};
 ghost use Rattle.semantics.specs.Sizes.{script_most};
 ghost use Rattle.ending.specs.Endings.{after_of};
@@ -11,7 +13,7 @@ use handover::Handed;
 use step::{State, Stepped};
 
 // The state after the last step, and how the run ended.
-#[derive(Drop)]
+#[derive(Clone, Copy)]
 pub struct Ended {
     pub state: State,
     pub ending: Ending,

@@ -1,4 +1,6 @@
 // The runner: setup, the run and its outcome, in one operation that asks nothing beforehand.
+#![tactic(auto)]
+
 ghost use Rattle.runner.specs.Promise.{Runs, Ready, CarriesOut, MayProceed, Proceeds};
 ghost use Rattle.semantics.specs.Steps.{initial};
 
@@ -9,14 +11,14 @@ use setup::Lent;
 use step::State;
 
 // The number of the refusal, or what a run came to.
-#[derive(Drop)]
+#[derive(Clone, Copy)]
 pub enum Answer {
     Refused(u32),
     Ran(Report),
 }
 
 // The steps made, how many bytes of the log are written, and how many of the outcome; and the small state at the end, by which the lent words are read.
-#[derive(Drop)]
+#[derive(Clone, Copy)]
 pub struct Report {
     pub steps: u32,
     pub log: usize,
@@ -94,7 +96,7 @@ fn carry_out(
 }
 
 // What a run from a state came to: the report, the state at its end, and how it ended.
-#[derive(Drop)]
+#[derive(Clone, Copy)]
 pub struct Proceeded {
     pub report: Report,
     pub state: State,

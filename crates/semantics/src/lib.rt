@@ -1,5 +1,7 @@
 // The types, counts and limits that the definition of Floo in specs/ shares with the code above it. Nothing runs here: each layer proves its own code
 // against the definition.
+#![tactic(auto)]
+
 
 // Counts and limits, as specs/Sizes has them.
 pub const OPERATOR_COUNT: usize = 61;
@@ -45,7 +47,7 @@ pub const HEAD_ROOM: usize = 256;
 pub const ITEM_ROOM: usize = 136;
 
 // The errors of a step whose token, if it takes one, could be read. `error_text` of specs/Errors gives each its name in the paper.
-#[derive(Drop)]
+#[derive(Clone, Copy)]
 pub enum Error {
     LimitCheck,
     Undefined,
@@ -63,7 +65,7 @@ pub enum Error {
 
 // What is wrong with a token, with the offset of the first byte that could not be accepted. A limit that is passed has no such byte.
 // `fault_text` of specs/Errors gives each its name in the paper.
-#[derive(Drop)]
+#[derive(Clone, Copy)]
 pub enum Fault {
     BadNumber(u32),
     BadEscape(u32),
@@ -74,7 +76,7 @@ pub enum Fault {
 }
 
 // The kinds of tokens. `kind_text` of specs/Setup gives each its words in the paper.
-#[derive(Drop)]
+#[derive(Clone, Copy)]
 pub enum Kind {
     Integer,
     String,

@@ -1,5 +1,7 @@
 // Whether a run is made: the refusals 1 to 9 of the paper's table (01, Setup). `refusal` answers as the definition does, for every
 // script, fuel and lent lengths. It reads the script's first five bytes and lengths only, so no lent byte changes.
+#![tactic(auto)]
+
 ghost use Rattle.std.specs.Prelude.{◌≡◌, not, take};
 ghost use Rattle.semantics.specs.Text.{bytes, same};
 ghost use Rattle.semantics.specs.Tokens.{within};
@@ -13,7 +15,7 @@ use semantics::{
 };
 
 // What a caller lends: the lengths of the four buffers of 32-bit words, and of the two of bytes.
-#[derive(Drop)]
+#[derive(Clone, Copy)]
 pub struct Lent {
     pub stack: usize,
     pub exec: usize,

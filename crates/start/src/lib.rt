@@ -1,5 +1,7 @@
 // The machine at the start of a run: the predefined names in the first slots of the dictionary, and no item, execution slot, object or handler. Only the words
 // of those slots are written.
+#![tactic(auto)]
+
 ghost use Rattle.std.specs.Prelude.{◌≡◌, ◌≤◌, length};
 ghost use Rattle.semantics.specs.Sizes.{cells_most, name_words, dictionary_words_most};
 ghost use Rattle.heap.specs.Shape as Heap;

@@ -1,6 +1,8 @@
 // One step of a run: `resume` where there is an execution slot, which acts, else `take`, which takes the next token of the script. The answer is the definition's
 // step, errors and their order, the count of steps and the offsets included. An error is handed over by the caller, out of the loop of steps: here the words
 // stand for what they stood for.
+#![tactic(auto)]
+
 ghost use Rattle.std.specs.Prelude.{◌≡◌, ◌<◌, ◌≤◌, length};
 ghost use Rattle.semantics.specs.Sizes.{fuel_most};
 ghost use Rattle.step.specs.Stepping.{ReadySlot, ReadyToken, TriesSlot, TriesToken, Finished, ended_by, grouped_by, misread_by};
@@ -12,7 +14,7 @@ use semantics::{Error, Fault};
 use token::{Lexed, Token};
 
 // The state between two steps: the machine, the offset of the script's bytes that are left, the offset of the token last taken, and the steps made.
-#[derive(Drop)]
+#[derive(Clone, Copy)]
 pub struct State {
     pub machine: Machine,
     pub next: usize,
@@ -21,7 +23,7 @@ pub struct State {
 }
 
 // A step that could not read its token has the empty command, so that its fault lies where nothing of the other answers does.
-#[derive(Drop)]
+#[derive(Clone, Copy)]
 pub enum Stepped {
     Goes(State),
     Fails(State, Error, Command),

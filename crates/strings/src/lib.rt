@@ -1,4 +1,6 @@
 // Loops over the bytes of strings that are items of the stack. `fill_at` takes a string by its header, and shows the world.
+#![tactic(auto)]
+
 ghost use Rattle.std.specs.Prelude.{◌+◌, ◌≤◌, ◌<◌, length};
 ghost use Rattle.machine.specs.Rep.{MovesHeap};
 ghost use Rattle.elements.specs.Elements.{HasString, SomewhereThat};

@@ -1,5 +1,7 @@
 // What a script token other than a brace group does in a step, and the names of a brace group. Each function that takes a token does exactly what the
 // definition makes of it, with the test of room after it, errors and their order included; where it fails, no word has changed.
+#![tactic(auto)]
+
 ghost use Rattle.std.specs.Prelude.{◌≡◌, ◌+◌, ◌*◌, ◌≤◌, ◌<◌, length};
 ghost use Rattle.semantics.specs.Sizes.{name_most, script_most, dictionary_most, stack_words_most};
 ghost use Rattle.machine.specs.Rep.{Somewhere};
@@ -15,21 +17,21 @@ use semantics::{DICTIONARY_WIDTH, EXEC_WIDTH, Error, STACK_WIDTH};
 use token::{Lexed, Token};
 
 // What giving slots to names came to: the error where the dictionary has no room for them all, or all have one.
-#[derive(Drop)]
+#[derive(Clone, Copy)]
 pub enum Named {
     Bad(Error),
     Done(Machine),
 }
 
 // A token of a group: its fault; or what it is, and the offset after it.
-#[derive(Drop)]
+#[derive(Clone, Copy)]
 enum Met {
     Bad(Error),
     Good(Found, usize),
 }
 
 // A name, with where its bytes are and how many; or another token.
-#[derive(Drop)]
+#[derive(Clone, Copy)]
 enum Found {
     Name(usize, usize),
     Other,

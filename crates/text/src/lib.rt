@@ -1,6 +1,8 @@
 // Writers of text into a lent buffer: numbers in decimal, strings and names with their escapes; and the lengths of
 // these texts without writing. A writer puts exactly the definition's bytes at the offset, leaves every other byte as it
 // was, and returns the offset after (`Written`). Who calls one shows that there is room, by the length.
+#![tactic(auto)]
+
 ghost use Rattle.std.specs.Prelude.{◌≡◌, ◌+◌, ◌≤◌, ◌^◌, length};
 ghost use Rattle.semantics.specs.Text.{decimal, octal};
 ghost use Rattle.semantics.specs.Words.{signed, decimal_z};

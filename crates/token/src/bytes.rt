@@ -4,7 +4,7 @@ ghost use Rattle.semantics.specs.Tokens as tokens;
 ghost use Rattle.token.specs.Bytes.{class_is};
 
 // What a token's first byte begins.
-#[derive(Drop)]
+#[derive(Clone, Copy)]
 pub enum Class {
     NameByte,
     Bracket,

@@ -1,6 +1,8 @@
 // The reading of one token of a script, where it stands: space and comment, names, numbers, strings and braces. `token_at` answers as
 // the definition's `lex` does, and the public reading, `read`, `part` and `locate`, as its `reading`, on every script and at every offset.
 // No byte is copied: an answer says where a token's bytes are, and `unescape` gives a string's bytes one by one.
+#![tactic(auto)]
+
 ghost use Rattle.std.specs.Prelude.{◌≡◌, ◌≤◌, ◌<◌, ◌^◌, length};
 ghost use Rattle.semantics.specs.Groups as groups;
 ghost use Rattle.semantics.specs.Setup as setup;
@@ -22,7 +24,7 @@ pub use quoted::{Unescaped, unescape};
 
 // A token of a script: an integer by its 32 bits, a string by where its bytes begin and how many it will hold, a name by where its bytes
 // are and how many.
-#[derive(Drop)]
+#[derive(Clone, Copy)]
 pub enum Token {
     Integer(u32),
     String(usize, usize),
@@ -34,14 +36,14 @@ pub enum Token {
 }
 
 // A token and the offset after it, or the fault that its reading gives.
-#[derive(Drop)]
+#[derive(Clone, Copy)]
 pub enum Lexed {
     Token(Token, usize),
     Fault(Fault),
 }
 
 // The public answer: the paper's refusals 1 and 10, a fault, or the token's kind and the offset after it.
-#[derive(Drop)]
+#[derive(Clone, Copy)]
 pub enum Reading {
     TooLong,
     PastEnd,
@@ -50,7 +52,7 @@ pub enum Reading {
 }
 
 // The same with where the token's own bytes begin and how many they are.
-#[derive(Drop)]
+#[derive(Clone, Copy)]
 pub enum Located {
     TooLong,
     PastEnd,

@@ -7,14 +7,14 @@ use crate::bytes::{is_digit, within};
 use semantics::Fault;
 
 // The 32 bits of a number, or its fault.
-#[derive(Drop)]
+#[derive(Clone, Copy)]
 pub enum Number {
     Word(u32),
     Fault(Fault),
 }
 
 // -12, 0xC, 12
-#[derive(Drop)]
+#[derive(Clone, Copy)]
 pub enum Form {
     Negative,
     Hexadecimal,

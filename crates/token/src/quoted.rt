@@ -6,7 +6,7 @@ ghost use Rattle.token.specs.Strings.{met_is, act_is, Small, PieceAt, JudgedAt, 
 use crate::bytes::{is_break, is_octal, within};
 
 // What the reading of a string has just met: nothing, a backslash, a backslash and CR, or a backslash and one or two octal digits.
-#[derive(Drop)]
+#[derive(Clone, Copy)]
 pub enum Met {
     Nothing,
     Backslash,
@@ -16,7 +16,7 @@ pub enum Met {
 }
 
 // What the next byte does.
-#[derive(Drop)]
+#[derive(Clone, Copy)]
 pub enum Act {
     Byte(u8),
     Go(Met),
@@ -27,7 +27,7 @@ pub enum Act {
 
 // What comes next in a string: a byte and the offset after it, its closing quote and the offset after that, a line break or the end too early, or a byte with
 // which no escape goes on, by its offset.
-#[derive(Drop)]
+#[derive(Clone, Copy)]
 pub enum Piece {
     Byte(u8, usize),
     Closed(usize),
@@ -36,7 +36,7 @@ pub enum Piece {
 }
 
 // How many bytes a string holds and the offset after its closing quote, or what is wrong with it.
-#[derive(Drop)]
+#[derive(Clone, Copy)]
 pub enum Judged {
     Closed(usize, usize),
     Cut,
@@ -44,7 +44,7 @@ pub enum Judged {
 }
 
 // The next byte of a string and the offset after it, or no more.
-#[derive(Drop)]
+#[derive(Clone, Copy)]
 pub enum Unescaped {
     Byte(u8, usize),
     Closed,

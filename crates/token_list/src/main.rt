@@ -1,5 +1,7 @@
 // Lists the tokens of scripts, to be compared with what the reference interpreter says of them. On standard input each script has its
 // length in front of it, four bytes, the lowest first.
+#![tactic(auto)]
+
 ghost use Rattle.std.specs.Prelude.{◌≤◌};
 
 use libc::{STDIN_FILENO, STDOUT_FILENO};
@@ -56,7 +58,7 @@ fn is_end(kind: Kind) -> bool {
 }
 
 // Where a list goes on, or that it is at its end.
-#[derive(Drop)]
+#[derive(Clone, Copy)]
 enum Place {
     At(usize),
     Done,

@@ -1,5 +1,7 @@
 // Steps on the topmost execution slot in which no operator and no name is executed: a loop's turn, a literal pushed, a procedure that starts, goes on or ends.
 // Each does exactly what the definition's step does to that slot, and then the definition's test of room.
+#![tactic(auto)]
+
 ghost use Rattle.std.specs.Prelude.{◌≡◌, ◌||◌, cond, eqb, ◌+ℤ◌, ◌+◌, ◌-◌, ◌*◌, ◌≤◌};
 ghost use Rattle.machine.specs.Words.{frame_kind, frame_tag, frame_cell, frame_left};
 ghost use Rattle.semantics.specs.Words.{signed, in_range};

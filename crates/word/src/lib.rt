@@ -1,5 +1,7 @@
 // Integers of 32 bits, each as an unsigned word: arithmetic, shifts, bits and comparisons. Every function promises its exact answer
 // on all words, by the definition (semantics, specs/Words and NumberOperators): a word is read in two's complement, and a result is written modulo 2^32.
+#![tactic(auto)]
+
 ghost use Rattle.std.specs.Prelude.{◌≡◌, ◌-◌, ◌*◌, ◌%◌, ◌^◌, not, pos, ◌+ℤ◌, ◌-ℤ◌, ◌*ℤ◌, neg_ℤ, if◌then◌else◌, ◌==◌, bit_and, bit_or, bit_xor, int_div, int_le, int_lt, int_rem, nat_lt, unsigned_abs};
 ghost use Rattle.std.specs.Int.Signed.{shr_z};
 ghost use Rattle.semantics.specs.Words.{signed, word, in_range, shift};
@@ -26,14 +28,14 @@ const LEAST: i64 = -0x8000_0000;
 const WORDS: u64 = 0x1_0000_0000;
 
 // What a division answers. `quotient_of` of specs/Answers says which error ZeroDivisor is.
-#[derive(Drop)]
+#[derive(Clone, Copy)]
 pub enum Quotient {
     Value(u32),
     ZeroDivisor,
 }
 
 // Where a bit that is 1 stands, if there is one. `place_of` of specs/Answers reads it.
-#[derive(Drop)]
+#[derive(Clone, Copy)]
 pub enum Place {
     At(u32),
     Nowhere,
