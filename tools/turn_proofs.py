@@ -1,0 +1,260 @@
+#!/usr/bin/env python3
+"""Turns proofs that follow the code (Proof.antt) into invariants and answers.
+
+usage: python3 tools/turn_proofs.py CRATE [FUNCTION..]    at the top of the repository, once the crates below CRATE are proved
+
+`rt check --generated DIR --old-names` lists for each function the older name of each goal and step beside today's. A goal `returns-2` becomes
+an answer under today's name, a path `c.before.before.get2.ensures` becomes `c.get-next.ensures`, an invariant over a list of variables one over
+their record. Answers that only say `search rules` go: the check tries that itself. What could not be turned is said, and stays for a person.
+"""
+import json
+import os
+import re
+import subprocess
+import sys
+import tempfile
+
+NAME = r"[A-Za-z_+][\w'’₀]*(?:-[\w'’₀]+)*"
+SIGNATURE = re.compile(r"^(?:(?:abbrev|unfoldable|pub) )*(" + NAME + r") :(?: |$)")
+OPENS = re.compile(r"^(?:module|data|record|infix|ruleset|use)\b")
+
+
+def same(n):
+    return n.replace("_", "-")
+
+
+def names(crate):
+    with tempfile.TemporaryDirectory() as d:
+        said = subprocess.run(["rt", "check", "--generated", d, "--old-names"], cwd=os.path.join("crates", crate), stdout=subprocess.PIPE, stderr=subprocess.STDOUT, text=True).stdout
+        p = os.path.join(d, "names.json")
+        if not os.path.exists(p):
+            sys.exit("turn_proofs: no names: " + said[-1500:])
+        with open(p) as f:
+            return json.load(f)
+
+
+def blocks(text):
+    """The head (comments and uses), and the declarations, each with the lines of comment before it."""
+    lines = text.split("\n")
+    i, head, uses = 0, [], []
+    while i < len(lines) and (lines[i].startswith("--") or not lines[i].strip()):
+        if lines[i].strip():
+            head.append(lines[i])
+        i += 1
+    while i < len(lines) and (lines[i].startswith("use ") or not lines[i].strip()):
+        if lines[i].strip():
+            uses.append(lines[i])
+        i += 1
+    decls, now, pending = [], None, []
+    for l in lines[i:]:
+        m = SIGNATURE.match(l)
+        if m or OPENS.match(l):
+            now = (m.group(1) if m else None, pending + [l])
+            pending = []
+            decls.append(now)
+        elif l.startswith("--"):
+            pending.append(l)
+        elif not l.strip():
+            if now and not pending:
+                now[1].append(l)
+        elif now:
+            now[1].extend(pending)
+            pending = []
+            now[1].append(l)
+    return head, uses, [(n, "\n".join(b).rstrip()) for n, b in decls]
+
+
+def places(body, start="c"):
+    """Paths to places behind us all become the one record of facts; a name that was bound to a place goes."""
+    aliases = {start}
+    while True:
+        m = re.search(r"\blet (" + NAME + r") = (" + NAME + r")((?:\.before)*) in(\s+|$)", body)
+        if not m or m.group(2) not in aliases:
+            m = None
+            for k in re.finditer(r"\blet (" + NAME + r") = (" + NAME + r")((?:\.before)*) in(\s+|$)", body):
+                if k.group(2) in aliases:
+                    m = k
+                    break
+        if not m:
+            break
+        aliases.add(m.group(1))
+        gap = m.group(4)
+        body = body[: m.start()] + ("" if "\n" not in gap or body[: m.start()].endswith((" ", "\n")) else gap) + body[m.end() :]
+    for a in sorted(aliases, key=len, reverse=True):
+        body = re.sub(r"(?<![\w.'’-])" + re.escape(a) + r"(?:\.before)*(?![\w'’-])", "\0", body)
+    return body.replace("\0", start)
+
+
+def steps(body, step_of, params, said, where, start="c"):
+    def one(m):
+        old, rest = m.group(1), m.group(2) or ""
+        new = step_of.get(same(old))
+        if new is None:
+            return m.group(0)
+        name, callee, decided = new
+        a = re.match(r"\.auto((?:\.1)*)\.0(?![.\d])", rest)
+        if a:
+            k = a.group(1).count("1")
+            ps = params.get(callee) if callee else None
+            if ps and k < len(ps):
+                rest = ".auto." + ps[k] + rest[a.end() :]
+            else:
+                said.append(f"{where}: {m.group(0)}: no parameter {k}")
+        g = re.match(r"\.given\.1(?![.\d])", rest)
+        if g:
+            rest = ".is" + rest[g.end() :]
+        g = re.match(r"\.given(?![.\w])", rest)
+        if g:
+            said.append(f"{where}: {m.group(0)}: what is given")
+        return f"{start}.{name}{rest}"
+
+    return re.sub(r"(?<![\w.'’-])" + start + r"\.(" + NAME + r")((?:\.[\w'’-]+)*)", one, body)
+
+
+def definition(block):
+    """(unfolding lines, arguments, body) of a declaration of one equation; None where it has more or none."""
+    lines = block.split("\n")
+    i = 0
+    while i < len(lines) and not SIGNATURE.match(lines[i]):
+        i += 1
+    sig = [lines[i]]
+    name = SIGNATURE.match(lines[i]).group(1)
+    i += 1
+    eq = re.compile(r"^" + re.escape(name) + r"((?: [^=]*?)?) =(?:\s|$)")
+    unfold = []
+    while i < len(lines) and not eq.match(lines[i]):
+        (unfold if lines[i].startswith(("unfolding", " ")) and (unfold or lines[i].startswith("unfolding")) else sig).append(lines[i])
+        i += 1
+    if i == len(lines):
+        return None
+    m = eq.match(lines[i])
+    body = [lines[i][m.end() - (1 if lines[i][m.end() - 1 : m.end()].isspace() else 0) :]] + lines[i + 1 :]
+    if any(eq.match(l) for l in lines[i + 1 :]):
+        return None
+    comments = [l for l in lines if l.startswith("--")]
+    return comments, "\n".join(sig), unfold, m.group(1).split(), "\n".join(body).strip("\n")
+
+
+def variables(body, args, loop_vars, changed, said, where):
+    first = list(loop_vars)
+    again = [v for v, c in zip(loop_vars, changed) if c]
+    if len(args) != len(first) + len(again):
+        said.append(f"{where}: {len(args)} variables where {len(first) + len(again)} are")
+        return body
+    to = {}
+    for a, v, c in zip(args, first, changed):
+        to[a] = f"l.initial.{v}" if c else f"l.{v}"
+    for a, v in zip(args[len(first) :], again):
+        to[a] = f"l.{v}"
+    to.pop("_", None)
+    return re.sub(r"(?<![\w.'’₀-])(" + "|".join(re.escape(a) for a in sorted(to, key=len, reverse=True)) + r")(?![\w'’₀-])", lambda m: to[m.group(1)], body) if to else body
+
+
+def turn(crate, path, facts, said):
+    folder = os.path.dirname(path)
+    fn = os.path.relpath(folder, os.path.join("crates", crate, "proofs"))
+    module = f"Rattle.{crate}.proofs." + fn.replace("/", ".")
+    with open(path) as f:
+        head, uses, decls = blocks(f.read())
+    needs = {}
+    for o, n in facts["needs"]:
+        needs[same(o)] = n
+        needs.setdefault(same("overflow-" + o), n)
+    step_of = {}
+    for p in facts["places"]:
+        o, n = p[2]
+        if o:
+            k = same(o)
+            if k in step_of and step_of[k][0] != n:
+                said.append(f"{fn}: the step {o} is {step_of[k][0]} and {n}")
+            step_of[k] = (n, p[3], None)
+    loops = {}
+    for (names_, vs), ch in zip(facts["loops"], facts["changed"]):
+        loops[same("invariant-" + names_[0])] = ("invariant-" + names_[1], vs, ch)
+        loops[same("decreases-" + names_[0])] = ("decreases-" + names_[1], vs, ch)
+        if names_[0] not in step_of:
+            step_of[same(names_[0])] = (names_[1], None, None)
+    params = facts["params"]
+    answers, invariants, own = [], [], []
+    for name, block in decls:
+        if name is None:
+            own.append(block)
+            continue
+        sig = re.sub(r"\s+", " ", block[block.index(name + " :") :]).split(" : ", 1)[1] if name + " :" in block else ""
+        if "statement M" in block and "tie.close" in block:
+            continue
+        m = re.match(r"tie\.(invariant|decreases)-([\w-]+)", sig)
+        if m:
+            d = definition(block)
+            new = loops.get(same(f"{m.group(1)}-{m.group(2)}"))
+            if not d or not new:
+                said.append(f"{fn}: {name}: no such loop, or no single equation")
+                own.append(block)
+                continue
+            comments, _, unfold, args, body = d
+            body = variables(body, args, new[1], new[2], said, f"{fn}: {name}")
+            body = body if "\n" in body or body.startswith(" ") else " " + body.strip()
+            invariants.append("\n".join(comments + [f"abbrev pub {new[0]} : goal.{new[0]}"] + unfold + [f"{new[0]} l =" + (body if body.startswith("\n") or body.startswith(" ") and "\n" not in body.split("\n")[0] else " " + body)]))
+            continue
+        m = re.match(r"tie\.Need-([\w'’-]+)", sig)
+        if m:
+            new = needs.get(same(m.group(1)))
+            d = definition(block)
+            if new is None:
+                said.append(f"{fn}: {name}: no goal {m.group(1)}: " + ("dropped" if d and d[4].strip() == "search rules" and not d[2] else "LEFT"))
+                if not (d and d[4].strip() == "search rules" and not d[2]):
+                    own.append("-- no goal " + m.group(1) + "\n" + block)
+                continue
+            if not d:
+                said.append(f"{fn}: {name}: no single equation")
+                own.append(block)
+                continue
+            comments, _, unfold, args, body = d
+            if body.strip() == "search rules" and not unfold:
+                continue
+            args = [a for a in args if a not in ("κs",)]
+            body = places(body, args[0])
+            body = steps(body, step_of, params, said, f"{fn}: {new}", args[0])
+            if not body.startswith((" ", "\n")):
+                body = " " + body
+            answers.append("\n".join(comments + [f"pub {new} : goal.{new}"] + unfold + [f"{new} {' '.join(args)} ={body}".rstrip()]))
+            continue
+        if "tie." in block or "(c :" in block:
+            said.append(f"{fn}: {name}: a helper over places")
+        own.append(block)
+    uses = [u for u in uses if not re.search(r"\.(Statement|Tie)\b", u)]
+    if answers or own:
+        body = "\n\n".join(["\n".join(head + uses + [f"use {module}.Goals as goal"])] + own + answers) + "\n"
+        with open(os.path.join(folder, "Answers.antt"), "w") as f:
+            f.write(body)
+    if invariants:
+        body = "\n\n".join(["\n".join(head + uses + [f"use {module}.Given as goal"])] + invariants) + "\n"
+        with open(os.path.join(folder, "Invariants.antt"), "w") as f:
+            f.write(body)
+    os.remove(path)
+    if not answers and not own and not invariants:
+        os.rmdir(folder)
+
+
+def main():
+    crate, only = sys.argv[1], sys.argv[2:]
+    facts = names(crate)
+    said = []
+    for folder, dirs, files in os.walk(os.path.join("crates", crate, "proofs")):
+        dirs.sort()
+        if "Proof.antt" not in files:
+            continue
+        fn = os.path.relpath(folder, os.path.join("crates", crate, "proofs"))
+        if only and fn not in only:
+            continue
+        key = f"Rattle-{crate}-proofs.{fn.replace('/', '.')}.Lts"
+        with open(os.path.join(folder, "Proof.antt")) as f:
+            text = f.read()
+        if key not in facts or "tie.spec" not in text:
+            said.append(f"{fn}: by hand" + ("" if key in facts else ": no names"))
+            continue
+        turn(crate, os.path.join(folder, "Proof.antt"), facts[key], said)
+    print("\n".join(said))
+
+
+main()
