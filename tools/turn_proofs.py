@@ -23,6 +23,123 @@ def same(n):
     return n.replace("_", "-")
 
 
+class Signature:
+    """Of a function of src/: the names of its clauses, and its parameters that are `&mut`."""
+
+    def __init__(self, text):
+        self.requires = re.findall(r"^\s*requires\*? (\w+) \{", text, re.M)
+        self.ensures = re.findall(r"^\s*ensures\*? (\w+) \{", text, re.M)
+        head = text[: text.index(")")] if ")" in text else text
+        self.lent = re.findall(r"(\w+): &mut ", head)
+        if "&mut self" in head:
+            self.lent.insert(0, "self")
+
+
+def signatures():
+    found = {}
+    for folder, dirs, files in os.walk("crates"):
+        dirs[:] = sorted(d for d in dirs if d != "out")
+        for f in sorted(files):
+            if not f.endswith(".rt"):
+                continue
+            with open(os.path.join(folder, f)) as it:
+                text = it.read()
+            crate = folder.split(os.sep)[1]
+            for m in re.finditer(r"^\s*(?:pub )?(?:extern \"C\" )?fn (\w+)(?:<[^>]*>)?\(.*?^\s*\{\s*$", text, re.M | re.S):
+                found[(crate, m.group(1))] = Signature(m.group(0))
+    return found
+
+
+def signature_of(callee, sigs):
+    parts = (callee or "").split("::")
+    return sigs.get((parts[0], parts[-1]))
+
+
+def part(index, total, names_):
+    """`.0`, `.1.0`, `.1.1` of a tuple of clauses, as the clause's name and what is left of the path."""
+    k = 0
+    while k < total - 1 and index and index[0] == "1":
+        index = index[1:]
+        k += 1
+    if k < total - 1:
+        if not index or index[0] != "0":
+            return None
+        index = index[1:]
+    return names_[k], index
+
+
+def by_name(rest, label, names_):
+    """A path `.ensures.1.0..` over several clauses, by the clause's name."""
+    m = re.match(re.escape("." + label) + r"((?:\.\d+)*)", rest)
+    if not m or not names_:
+        return rest
+    if len(names_) == 1:
+        return "." + label + "." + names_[0] + rest[len(label) + 1 :]
+    index = [x for x in m.group(1).split(".") if x]
+    found = part(index, len(names_), names_)
+    if not found:
+        return rest
+    return "." + label + "." + found[0] + "".join("." + x for x in found[1]) + rest[m.end() :]
+
+
+def split_tuple(t):
+    """The parts of `(a, b, ..)` at its top, or None."""
+    t = t.strip()
+    if not t.startswith("("):
+        return None
+    depth, parts, start = 0, [], 1
+    for i, ch in enumerate(t):
+        if ch in "([{":
+            depth += 1
+        elif ch in ")]}":
+            depth -= 1
+            if depth == 0:
+                if i != len(t) - 1:
+                    return None
+                last = t[start:i].strip()
+                if last:
+                    parts.append(last)
+                return parts
+        elif ch == "," and depth == 1:
+            parts.append(t[start:i].strip())
+            start = i + 1
+    return None
+
+
+def as_record(body, names_):
+    """A body that proves several clauses as one tuple, as a record of the clauses by name."""
+    if len(names_) < 2 or "record {" in body and not "(" in body:
+        return body
+    at = 0
+    while True:
+        m = re.match(r"\s*let\b", body[at:])
+        if not m:
+            break
+        depth, i = 0, at
+        while i < len(body):
+            if body[i] in "([{":
+                depth += 1
+            elif body[i] in ")]}":
+                depth -= 1
+            elif depth == 0 and re.match(r"\bin(?=\s|$)", body[i:]) and body[i - 1].isspace():
+                # a let inside this one's value would have its own `in`
+                if len(re.findall(r"(?<![\w'-])let(?=\s)", body[at:i])) == len(re.findall(r"(?<![\w'-])in(?=\s)", body[at:i])) + 1:
+                    break
+            i += 1
+        at = i + 2
+        if i >= len(body):
+            return None
+    rest = body[at:]
+    parts = split_tuple(rest)
+    lead = body[:at] + (" " if at else "")
+    if parts and len(parts) >= len(names_):
+        k = len(names_) - 1
+        values = parts[:k] + [parts[k] if len(parts) == len(names_) else "(" + ", ".join(parts[k:]) + ")"]
+        return lead + "record { " + " ".join(f"{n} = {v};" for n, v in zip(names_, values)) + " }"
+    reach = [".1" * i + (".0" if i < len(names_) - 1 else "") for i in range(len(names_))]
+    return lead + f" let clauses = {rest.strip()} in record {{ " + " ".join(f"{n} = clauses{r};" for n, r in zip(names_, reach)) + " }"
+
+
 def names(crate):
     with tempfile.TemporaryDirectory() as d:
         said = subprocess.run(["rt", "check", "--generated", d, "--old-names"], cwd=os.path.join("crates", crate), stdout=subprocess.PIPE, stderr=subprocess.STDOUT, text=True).stdout
@@ -85,9 +202,18 @@ def places(body, start="c"):
     return body.replace("\0", start)
 
 
-def steps(body, step_of, params, said, where, start="c"):
+def steps(body, step_of, params, said, where, start="c", sigs=None, own=None):
     def one(m):
         old, rest = m.group(1), m.group(2) or ""
+        if old == "requires" and own:
+            return f"{start}." + by_name(".requires" + rest, "requires", own.requires)[1:]
+        if old == "args":
+            parts = rest.split(".")
+            if len(parts) > 1:
+                parts[1] = parts[1].replace("-", "_")
+            return f"{start}.args" + ".".join(parts)
+        if old in ("well-formed", "well_formed"):
+            return f"{start}.well_formed{rest}"
         new = step_of.get(same(old))
         if new is None:
             return m.group(0)
@@ -100,6 +226,14 @@ def steps(body, step_of, params, said, where, start="c"):
                 rest = ".auto." + ps[k] + rest[a.end() :]
             else:
                 said.append(f"{where}: {m.group(0)}: no parameter {k}")
+        sig = signature_of(callee, sigs)
+        a = re.match(r"\.new((?:\.1)*)\.0(?![.\d])", rest)
+        if a and sig and a.group(1).count("1") < len(sig.lent):
+            rest = ".new." + sig.lent[a.group(1).count("1")] + rest[a.end() :]
+        if sig:
+            rest = by_name(rest, "ensures", sig.ensures)
+        elif decided:
+            rest = by_name(rest, "ensures", decided)
         g = re.match(r"\.given\.1(?![.\d])", rest)
         if g:
             rest = ".is" + rest[g.end() :]
@@ -150,7 +284,7 @@ def variables(body, args, loop_vars, changed, said, where):
     return re.sub(r"(?<![\w.'’₀-])(" + "|".join(re.escape(a) for a in sorted(to, key=len, reverse=True)) + r")(?![\w'’₀-])", lambda m: to[m.group(1)], body) if to else body
 
 
-def turn(crate, path, facts, said):
+def turn(crate, path, facts, said, sigs):
     folder = os.path.dirname(path)
     fn = os.path.relpath(folder, os.path.join("crates", crate, "proofs"))
     module = f"Rattle.{crate}.proofs." + fn.replace("/", ".")
@@ -161,13 +295,14 @@ def turn(crate, path, facts, said):
         needs[same(o)] = n
         needs.setdefault(same("overflow-" + o), n)
     step_of = {}
-    for p in facts["places"]:
+    own_sig = sigs.get((crate, fn.split("/")[-1].lstrip("+")))
+    for p, cl in zip(facts["places"], facts["clauses"]):
         o, n = p[2]
         if o:
             k = same(o)
             if k in step_of and step_of[k][0] != n:
                 said.append(f"{fn}: the step {o} is {step_of[k][0]} and {n}")
-            step_of[k] = (n, p[3], None)
+            step_of[k] = (n, p[3], cl["fields"] if cl and not cl.get("told") else None)
     loops = {}
     for (names_, vs), ch in zip(facts["loops"], facts["changed"]):
         loops[same("invariant-" + names_[0])] = ("invariant-" + names_[1], vs, ch)
@@ -198,7 +333,8 @@ def turn(crate, path, facts, said):
             continue
         m = re.match(r"tie\.Need-([\w'’-]+)", sig)
         if m:
-            new = needs.get(same(m.group(1)))
+            name_of_goal = m.group(1)
+            new = needs.get(same(name_of_goal))
             d = definition(block)
             if new is None:
                 said.append(f"{fn}: {name}: no goal {m.group(1)}: " + ("dropped" if d and d[4].strip() == "search rules" and not d[2] else "LEFT"))
@@ -214,7 +350,24 @@ def turn(crate, path, facts, said):
                 continue
             args = [a for a in args if a not in ("κs",)]
             body = places(body, args[0])
-            body = steps(body, step_of, params, said, f"{fn}: {new}", args[0])
+            body = steps(body, step_of, params, said, f"{fn}: {new}", args[0], sigs, own_sig)
+            m = re.match(r"([\w-]+?)-requires(?:-\d+)?$", name_of_goal)
+            asked = None
+            if m:
+                for callee in params:
+                    if same(callee.split("::")[-1]) == same(m.group(1)):
+                        asked = signature_of(callee, sigs)
+                clauses = asked.requires if asked else []
+            elif name_of_goal.startswith("returns") and own_sig:
+                clauses = own_sig.ensures
+            else:
+                clauses = []
+            if len(clauses) > 1:
+                turned = as_record(body, clauses)
+                if turned is None:
+                    said.append(f"{fn}: {new}: several clauses, by hand")
+                else:
+                    body = turned
             if not body.startswith((" ", "\n")):
                 body = " " + body
             answers.append("\n".join(comments + [f"pub {new} : goal.{new}"] + unfold + [f"{new} {' '.join(args)} ={body}".rstrip()]))
@@ -239,6 +392,7 @@ def turn(crate, path, facts, said):
 def main():
     crate, only = sys.argv[1], sys.argv[2:]
     facts = names(crate)
+    sigs = signatures()
     said = []
     for folder, dirs, files in os.walk(os.path.join("crates", crate, "proofs")):
         dirs.sort()
@@ -253,7 +407,7 @@ def main():
         if key not in facts or "tie.spec" not in text:
             said.append(f"{fn}: by hand" + ("" if key in facts else ": no names"))
             continue
-        turn(crate, os.path.join(folder, "Proof.antt"), facts[key], said)
+        turn(crate, os.path.join(folder, "Proof.antt"), facts[key], said, sigs)
     print("\n".join(said))
 
 

@@ -183,7 +183,7 @@ pub fn new_array(mut m: Machine, stack: &mut [u32], cells: &mut [u32], i: usize,
     requires { (i < m.depth) × (n + 1 ≤ free_cells m cells.old) × SomewhereThat (HasPlain i) m stack.old cells.old }
     ensures moves_heap { MovesHeap (array_made i n) m result stack.old stack.new cells.old cells.new }
     ensures depth_value { result.depth ≡ m.depth }
-    ensures n_after { free_cells result cells.new + (n + 1) ≡ free_cells m cells.old }
+    ensures room { free_cells result cells.new + (n + 1) ≡ free_cells m cells.old }
 {
     let k = m.depth - 1 - i;
     let lists = m.lists;

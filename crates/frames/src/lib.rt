@@ -96,7 +96,7 @@ pub fn pend_body(m: Machine, exec: &mut [u32], cells: &mut [u32]) -> Machine
 pub fn reset_top(m: Machine, exec: &mut [u32], kind: u32, a: u32, b: u32)
     requires { (1 ≤ m.frames) × (8 * m.frames ≤ length exec.old) }
     ensures resets { Resets kind a b m exec.old exec.new }
-    ensures exec_after { exec.new ≡ reset_words kind a b m exec.old }
+    ensures words { exec.new ≡ reset_words kind a b m exec.old }
 {
     let k = m.frames - 1;
     exec[EXEC_WIDTH * k] = kind;

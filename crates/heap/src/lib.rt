@@ -165,8 +165,8 @@ fn walk(m: &[u32], h: u32, i: u32) -> u32
 // An object of n body cells, each a null, in hand: one place names it, the caller's.
 // Ruled out: a cell lost on the way; a count that is not 1.
 pub fn allocate(s: Lists, m: &mut [u32], kind: u32, n: u32) -> Taken
-    requires by_index { (p : ℕ) × (g : Ghost) × Full g p 0 s m.old }
-    requires edge_bound { n + 1 + s.edge ≤ cells m.old + s.listed }
+    requires full { (p : ℕ) × (g : Ghost) × Full g p 0 s m.old }
+    requires room { n + 1 + s.edge ≤ cells m.old + s.listed }
     ensures { (result.lists.listed + s.edge + n + 1 ≡ s.listed + result.lists.edge) × Made kind n result.cell s m.old result.lists m.new × (result.lists.dead ≡ s.dead) }
 {
     let t = new_header(s, m, kind);

@@ -166,8 +166,8 @@ fn copy_elements(
     start: u32,
     n: u32,
 ) -> Machine
-    requires to_lt_depth { (to < m.depth) × (from < m.depth) × (2 ≤ m.depth) × (to ≡ 1 → ⊥) × (from ≡ 1 → ⊥) }
-    requires fact { ((at ≤ start) ⊎ ArraySize from m stack.old cells.old (start + n)) × SomewhereThat (CopiesElements to at from start n) m stack.old cells.old }
+    requires places { (to < m.depth) × (from < m.depth) × (2 ≤ m.depth) × (to ≡ 1 → ⊥) × (from ≡ 1 → ⊥) }
+    requires copies { ((at ≤ start) ⊎ ArraySize from m stack.old cells.old (start + n)) × SomewhereThat (CopiesElements to at from start n) m stack.old cells.old }
     ensures moves_heap { MovesHeap (elements_copied to at from start n) m result stack.old stack.new cells.old cells.new }
     ensures depth_value { result.depth ≡ m.depth }
 {
