@@ -245,6 +245,29 @@ def steps(body, step_of, params, said, where, start="c", sigs=None, own=None):
     return re.sub(r"(?<![\w.'’-])" + start + r"\.(" + NAME + r")((?:\.[\w'’-]+)*)", one, body)
 
 
+def aliases(body, start, sigs, own, step_of):
+    """What `let P = c.requires in` or `let E = c.step.ensures in` binds is read by the clauses' names too."""
+    for m in list(re.finditer(r"\blet (" + NAME + r") = " + start + r"\.(" + NAME + r")(\.ensures)? in\b", body)):
+        alias, step, ensures = m.groups()
+        if step == "requires" and not ensures:
+            label, clauses = "requires", own.requires if own else []
+        elif ensures and same(step) in step_of:
+            sig = signature_of(step_of[same(step)][1], sigs)
+            label, clauses = "ensures", sig.ensures if sig else (step_of[same(step)][2] or [])
+            if len(clauses) == 1:
+                continue
+        else:
+            continue
+        if len(clauses) < 2:
+            continue
+        body = re.sub(
+            r"(?<![\w.'’-])" + re.escape(alias) + r"((?:\.\d+)+)",
+            lambda k: alias + by_name("." + label + k.group(1), label, clauses)[len(label) + 1 :],
+            body,
+        )
+    return body
+
+
 def definition(block):
     """(unfolding lines, arguments, body) of a declaration of one equation; None where it has more or none."""
     lines = block.split("\n")
@@ -350,6 +373,7 @@ def turn(crate, path, facts, said, sigs):
                 continue
             args = [a for a in args if a not in ("κs",)]
             body = places(body, args[0])
+            body = aliases(body, args[0], sigs, own_sig, step_of)
             body = steps(body, step_of, params, said, f"{fn}: {new}", args[0], sigs, own_sig)
             m = re.match(r"([\w-]+?)-requires(?:-\d+)?$", name_of_goal)
             asked = None
