@@ -6,15 +6,8 @@ use mathlib.Core.Path.{ap}
 use lib.Dec.{eqb}
 use Rattle.heap.specs.Shape.{size_unit}
 use Rattle.heap.specs.Reading.{is_sealed}
-use Rattle.heap.proofs.is_sealed.Statement.{statement}
-use Rattle.heap.proofs.is_sealed.Tie as tie
+use Rattle.heap.proofs.is_sealed.Goals as goal
 
-get-requires : tie.Need-get-requires
-get-requires c κs = search rules
-
-returns : tie.Need-returns
+pub returns : goal.returns
 unfolding is_sealed
 returns c = ap (λ w. eqb (w / size_unit % 2) 1) c.get.ensures
-
-pub is-sealed-spec : {M : Type 1} → statement M
-is-sealed-spec = tie.close (tie.spec get-requires returns)
