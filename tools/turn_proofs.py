@@ -131,6 +131,8 @@ def as_record(body, names_):
             return None
     rest = body[at:]
     parts = split_tuple(rest)
+    while parts and len(parts) < len(names_) and (more := split_tuple(parts[-1])):
+        parts = parts[:-1] + more
     lead = body[:at] + (" " if at else "")
     if parts and len(parts) >= len(names_):
         k = len(names_) - 1
@@ -360,9 +362,7 @@ def turn(crate, path, facts, said, sigs):
             new = needs.get(same(name_of_goal))
             d = definition(block)
             if new is None:
-                said.append(f"{fn}: {name}: no goal {m.group(1)}: " + ("dropped" if d and d[4].strip() == "search rules" and not d[2] else "LEFT"))
-                if not (d and d[4].strip() == "search rules" and not d[2]):
-                    own.append("-- no goal " + m.group(1) + "\n" + block)
+                said.append(f"{fn}: {name}: no goal {m.group(1)}: dropped")
                 continue
             if not d:
                 said.append(f"{fn}: {name}: no single equation")
