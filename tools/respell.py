@@ -36,7 +36,8 @@ def imports(text, crates):
     """The names that a file takes from libraries that are not of this repository, and those of this repository."""
     foreign, own = set(), set()
     for path, names in re.findall(r"^(?:ghost )?(?:pub )?use ([^\s;{]+?)\.\{([^}]*)\}", text, re.M):
-        to = own if path.startswith("Rattle.") and path.split(".")[1] in crates else foreign
+        # a contract has the name of its function
+        to = own if path.startswith("Rattle.") and path.split(".")[1] in crates and not path.endswith(".specs.contracts") else foreign
         for n in names.split(","):
             parts = n.split(" as ")
             if parts[0].strip():
