@@ -132,6 +132,8 @@ def as_record(body, names_):
             return None
     rest = body[at:]
     parts = split_tuple(rest)
+    while parts and len(parts) < len(names_) and (more := split_tuple(parts[-1])):
+        parts = parts[:-1] + more
     lead = body[:at] + (" " if at else "")
     if parts and len(parts) >= len(names_):
         k = len(names_) - 1
@@ -202,16 +204,14 @@ class Where:
     def arm(self, i, name, path):
         """A path at an arm of a match, in today's words."""
         arm = self.facts["arms"][i]
-        if not arm:
-            return None
         best = None
         for k in self.chain:
             other = self.facts["arms"][k]
-            if not other or other[0] != arm[0]:
+            if not other or arm and other[0] != arm[0]:
                 continue
             for field, step, where in other[2]:
                 if same(step) == same(name) and path[: len(where)] == where and (best is None or len(where) > best[0]):
-                    best = (len(where), arm[0] + "." + field)
+                    best = (len(where), other[0] + "." + field)
         return best and ".".join([best[1]] + path[best[0] :])
 
     def typed(self, name):
