@@ -1,4 +1,4 @@
--- The calls of `room_of_lem` and of `find` that several walks make: what each is passed, that it may be, and what it then says.
+-- The calls of `room_of` and of `find` that several walks make: what each is passed, that it may be, and what it then says.
 -- Assumes nothing.
 use mathlib.Core.Path.{◌≡◌, refl}
 use Prim.Native.Nat.{ℕ, ◌≤◌, ◌<◌, ◌^◌}
@@ -27,18 +27,18 @@ use denote.Triple.Walked.{says}
 use Rattle.book.specs.Books.{room_of, found_from}
 use Rattle.book.specs.declared.Record.{Record}
 use Rattle.book.proofs.Rows.{Row}
-use Rattle.book.specs.contracts.room_of_lem as room_of_lem
+use Rattle.book.specs.contracts.room_of as room_of
 use Rattle.book.specs.contracts.find as find
 
 module _ {M : Type 1} {𝓤 : Ura M} (𝓛 : Logic 𝓤) (mem : Memory → SProp 𝓤) (run : Routine → Fun 𝓤) where
   abbrev pub RoomOf : Contract 𝓤
-  RoomOf = triple_of 𝓛 room_of_lem.signature (room_of_lem.spec 𝓛 mem run)
+  RoomOf = triple_of 𝓛 room_of.signature (room_of.spec 𝓛 mem run)
 
   abbrev pub Find : Contract 𝓤
   Find = triple_of 𝓛 find.signature (find.spec 𝓛 mem run)
 
 module _ {M : Type 1} {𝓤 : Ura M} (𝓛 : Logic 𝓤) (mem : Memory → SProp 𝓤) (run : Routine → Fun 𝓤) where
-  -- `room_of_lem` of n lent records
+  -- `room_of` of n lent records
   open 𝓛 use {A}
 
   module _ (n : ℕ) where
@@ -48,8 +48,8 @@ module _ {M : Type 1} {𝓤 : Ura M} (𝓛 : Logic 𝓤) (mem : Memory → SProp
     pub goes_room_of : n < 2 ^ 64 → ent 𝓤 (sem 𝓛 ftrue) ((RoomOf 𝓛 mem run).pre to_room_of)
     goes_room_of fits = qed 𝓛 (‵ ftrue ∷ []) ∵ nothing ! $ owned ! usize (Is usize) (uint_Makes 𝓛 w64) n _ (refl, fits) $ fjoin ! $ move ! (1 ∷ 0 ∷ []) $ join ! $ frame ! $ done !
 
-    pub room_of_said : (r : ℕ) → ent 𝓤 (ensured 𝓛 room_of_lem.ended (room_of_lem.clauses 𝓛 mem run) tt (n, tt) tt r) (fact 𝓤 (r ≡ room_of n))
-    room_of_said r = ex_e 𝓤 _ (λ ws. snd∗ 𝓤 (sem 𝓛 (lasts room_of_lem.ended tt (n, tt) ws)) (fact 𝓤 (r ≡ room_of n)))
+    pub room_of_said : (r : ℕ) → ent 𝓤 (ensured 𝓛 room_of.ended (room_of.clauses 𝓛 mem run) tt (n, tt) tt r) (fact 𝓤 (r ≡ room_of n))
+    room_of_said r = ex_e 𝓤 _ (λ ws. snd∗ 𝓤 (sem 𝓛 (lasts room_of.ended tt (n, tt) ws)) (fact 𝓤 (r ≡ room_of n)))
 
   -- `find` of the number k among n records, by a copy of the slice x, at its own lifetime, share and name
   module _ (κ : Lft) (q : Share) (x : Bor (List Record)) (n k : ℕ) where

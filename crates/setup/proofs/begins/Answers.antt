@@ -3,12 +3,12 @@
 use native.Mathlib.Omega.{arith}
 use mathlib.Core.Path.{sym}
 use Rattle.semantics.specs.Text.{bytes}
-use Rattle.setup.proofs.Beginning.{too_short, alike_none, alike_more, byte_differs, alike_all}
+use Rattle.setup.proofs.Beginning.{too_short_lem, alike_none, alike_more, byte_differs, alike_all}
 use Rattle.setup.proofs.begins.Goals as goal
 
 pub returns-then-script-lt5 : goal.returns-then-script-lt5
 unfolding bytes
-returns-then-script-lt5 c = sym (too_short c.args.script.now (bytes "#FLOO") c.if-script-lt5.true)
+returns-then-script-lt5 c = sym (too_short_lem c.args.script.now (bytes "#FLOO") c.if-script-lt5.true)
 
 pub loop-i-init : goal.loop-i-init
 loop-i-init c = alike_none c.if-script-lt5.false
