@@ -2,15 +2,14 @@
 -- Assumes nothing.
 use mathlib.Core.Path.{◌≡◌, refl, sym, ap, subst, ◌∙◌}
 use mathlib.Core.List.{List}
-use Prim.Native.Nat.{ℕ, zero, suc, ◌+◌, ◌-◌, ◌≤◌, ◌<◌}
+use Prim.Native.Nat.{ℕ, suc, ◌+◌, ◌-◌, ◌≤◌, ◌<◌}
 use native.Mathlib.Omega.{arith}
 use lib.ListN.{length, drop}
 use Rattle.semantics.specs.Values.{ok, fault, ◌>>=◌}
 use Rattle.semantics.specs.ResultLaws.{gives_ok, then_ok, ok_one}
 use Rattle.forf_semantics.specs.Errors.{Result}
 use Rattle.forf_semantics.specs.Tokens.{lexeme, lex}
-use Rattle.forf_semantics.specs.Tokens as tokens
-use Rattle.forf_semantics.specs.Items.{Group, skip, read_group}
+use Rattle.forf_semantics.specs.Items.{skip, read_group}
 use Rattle.forf_semantics.specs.TokenLaws.{Fits, skip_le, token_fits}
 use Rattle.forf_semantics.specs.GroupLaws.{Inside, group_takes}
 use Rattle.forf_semantics.specs.RestLaws.{TokenAt}
