@@ -3,9 +3,6 @@
 # rule alone, `bench/run.sh ledgers` that of the ledger, `bench/run.sh displays` that of Forf, and these need none.
 set -euo pipefail
 cd "$(dirname "${BASH_SOURCE[0]}")/.."
-rt staticlib floo_c
-rt staticlib floor_c
-rt staticlib ledger_c
-rt staticlib forf_c
+embed/libraries.sh
 rt check floo
 exec cargo run --quiet --release --manifest-path bench/Cargo.toml -- "$@"

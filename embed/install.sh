@@ -13,10 +13,7 @@ if [ -n "${FLOO_LIB_DIR:-}" ]; then
 fi
 cd "$(dirname "${BASH_SOURCE[0]}")/.."
 if [ -z "${FLOO_LIB_DIR:-}" ]; then
-    rt staticlib floo_c
-    rt staticlib floor_c
-    rt staticlib ledger_c
-    rt staticlib forf_c
+    embed/libraries.sh
     FLOO_LIB_DIR=$PWD/target/staticlib
 fi
 export FLOO_LIB_DIR

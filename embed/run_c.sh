@@ -4,10 +4,7 @@
 set -euo pipefail
 cd "$(dirname "${BASH_SOURCE[0]}")/.."
 if [ -z "${FLOO_LIB_DIR:-}" ]; then
-    rt staticlib floo_c
-    rt staticlib floor_c
-    rt staticlib ledger_c
-    rt staticlib forf_c
+    embed/libraries.sh
 fi
 floo=${FLOO_LIB_DIR:-target/staticlib}/libfloo_c.a
 floor=${FLOO_LIB_DIR:-target/staticlib}/libfloor_c.a

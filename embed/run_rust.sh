@@ -3,9 +3,6 @@
 set -euo pipefail
 cd "$(dirname "${BASH_SOURCE[0]}")/.."
 if [ -z "${FLOO_LIB_DIR:-}" ]; then
-    rt staticlib floo_c
-    rt staticlib floor_c
-    rt staticlib ledger_c
-    rt staticlib forf_c
+    embed/libraries.sh
 fi
 exec cargo test --manifest-path embed/rust/Cargo.toml

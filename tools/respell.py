@@ -14,7 +14,8 @@ import re
 import sys
 
 NAME = r"[A-Za-z_][\w'’]*(?:-[\w'’]+)*"
-DECLARED = re.compile(r"^\s*(?:(?:abbrev|unfoldable|pub|let) )*(" + NAME + r") :(?:\s|$)")
+DECLARED = re.compile(r"^\s*(?:(?:abbrev|unfoldable|pub|let) )*((?:" + NAME + r" )+):(?:\s|$)")
+ALIAS = re.compile(r" as ([a-z][\w'’]*)(?=[,}])")
 # in a proof that follows the code: what stands behind the name of a step, which is Rattle's
 STEP = re.compile(r"\.(?:ensures|requires|auto|result|true|false|given|invariant|new|exit|entry|branch|before|args)\b")
 
@@ -35,7 +36,8 @@ def imports(text, crates):
     """The names that a file takes from libraries that are not of this repository, and those of this repository."""
     foreign, own = set(), set()
     for path, names in re.findall(r"^(?:ghost )?(?:pub )?use ([^\s;{]+?)\.\{([^}]*)\}", text, re.M):
-        to = own if path.startswith("Rattle.") and path.split(".")[1] in crates else foreign
+        # a contract has the name of its function
+        to = own if path.startswith("Rattle.") and path.split(".")[1] in crates and not path.endswith(".specs.contracts") else foreign
         for n in names.split(","):
             parts = n.split(" as ")
             if parts[0].strip():
@@ -57,8 +59,13 @@ def table():
         with open(p) as f:
             for l in f:
                 m = DECLARED.match(l)
-                if m and not re.search(r": tie\.|: goal\.", l) and not (p.endswith("Proof.antt") and m.group(1).endswith(("-spec", "_spec"))):
-                    declared[m.group(1)] += 1
+                if m and not re.search(r": tie\.|: goal\.", l):
+                    for n in m.group(1).split():
+                        if not (p.endswith("Proof.antt") and n.endswith(("-spec", "_spec"))):
+                            declared[n] += 1
+                if l.startswith("use "):
+                    for n in ALIAS.findall(l):
+                        declared[n] += 1
     plain = {n for n in declared if "-" not in n and n[0].islower()}
     words = {snake(n) for n in plain if re.search("[a-z0-9][A-Z]", n)}
     turned = {}

@@ -1,4 +1,4 @@
-//! Links `libfloo_c.a`, `libfloor_c.a`, `libledger_c.a` and `libforf_c.a`: from the folder that `FLOO_LIB_DIR` names, or from `target/staticlib` of this repository, where `rt staticlib` puts them.
+//! Links `libfloo_c.a`, `libfloor_c.a`, `libledger_c.a` and `libforf_c.a`: from the folder that `FLOO_LIB_DIR` names, or from `target/staticlib` of this repository, where embed/libraries.sh puts them.
 
 use std::env;
 use std::path::PathBuf;
@@ -14,7 +14,7 @@ fn main() {
         let library = folder.join(format!("lib{name}.a"));
         if !library.is_file() {
             panic!(
-                "{} is not there: run `rt staticlib {name}`, or name its folder in FLOO_LIB_DIR",
+                "{} is not there: run embed/libraries.sh, or name its folder in FLOO_LIB_DIR",
                 library.display()
             );
         }

@@ -9,7 +9,7 @@ use lib.ListN.{length, take, drop, length-append}
 use lib.Seq.{drop-append_seam, take-append_seam}
 use Rattle.semantics.specs.Values.{Value}
 use Rattle.semantics.specs.Machine.{Machine}
-use Rattle.semantics.specs.Steps.{Limits, State, Step, goes, fails, misreads, step, Ending, finished, stopped, failed, misread, outOfFuel, Run, is_finished, finish, go_on, run}
+use Rattle.semantics.specs.Steps.{Limits, State, Step, goes, fails, misreads, step, Ending, finished, stopped, failed, misread, out_of_fuel, Run, is_finished, finish, go_on, run}
 use Rattle.semantics.specs.ResultLaws.{choose}
 use Rattle.growth.proofs.StepGrowth.{run_log}
 use Rattle.echo_laws.specs.Runs.{Trial, state_of, machine_of, line_of, Echoing, next, GoesOn, stretch}
@@ -21,12 +21,12 @@ use Rattle.echo_laws.proofs.RunEchoes.{echo_adds}
 abbrev is_spent : Ending → Bool
 is_spent finished = false
 is_spent stopped = false
-is_spent outOfFuel = true
+is_spent out_of_fuel = true
 is_spent (failed e c) = false
 is_spent (misread f) = false
 
 -- Another ending is not.
-no_spent : {e : Ending} → is_spent e ≡ false → e ≡ outOfFuel → ⊥
+no_spent : {e : Ending} → is_spent e ≡ false → e ≡ out_of_fuel → ⊥
 no_spent h e =
     let z : ◌≡◌ {A = Bool} false true = sym h ∙ ap is_spent e in
     let n : ◌≡◌ {A = ℕ} 0 1 = cc in
@@ -34,7 +34,7 @@ no_spent h e =
 
 module _ (l : Limits) (script : List ℕ) where
   abbrev Next : Run → Run → Type 0
-  Next r r' = r.ending ≡ outOfFuel → r' ≡ go_on (run l script zero) (step l script r.final)
+  Next r r' = r.ending ≡ out_of_fuel → r' ≡ go_on (run l script zero) (step l script r.final)
 
   go_on_next : (k : ℕ) → ((τ : State) → Next (run l script k τ) (run l script (suc k) τ)) → (s : Step) → Next (go_on (run l script k) s) (go_on (run l script (suc k)) s)
   unfolding go_on
@@ -51,7 +51,7 @@ module _ (l : Limits) (script : List ℕ) where
   unfolding run finish
   run_next zero σ h = by (is_finished script σ) h
     where
-      by : (b : Bool) → Next (elim b [ true ↦ finish script σ | false ↦ record { ending = outOfFuel; final = σ } ]) (elim b [ true ↦ finish script σ | false ↦ go_on (run l script zero) (step l script σ) ])
+      by : (b : Bool) → Next (elim b [ true ↦ finish script σ | false ↦ record { ending = out_of_fuel; final = σ } ]) (elim b [ true ↦ finish script σ | false ↦ go_on (run l script zero) (step l script σ) ])
       by true h = absurd (no_spent refl h)
       by false h = refl
   run_next (suc k) σ h = by (go_on_next k (run_next k) (step l script σ)) (is_finished script σ) h
@@ -67,7 +67,7 @@ unfolding go_on run finish
 went_machine l script τ =
     choose (λ (r : Run). r.final.machine ≡ τ.machine) τ.machine.stopped (record { ending = stopped; final = τ }) (run l script zero τ)
     (λ t. refl)
-    (λ t. choose (λ (r : Run). r.final.machine ≡ τ.machine) (is_finished script τ) (finish script τ) (record { ending = outOfFuel; final = τ }) (λ u. refl) (λ u. refl))
+    (λ t. choose (λ (r : Run). r.final.machine ≡ τ.machine) (is_finished script τ) (finish script τ) (record { ending = out_of_fuel; final = τ }) (λ u. refl) (λ u. refl))
 
 -- The next state of a run has the machine that the step leaves.
 pub next_machine : (r : Trial) (τ : State) → GoesOn r → step r.lent r.script (state_of r) ≡ goes τ → machine_of (next r) ≡ τ.machine

@@ -8,7 +8,7 @@ use Rattle.semantics.specs.Values.{Value, operator, integer, string, current}
 use Rattle.semantics.specs.Machine.{Machine, Frame, pending, running, object, elements_of, bytes_of, made}
 use Rattle.semantics.specs.Printing.{echoed}
 use Rattle.semantics.specs.Groups.{skip}
-use Rattle.semantics.specs.Steps.{Limits, State, goes, step, outOfFuel, run}
+use Rattle.semantics.specs.Steps.{Limits, State, goes, step, out_of_fuel, run}
 use Rattle.echo_laws.specs.Ranges.{Sound, Admitted}
 
 -- A run, by what is lent, its script, its fuel and the state that it begins with, and the state that it comes to: with each fuel one of the run's states.
@@ -62,7 +62,7 @@ next r =
 
 -- The run has not come to its end in this state, but for fuel.
 abbrev pub GoesOn : Trial → Type 0
-GoesOn r = (run r.lent r.script r.fuel r.start).ending ≡ outOfFuel
+GoesOn r = (run r.lent r.script r.fuel r.start).ending ≡ out_of_fuel
 
 -- What stands in a log between the log's length in this state and in the next.
 abbrev pub stretch : Trial → List ℕ → List ℕ

@@ -36,7 +36,7 @@ after_of next (Taken after) = after
 unfoldable pub ending_of : List ℕ → List (List ℕ) → Ending → steps.Ending
 ending_of script names Finished = steps.finished
 ending_of script names Stopped = steps.stopped
-ending_of script names OutOfFuel = steps.outOfFuel
+ending_of script names OutOfFuel = steps.out_of_fuel
 ending_of script names (Failed e command) = steps.failed e (command_text script names command)
 ending_of script names (Misread f) = steps.misread f
 

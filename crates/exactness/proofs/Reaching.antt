@@ -4,7 +4,7 @@ use mathlib.Core.Path.{◌≡◌, refl, sym, ap, ◌∙◌}
 use mathlib.Core.Bool.{true, false}
 use mathlib.Core.List.{List, [], ◌∷◌, ◌++◌, append_assoc}
 use Prim.Native.Nat.{ℕ, suc}
-use Rattle.semantics.specs.Steps.{Limits, State, goes, fails, misreads, step, Run, stopped, outOfFuel, failed, misread, is_finished, finish, run}
+use Rattle.semantics.specs.Steps.{Limits, State, goes, fails, misreads, step, Run, stopped, out_of_fuel, failed, misread, is_finished, finish, run}
 use Rattle.semantics.specs.declared.Error.{Error}
 use Rattle.semantics.specs.declared.Fault.{Fault}
 use Rattle.exactness.specs.Traces.{trace}
@@ -30,7 +30,7 @@ module _ {l : Limits} {script : List ℕ} {fuel : ℕ} {σ : State} {before : Li
     runs = R.runs ∙ run_finished l script τ left f;
   }
 
-  pub over_spent : Reached l script fuel σ before 0 τ → is_finished script τ ≡ false → Over l script fuel σ (before ++ (τ ∷ [])) (record { ending = outOfFuel; final = τ })
+  pub over_spent : Reached l script fuel σ before 0 τ → is_finished script τ ≡ false → Over l script fuel σ (before ++ (τ ∷ [])) (record { ending = out_of_fuel; final = τ })
   over_spent R f = record {
     states = R.states ∙ ap (λ x. before ++ x) (trace_spent l script τ);
     runs = R.runs ∙ run_spent l script τ f;

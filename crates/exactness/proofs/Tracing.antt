@@ -7,7 +7,7 @@ use mathlib.Core.List.{List, [], ◌∷◌}
 use Prim.Native.Nat.{ℕ, zero, suc, ◌+◌, ◌≤◌, ◌<◌}
 use native.Mathlib.Omega.{arith}
 use lib.ListN.{length, get_or, take}
-use Rattle.semantics.specs.Steps.{Limits, State, Step, goes, fails, misreads, step, Run, stopped, outOfFuel, failed, misread, is_finished, finish, go_on, run}
+use Rattle.semantics.specs.Steps.{Limits, State, Step, goes, fails, misreads, step, Run, stopped, out_of_fuel, failed, misread, is_finished, finish, go_on, run}
 use Rattle.semantics.specs.RunLaws.{Stepped, went, stuck, unread, step_stepped}
 use Rattle.semantics.specs.ResultLaws.{choose}
 use Rattle.semantics.specs.declared.Error.{Error}
@@ -43,7 +43,7 @@ trace_on_length rest runs h σ (unread m n k) = omega arith
 pub trace_length : (l : Limits) (script : List ℕ) (fuel : ℕ) (σ : State) → length (trace l script fuel σ) + σ.steps ≡ suc (run l script fuel σ).final.steps
 unfolding trace run finish
 trace_length l script zero σ =
-    choose (λ (r : Run). 1 + σ.steps ≡ suc r.final.steps) (is_finished script σ) (finish script σ) (record { ending = outOfFuel; final = σ })
+    choose (λ (r : Run). 1 + σ.steps ≡ suc r.final.steps) (is_finished script σ) (finish script σ) (record { ending = out_of_fuel; final = σ })
     (λ t. omega arith) (λ t. omega arith)
 trace_length l script (suc fuel) σ =
     alike (λ (xs : List State) (r : Run). length xs + σ.steps ≡ suc r.final.steps) (is_finished script σ)
@@ -70,7 +70,7 @@ trace_on_last rest runs h σ (goes τ) =
 pub trace_last : (l : Limits) (script : List ℕ) (fuel : ℕ) (d σ : State) → Agrees (last d (trace l script fuel σ)) (run l script fuel σ).final
 unfolding trace run finish last
 trace_last l script zero d σ =
-    choose (λ (r : Run). Agrees σ r.final) (is_finished script σ) (finish script σ) (record { ending = outOfFuel; final = σ })
+    choose (λ (r : Run). Agrees σ r.final) (is_finished script σ) (finish script σ) (record { ending = out_of_fuel; final = σ })
     (λ t. (refl, refl)) (λ t. (refl, refl))
 trace_last l script (suc fuel) d σ =
     alike (λ (xs : List State) (r : Run). Agrees (last d xs) r.final) (is_finished script σ)
@@ -153,16 +153,16 @@ module _ (l : Limits) (script : List ℕ) (σ : State) where
 
   pub run_finished : (n : ℕ) → is_finished script σ ≡ true → run l script n σ ≡ finish script σ
   unfolding run
-  run_finished zero f = when (finish script σ) (record { ending = outOfFuel; final = σ }) f
+  run_finished zero f = when (finish script σ) (record { ending = out_of_fuel; final = σ }) f
   run_finished (suc n) f = when (finish script σ) (go_on (run l script n) (step l script σ)) f
 
   pub trace_spent : trace l script 0 σ ≡ σ ∷ []
   unfolding trace
   trace_spent = refl
 
-  pub run_spent : is_finished script σ ≡ false → run l script 0 σ ≡ record { ending = outOfFuel; final = σ }
+  pub run_spent : is_finished script σ ≡ false → run l script 0 σ ≡ record { ending = out_of_fuel; final = σ }
   unfolding run
-  run_spent f = unless (finish script σ) (record { ending = outOfFuel; final = σ }) f
+  run_spent f = unless (finish script σ) (record { ending = out_of_fuel; final = σ }) f
 
   module _ (n : ℕ) (more : is_finished script σ ≡ false) where
     trace_on_lem : trace l script (suc n) σ ≡ σ ∷ trace_on (trace l script n) (step l script σ)

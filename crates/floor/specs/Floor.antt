@@ -6,7 +6,7 @@ use Rattle.semantics.specs.Sizes.{name_count}
 use Rattle.semantics.specs.Text.{bytes, decimal}
 use Rattle.semantics.specs.Values.{Value, integer, boolean, null, mark, operator, name, string, array, text, current, cells}
 use Rattle.semantics.specs.Machine.{Machine, object, bytes_of}
-use Rattle.semantics.specs.Steps.{State, Ending, finished, stopped, outOfFuel, failed, misread, Run, run, start_of, initial, lending}
+use Rattle.semantics.specs.Steps.{State, Ending, finished, stopped, out_of_fuel, failed, misread, Run, run, start_of, initial, lending}
 use Rattle.semantics.specs.Setup.{Lent, limits, refusal}
 use Rattle.book.specs.Books.{Entry, greatest, is_place_length, is_sound, record_of, place_of}
 use Rattle.book.specs.Fates.{fate_in, book_after, count_after}
@@ -105,7 +105,7 @@ entry_from m (t ∷ p ∷ n ∷ v ∷ s) = none
 unfoldable pub is_final : Ending → Bool
 is_final finished = true
 is_final stopped = false
-is_final outOfFuel = false
+is_final out_of_fuel = false
 is_final (failed e c) = false
 is_final (misread f) = false
 

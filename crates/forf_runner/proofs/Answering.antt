@@ -13,7 +13,7 @@ use Rattle.semantics.specs.Sizes.{script_most, fuel_most, stack_width, exec_widt
 use Rattle.semantics.specs.Tokens.{within}
 use Rattle.semantics.specs.Setup.{is_too_long}
 use Rattle.text.specs.Writing.{Written}
-use Rattle.forf_semantics.specs.Outcome.{outcome as outcomeText}
+use Rattle.forf_semantics.specs.Outcome.{outcome as outcome_text}
 use Rattle.forf_semantics.specs.Steps.{Limits, run, initial}
 use Rattle.forf_semantics.specs.Setup.{Lent, Verdict, limits, verdict, refused, memory_slots, runs}
 use Rattle.forf_machine.specs.Rep.{limits_of}
@@ -58,7 +58,7 @@ passed_by false false false false false e = record { first = refl; second = refl
 record CarriesOut' (script : List ℕ) (fuel : ℕ) (l : Limits) (mem mem' out out' : List ℕ) (r : Report) : Type 0 where
   steps : r.steps ≡ (run l script fuel (initial mem)).final.steps
   memory : mem' ≡ (run l script fuel (initial mem)).final.machine.memory
-  outcome : Written 0 (outcomeText (run l script fuel (initial mem))) out out' r.outcome
+  outcome : Written 0 (outcome_text (run l script fuel (initial mem))) out out' r.outcome
 
 carried : {script : List ℕ} {fuel : ℕ} {s e mem mem' out out' : List ℕ} {r : Report} → CarriesOut script fuel s e mem mem' out out' r → CarriesOut' script fuel (limits_of s e) mem mem' out out' r
 carried C = record { steps = C.steps; memory = C.memory; outcome = C.outcome }

@@ -102,7 +102,7 @@ module _ (script : List ℕ) (offset : ℕ) (known : Known script offset) where
 
   -- An inner group is known too, and what follows it where it ends.
   pub body_group : (size : ℕ)
-      → TokenAt script offset Token.openBrace size
+      → TokenAt script offset Token.open_brace size
       → (end : ℕ)
       × (group_end script 15 (skip script offset + size) ≡ ok end)
       × (body_at script offset ≡ group (body_at script (skip script offset + size)) then body_at script end)
@@ -112,17 +112,17 @@ module _ (script : List ℕ) (offset : ℕ) (known : Known script offset) where
   body_group size a =
       let after = skip script offset + size in
       let s = skip_le script offset known.inside in
-      let f = fits Token.openBrace size a in
-      let (i, p, q) = then_ok (read_group script (length script) 14 after) _ (reads_on Token.openBrace size a) in
+      let f = fits Token.open_brace size a in
+      let (i, p, q) = then_ok (read_group script (length script) 14 after) _ (reads_on Token.open_brace size a) in
       let n : Inside (length script) after i = gives_ok (group_takes script 14 after (omega arith)) p in
       let (inner, is) = known_from script 14 after i (omega arith) (omega arith) (omega arith) p in
       let (one, rest) = item_on (group i.items) i.after (omega arith) n.1 q in
       (i.after, group_ends script 14 after i (omega arith) p, one ∙ ap (λ (xs : Items). group xs then body_at script i.after) (sym is), inner, rest)
 
-  pub body_close : (size : ℕ) → TokenAt script offset Token.closeBrace size → body_at script offset ≡ none
+  pub body_close : (size : ℕ) → TokenAt script offset Token.close_brace size → body_at script offset ≡ none
   unfolding element
   body_close size a =
-      body_is script offset known.reads.1 ∙ sym (ap (λ (g : Group). g.items) (ok_one (reads_on Token.closeBrace size a)))
+      body_is script offset known.reads.1 ∙ sym (ap (λ (g : Group). g.items) (ok_one (reads_on Token.close_brace size a)))
 
   -- There is a next token, and it is not the end.
   pub body_end : (size : ℕ) → TokenAt script offset Token.end size → ⊥
@@ -138,7 +138,7 @@ module _ (script : List ℕ) (offset : ℕ) (known : Known script offset) where
 
 -- ---- a group that the script's next token begins
 
-module _ (script : List ℕ) (start size : ℕ) (opens : lex (drop start script) ≡ lexeme Token.openBrace size) where
+module _ (script : List ℕ) (start size : ℕ) (opens : lex (drop start script) ≡ lexeme Token.open_brace size) where
   -- It is taken whole: the item is known by the offset after its brace, and the script goes on where it ends.
   pub take_group : (end : ℕ)
       → 1 ≤ start + size

@@ -55,16 +55,16 @@ module _ (script : List ℕ) (offset : ℕ) (passed : 1 ≤ offset) (inside : of
   end_word depth t = reads_on depth t ∙ onto_end _ _
 
   pub end_group : (depth : ℕ) {size : ℕ}
-      → TokenAt script offset Token.openBrace size
+      → TokenAt script offset Token.open_brace size
       → group_end script (suc depth) offset ≡ (group_end script depth (skip script offset + size) >>= group_end script (suc depth))
   unfolding element group_end
   end_group depth t = reads_on (suc depth) t ∙ inner_end script (suc depth) _ _
 
-  pub end_too_deep : {size : ℕ} → TokenAt script offset Token.openBrace size → group_end script zero offset ≡ fault SyntaxError
+  pub end_too_deep : {size : ℕ} → TokenAt script offset Token.open_brace size → group_end script zero offset ≡ fault SyntaxError
   unfolding element end_of ◌>>=◌
   end_too_deep t = reads_on zero t
 
-  pub end_close : (depth : ℕ) {size : ℕ} → TokenAt script offset Token.closeBrace size → group_end script depth offset ≡ ok (skip script offset + size)
+  pub end_close : (depth : ℕ) {size : ℕ} → TokenAt script offset Token.close_brace size → group_end script depth offset ≡ ok (skip script offset + size)
   unfolding element end_of ◌>>=◌
   end_close depth t = reads_on depth t
 

@@ -6,7 +6,7 @@ use Rattle.semantics.specs.Tokens.{Lexing, digits, starts_number}
 use Rattle.semantics.specs.ResultLaws.{choose}
 use Rattle.semantics.specs.Values.{ok, fault, ◌>>=◌, check}
 use Rattle.forf_semantics.specs.Errors.{Result}
-use Rattle.forf_semantics.specs.Tokens.{Class, runByte, openBrace, closeBrace, other, class_of, Form, hexadecimal, octal, plain, form_of, numeral, magnitude, up_to, is_negative, number, Token, lexeme, word_of, run_token, lex_as, lex}
+use Rattle.forf_semantics.specs.Tokens.{Class, run_byte, open_brace, close_brace, other, class_of, Form, hexadecimal, octal, plain, form_of, numeral, magnitude, up_to, is_negative, number, Token, lexeme, word_of, run_token, lex_as, lex}
 use Rattle.forf_semantics.specs.Items.{Reader, onto, element, read_group, group_at, taken, token_item, take_token}
 use Rattle.forf_semantics.specs.declared.Error.TheVariants.{SyntaxError}
 
@@ -66,9 +66,9 @@ run_token_syntax n =
 
 lex_as_syntax : (k : Class) (b : ℕ) (s : List ℕ) → Syntax (lex_as k b s)
 unfolding lex_as lexeme
-lex_as_syntax runByte b s = syntax_then (run_token_syntax _) (λ t. fine)
-lex_as_syntax openBrace b s = fine
-lex_as_syntax closeBrace b s = fine
+lex_as_syntax run_byte b s = syntax_then (run_token_syntax _) (λ t. fine)
+lex_as_syntax open_brace b s = fine
+lex_as_syntax close_brace b s = fine
 lex_as_syntax other b s = bad
 
 pub lex_syntax : (s : List ℕ) → Syntax (lex s)
@@ -82,9 +82,9 @@ element_syntax : (rest : Reader) → ((depth offset : ℕ) → Syntax (rest dept
 unfolding element onto
 element_syntax rest f depth after (Token.integer w) = syntax_then (f depth after) (λ g. fine)
 element_syntax rest f depth after (Token.word n) = syntax_then (f depth after) (λ g. fine)
-element_syntax rest f zero after Token.openBrace = bad
-element_syntax rest f (suc d) after Token.openBrace = syntax_then (f d after) (λ i. syntax_then (f (suc d) i.after) (λ g. fine))
-element_syntax rest f depth after Token.closeBrace = fine
+element_syntax rest f zero after Token.open_brace = bad
+element_syntax rest f (suc d) after Token.open_brace = syntax_then (f d after) (λ i. syntax_then (f (suc d) i.after) (λ g. fine))
+element_syntax rest f depth after Token.close_brace = fine
 element_syntax rest f depth after Token.end = bad
 
 pub group_syntax : (script : List ℕ) (fuel depth offset : ℕ) → Syntax (read_group script fuel depth offset)
@@ -97,8 +97,8 @@ token_item_syntax : (script : List ℕ) (after : ℕ) (t : Token) → Syntax (to
 unfolding token_item taken group_at
 token_item_syntax script after (Token.integer w) = fine
 token_item_syntax script after (Token.word n) = fine
-token_item_syntax script after Token.openBrace = syntax_then (group_syntax script (length script) 15 after) (λ g. fine)
-token_item_syntax script after Token.closeBrace = bad
+token_item_syntax script after Token.open_brace = syntax_then (group_syntax script (length script) 15 after) (λ g. fine)
+token_item_syntax script after Token.close_brace = bad
 token_item_syntax script after Token.end = bad
 
 pub take_token_syntax : (script : List ℕ) (start : ℕ) → Syntax (take_token script start)

@@ -43,11 +43,11 @@ module _ (size : ℕ) where
       gives_then (f depth (start + bytes) (omega arith)) (λ g i. onto_inside start (number w) g (omega arith, i.1))
   element_inside rest f depth start bytes (Token.word n) h k =
       gives_then (f depth (start + bytes) (omega arith)) (λ g i. onto_inside start (word n) g (omega arith, i.1))
-  element_inside rest f zero start bytes Token.openBrace h k = fails
-  element_inside rest f (suc d) start bytes Token.openBrace h k =
+  element_inside rest f zero start bytes Token.open_brace h k = fails
+  element_inside rest f (suc d) start bytes Token.open_brace h k =
       gives_then (f d (start + bytes) (omega arith))
       (λ g i. gives_then (f (suc d) g.after i.1) (λ r j. onto_inside start (group g.items) r (omega arith, j.1)))
-  element_inside rest f depth start bytes Token.closeBrace h k =
+  element_inside rest f depth start bytes Token.close_brace h k =
       let first : start < start + bytes = omega arith in
       let last : start + bytes ≤ size = omega arith in
       gives (first, last)
@@ -64,13 +64,13 @@ module _ (size : ℕ) where
       ap (λ r. r >>= onto (number w)) (e depth (start + bytes) (omega arith) (omega arith))
   element_same rest other depth start bytes (Token.word n) f e h k =
       ap (λ r. r >>= onto (word n)) (e depth (start + bytes) (omega arith) (omega arith))
-  element_same rest other zero start bytes Token.openBrace f e h k = refl
-  element_same rest other (suc d) start bytes Token.openBrace f e h k =
+  element_same rest other zero start bytes Token.open_brace f e h k = refl
+  element_same rest other (suc d) start bytes Token.open_brace f e h k =
       let inner : rest d (start + bytes) ≡ other d (start + bytes) = e d (start + bytes) (omega arith) (omega arith) in
       then_same (f d (start + bytes) (omega arith))
       (λ g i. ap (λ r. r >>= onto (group g.items)) (e (suc d) g.after (omega arith) i.1))
       ∙ ap (λ r. r >>= λ (g : Group). other (suc d) g.after >>= onto (group g.items)) inner
-  element_same rest other depth start bytes Token.closeBrace f e h k = refl
+  element_same rest other depth start bytes Token.close_brace f e h k = refl
   element_same rest other depth start bytes Token.end f e h k = refl
 
 element_deeper : (rest : Reader) → Deepens rest → (t : Token) (after : ℕ) → Deepens (λ d o. element rest d after t)
@@ -81,13 +81,13 @@ element_deeper rest f (Token.integer w) after d more o g h e =
 element_deeper rest f (Token.word n) after d more o g h e =
     let (r, p, q) = then_ok (rest d after) (onto (word n)) e in
     ok_then (onto (word n)) (f d more after r h p) q
-element_deeper rest f Token.openBrace after zero more o g h e = absurd (fault_ok e)
-element_deeper rest f Token.openBrace after (suc d) zero o g h e = absurd (omega arith)
-element_deeper rest f Token.openBrace after (suc d) (suc more) o g h e =
+element_deeper rest f Token.open_brace after zero more o g h e = absurd (fault_ok e)
+element_deeper rest f Token.open_brace after (suc d) zero o g h e = absurd (omega arith)
+element_deeper rest f Token.open_brace after (suc d) (suc more) o g h e =
     let (i, p, q) = then_ok (rest d after) _ e in
     let (r, u, v) = then_ok (rest (suc d) i.after) (onto (group i.items)) q in
     ok_then _ (f d more after i (omega arith) p) (ok_then (onto (group i.items)) (f (suc d) (suc more) i.after r h u) v)
-element_deeper rest f Token.closeBrace after d more o g h e = e
+element_deeper rest f Token.close_brace after d more o g h e = e
 element_deeper rest f Token.end after d more o g h e = e
 
 module _ (script : List ℕ) where

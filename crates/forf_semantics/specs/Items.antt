@@ -46,12 +46,12 @@ onto x g = ok (record { items = x then g.items; after = g.after })
 unfoldable pub element : Reader → ℕ → ℕ → Token → Result Group
 element rest depth after (Token.integer w) = rest depth after >>= onto (number w)
 element rest depth after (Token.word n) = rest depth after >>= onto (word n)
-element rest zero after Token.openBrace = fault SyntaxError
-element rest (suc d) after Token.openBrace = do
+element rest zero after Token.open_brace = fault SyntaxError
+element rest (suc d) after Token.open_brace = do
   inner ← rest d after
   g ← rest (suc d) inner.after
   onto (group inner.items) g
-element rest depth after Token.closeBrace = ok (record { items = none; after = after })
+element rest depth after Token.close_brace = ok (record { items = none; after = after })
 element rest depth after Token.end = fault SyntaxError
 
 -- The rest of a group. `fuel` bounds the tokens read; `GroupLaws` proves that it is never spent.
@@ -80,10 +80,10 @@ taken x after = ok (record { item = x; after = after })
 unfoldable pub token_item : List ℕ → ℕ → Token → Result Taken
 token_item script after (Token.integer w) = taken (number w) after
 token_item script after (Token.word n) = taken (word n) after
-token_item script after Token.openBrace = do
+token_item script after Token.open_brace = do
   g ← group_at script after
   taken (group g.items) g.after
-token_item script after Token.closeBrace = fault SyntaxError
+token_item script after Token.close_brace = fault SyntaxError
 token_item script after Token.end = fault SyntaxError
 
 -- The item of the token at `start`, which is neither space nor comment.

@@ -7,11 +7,11 @@ use Rattle.semantics.specs.Outcome.{line}
 use Rattle.forf_semantics.specs.Errors.{error_text}
 use Rattle.forf_semantics.specs.Items.{count}
 use Rattle.forf_semantics.specs.Machine.{Value, integer, substack}
-use Rattle.forf_semantics.specs.Steps.{Ending, finished, outOfFuel, failed, Run}
+use Rattle.forf_semantics.specs.Steps.{Ending, finished, out_of_fuel, failed, Run}
 
 unfoldable pub ending_lines : Ending → List ℕ
 ending_lines finished = bytes "ending=finished\nerror=none\ncommand=\n"
-ending_lines outOfFuel = bytes "ending=fuel\nerror=none\ncommand=\n"
+ending_lines out_of_fuel = bytes "ending=fuel\nerror=none\ncommand=\n"
 ending_lines (failed e c) = bytes "ending=error\n" ++ line (bytes "error") (error_text e) ++ line (bytes "command") c
 
 -- A substack of N items shows as substack:N.

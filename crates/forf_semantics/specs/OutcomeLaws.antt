@@ -18,7 +18,7 @@ use Rattle.semantics.specs.OutcomeLaws.{name_text_length, decimal_z_length, line
 use Rattle.forf_semantics.specs.Errors.{Result}
 use Rattle.forf_semantics.specs.Items.{Item, number, word, group, count, Taken}
 use Rattle.forf_semantics.specs.Machine.{Value, integer, substack, Frame, Machine}
-use Rattle.forf_semantics.specs.Steps.{Limits, State, Move, command_of, act, treat, silent, resume, room_for, Step, goes, fails, ended, moved, token_move, step_on, step, Ending, finished, outOfFuel, failed, Run, is_finished, finish, go_on, run, initial}
+use Rattle.forf_semantics.specs.Steps.{Limits, State, Move, command_of, act, treat, silent, resume, room_for, Step, goes, fails, ended, moved, token_move, step_on, step, Ending, finished, out_of_fuel, failed, Run, is_finished, finish, go_on, run, initial}
 use Rattle.forf_semantics.specs.Errors.{error_text}
 use Rattle.forf_semantics.specs.Outcome.{ending_lines, item, items, outcome}
 use Rattle.semantics.specs.ResultLaws.{Gives, gives, gives_then, gives_any, gives_check}
@@ -38,7 +38,7 @@ command_length Q (group xs) h = omega arith
 -- The command of an ending.
 abbrev pub command_in : Ending → List ℕ
 command_in finished = []
-command_in outOfFuel = []
+command_in out_of_fuel = []
 command_in (failed e c) = c
 
 module _ (Q : ℕ → Type 0) (closed : Closed Q) where
@@ -132,7 +132,7 @@ module _ (Q : ℕ → Type 0) (closed : Closed Q) where
     pub run_sound : (script : List ℕ) (fuel : ℕ) (σ : State) → Sound l slots σ.machine → SoundRun l slots (run l script fuel σ)
     unfolding run step
     run_sound script zero σ h =
-        choose (SoundRun l slots) (is_finished script σ) (finish script σ) (record { ending = outOfFuel; final = σ })
+        choose (SoundRun l slots) (is_finished script σ) (finish script σ) (record { ending = out_of_fuel; final = σ })
         (λ t. finish_sound script σ h)
         (λ t. quiet_run refl h)
     run_sound script (suc fuel) σ h =
@@ -175,7 +175,7 @@ error_length StackOverflow = omega arith
 pub ending_length : (e : Ending) → length (ending_lines e) ≤ 46 + length (command_in e)
 unfolding ending_lines bytes
 ending_length finished = omega arith
-ending_length outOfFuel = omega arith
+ending_length out_of_fuel = omega arith
 ending_length (failed e c) =
     simp length-append (omega (arith, line_length (bytes "error") (error_text e), line_length (bytes "command") c, error_length e))
 

@@ -10,7 +10,7 @@ use Rattle.forf_semantics.specs.Errors.{Result}
 use Rattle.forf_semantics.specs.Tokens.{Token}
 use Rattle.forf_semantics.specs.Items.{Item, Taken, skip, group_at, taken, token_item, take_token}
 use Rattle.forf_semantics.specs.Machine.{Machine, Frame}
-use Rattle.forf_semantics.specs.Steps.{Limits, State, Step, goes, fails, ended, moved, offset_after, step_on, step, Run, outOfFuel, is_finished, finish, go_on, run, initial}
+use Rattle.forf_semantics.specs.Steps.{Limits, State, Step, goes, fails, ended, moved, offset_after, step_on, step, Run, out_of_fuel, is_finished, finish, go_on, run, initial}
 use Rattle.semantics.specs.ResultLaws.{Gives, gives, gives_then}
 use Rattle.semantics.specs.ResultLaws
 use Rattle.forf_semantics.specs.TokenLaws.{Fits, skip_le, token_fits}
@@ -35,9 +35,9 @@ token_item_beyond : (script : List ℕ) (start size : ℕ) (t : Token)
 unfolding token_item group_at
 token_item_beyond script start size (Token.integer w) h f = taken_beyond _ (record { later = omega arith; inside = omega arith })
 token_item_beyond script start size (Token.word n) h f = taken_beyond _ (record { later = omega arith; inside = omega arith })
-token_item_beyond script start size Token.openBrace h f =
+token_item_beyond script start size Token.open_brace h f =
     gives_then (group_takes script 15 (start + size) (omega arith)) (λ g i. taken_beyond _ (record { later = omega arith; inside = i.1 }))
-token_item_beyond script start size Token.closeBrace h f = ResultLaws.fails
+token_item_beyond script start size Token.close_brace h f = ResultLaws.fails
 token_item_beyond script start size Token.end h f = ResultLaws.fails
 
 pub take_token_beyond : (script : List ℕ) (start : ℕ) → start ≤ length script → Gives (λ (k : Taken). Beyond (length script) start k.after) (take_token script start)
@@ -88,7 +88,7 @@ module _ (script : List ℕ) where
   pub run_placed : (l : Limits) (fuel : ℕ) (σ : State) → Placed script σ → Placed script (run l script fuel σ).final
   unfolding run step
   run_placed l zero σ h =
-      choose (λ (r : Run). Placed script r.final) (is_finished script σ) (finish script σ) (record { ending = outOfFuel; final = σ })
+      choose (λ (r : Run). Placed script r.final) (is_finished script σ) (finish script σ) (record { ending = out_of_fuel; final = σ })
       (λ t. finish_placed σ h)
       (λ t. h)
   run_placed l (suc fuel) σ h =

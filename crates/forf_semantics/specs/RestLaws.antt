@@ -29,7 +29,7 @@ pub data ItemAt (script : List ℕ) (offset : ℕ) : Item → ℕ → Type 0 whe
       → length n ≤ 31
       → ItemAt script offset (word n) (skip script offset + size)
   group_at_lem : {xs : Items} {end : ℕ}
-      → TokenAt script offset Token.openBrace 1
+      → TokenAt script offset Token.open_brace 1
       → Rest script (skip script offset + 1) xs end
       → ItemAt script offset (group xs) end
 
@@ -40,7 +40,7 @@ pub data Next (script : List ℕ) (offset : ℕ) : Items → ℕ → Type 0 wher
       → offset < after
       → Rest script after xs end
       → Next script offset (x then xs) end
-  no_item : TokenAt script offset Token.closeBrace 1 → Next script offset none (skip script offset + 1)
+  no_item : TokenAt script offset Token.close_brace 1 → Next script offset none (skip script offset + 1)
 
 module _ (script : List ℕ) where
   -- What is read with some depth is the rest of a group.
@@ -55,8 +55,8 @@ module _ (script : List ℕ) where
 
   -- A group that begins with the token at an offset, and is read with some depth.
   group_from : (depth offset size : ℕ) (g : Group)
-      → TokenAt script offset Token.openBrace size
-      → Fits (length script - skip script offset) Token.openBrace size
+      → TokenAt script offset Token.open_brace size
+      → Fits (length script - skip script offset) Token.open_brace size
       → skip script offset ≤ length script
       → depth ≤ 15
       → read_group script (length script) depth (skip script offset + size) ≡ ok g
@@ -64,7 +64,7 @@ module _ (script : List ℕ) where
   group_from depth offset size g t f h d e =
       let one : size ≡ 1 = f.1 in
       let inner = rest_from depth (skip script offset + size) g (omega arith) (omega arith) d e in
-      group_at_lem (subst (TokenAt script offset Token.openBrace) one t) (subst (λ (s : ℕ). Rest script (skip script offset + s) g.items g.after) one inner)
+      group_at_lem (subst (TokenAt script offset Token.open_brace) one t) (subst (λ (s : ℕ). Rest script (skip script offset + s) g.items g.after) one inner)
 
   -- An item, and then the rest that is read after it.
   item_next : (offset after : ℕ) (x : Item) (g : Group)
@@ -93,14 +93,14 @@ module _ (script : List ℕ) where
       item_next offset (skip script offset + size) (number w) g (number_at t) h (omega arith) (omega arith) e
   element_next offset size (Token.word n) g t f h j k e =
       item_next offset (skip script offset + size) (word n) g (word_at t f.2) h (omega arith) (omega arith) e
-  element_next offset size Token.openBrace g t f h j k e =
+  element_next offset size Token.open_brace g t f h j k e =
       let start = skip script offset in
       let (r, p, q) = then_ok (read_group script (length script) 14 (start + size)) _ e in
       let i : Inside (length script) (start + size) r = gives_ok (group_takes script 14 (start + size) (omega arith)) p in
       item_next offset r.after (group r.items) g (group_from 14 offset size r t f k (omega arith) p) h (omega arith) i.1 q
-  element_next offset size Token.closeBrace g t f h j k e =
+  element_next offset size Token.close_brace g t f h j k e =
       let one : size ≡ 1 = f.1 in
-      let last = no_item (subst (TokenAt script offset Token.closeBrace) one t) in
+      let last = no_item (subst (TokenAt script offset Token.close_brace) one t) in
       subst (λ (y : Group). Next script offset y.items y.after) (ap (λ (s : ℕ). record { items = none; after = skip script offset + s }) (sym one) ∙ ok_one e) last
   element_next offset size Token.end g t f h j k e = absurd (fault_ok e)
 
@@ -128,10 +128,10 @@ rest_item r = by (rest_next r)
 -- With none left, the next token is the closing brace.
 pub rest_none : {script : List ℕ} {offset end : ℕ}
     → Rest script offset none end
-    → TokenAt script offset Token.closeBrace 1 × (end ≡ skip script offset + 1)
+    → TokenAt script offset Token.close_brace 1 × (end ≡ skip script offset + 1)
 rest_none r = by (rest_next r)
   where
-    by : {script : List ℕ} {offset end : ℕ} → Next script offset none end → TokenAt script offset Token.closeBrace 1 × (end ≡ skip script offset + 1)
+    by : {script : List ℕ} {offset end : ℕ} → Next script offset none end → TokenAt script offset Token.close_brace 1 × (end ≡ skip script offset + 1)
     by (no_item t) = (t, refl)
 
 -- An item taken from the script is the next item from where the reading began.
@@ -146,10 +146,10 @@ token_at script offset size (Token.integer w) k t f h e =
     subst (λ (y : Taken). ItemAt script offset y.item y.after) (ok_one e) (number_at t)
 token_at script offset size (Token.word n) k t f h e =
     subst (λ (y : Taken). ItemAt script offset y.item y.after) (ok_one e) (word_at t f.2)
-token_at script offset size Token.openBrace k t f h e =
+token_at script offset size Token.open_brace k t f h e =
     let (g, p, q) = then_ok (read_group script (length script) 15 (skip script offset + size)) _ e in
     subst (λ (y : Taken). ItemAt script offset y.item y.after) (ok_one q) (group_from script 15 offset size g t f h (omega arith) p)
-token_at script offset size Token.closeBrace k t f h e = absurd (fault_ok e)
+token_at script offset size Token.close_brace k t f h e = absurd (fault_ok e)
 token_at script offset size Token.end k t f h e = absurd (fault_ok e)
 
 pub taken_item : (script : List ℕ) (offset : ℕ) (k : Taken)

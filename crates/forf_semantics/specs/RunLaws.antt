@@ -6,7 +6,7 @@ use Rattle.semantics.specs.ResultLaws.{choose}
 use Rattle.semantics.specs.Values.{ok, fault}
 use Rattle.forf_semantics.specs.Errors.{Result}
 use Rattle.forf_semantics.specs.Machine.{Machine, Frame}
-use Rattle.forf_semantics.specs.Steps.{Limits, State, Step, goes, fails, ended, moved, step_on, step, Run, outOfFuel, is_finished, finish, go_on, run, initial}
+use Rattle.forf_semantics.specs.Steps.{Limits, State, Step, goes, fails, ended, moved, step_on, step, Run, out_of_fuel, is_finished, finish, go_on, run, initial}
 use Rattle.forf_semantics.specs.declared.Error.{Error}
 
 -- What a step does to the count of steps, and what a failing one leaves: memory too stays, being of the machine.
@@ -44,7 +44,7 @@ go_on_steps rest fuel σ f (stuck h k n) = omega arith
 pub run_steps : (l : Limits) (script : List ℕ) (fuel : ℕ) (σ : State) → (run l script fuel σ).final.steps ≤ σ.steps + fuel
 unfolding run finish
 run_steps l script zero σ =
-    choose (λ (r : Run). r.final.steps ≤ σ.steps + 0) (is_finished script σ) (finish script σ) (record { ending = outOfFuel; final = σ })
+    choose (λ (r : Run). r.final.steps ≤ σ.steps + 0) (is_finished script σ) (finish script σ) (record { ending = out_of_fuel; final = σ })
     (λ t. omega arith)
     (λ t. omega arith)
 run_steps l script (suc fuel) σ =

@@ -76,8 +76,8 @@ pub data Reading : Type 0 where
 unfoldable pub kind_of : Token → Kind
 kind_of (Token.integer w) = Integer
 kind_of (Token.word n) = Word
-kind_of Token.openBrace = OpenBrace
-kind_of Token.closeBrace = CloseBrace
+kind_of Token.open_brace = OpenBrace
+kind_of Token.close_brace = CloseBrace
 kind_of Token.end = End
 
 unfoldable pub reading_of : ℕ → Lexeme → Reading

@@ -208,10 +208,10 @@ module _ (Q : ℕ → Type 0) (closed : Closed Q) where
   unfolding element
   element_short rest f depth after left size (Token.integer w) k = gives_then (f depth after) (λ g h. onto_short (number w) g (a_number (closed.small _ k.2)) h)
   element_short rest f depth after left size (Token.word n) k = gives_then (f depth after) (λ g h. onto_short (word n) g (a_word k.2) h)
-  element_short rest f zero after left size Token.openBrace k = fails
-  element_short rest f (suc d) after left size Token.openBrace k =
+  element_short rest f zero after left size Token.open_brace k = fails
+  element_short rest f (suc d) after left size Token.open_brace k =
       gives_then (f d after) (λ i h. gives_then (f (suc d) i.after) (λ g j. onto_short (group i.items) g (a_group h) j))
-  element_short rest f depth after left size Token.closeBrace k = gives no_item
+  element_short rest f depth after left size Token.close_brace k = gives no_item
   element_short rest f depth after left size Token.end k = fails
 
   group_short : (script : List ℕ) (fuel : ℕ) → GivesShort (read_group script fuel)
@@ -225,8 +225,8 @@ module _ (Q : ℕ → Type 0) (closed : Closed Q) where
   unfolding token_item taken group_at
   token_item_short script after left size (Token.integer w) k = gives (a_number (closed.small _ k.2))
   token_item_short script after left size (Token.word n) k = gives (a_word k.2)
-  token_item_short script after left size Token.openBrace k = gives_then (group_short script (length script) 15 after) (λ g h. gives (a_group h))
-  token_item_short script after left size Token.closeBrace k = fails
+  token_item_short script after left size Token.open_brace k = gives_then (group_short script (length script) 15 after) (λ g h. gives (a_group h))
+  token_item_short script after left size Token.close_brace k = fails
   token_item_short script after left size Token.end k = fails
 
   pub take_token_short : (script : List ℕ) (start : ℕ) → Gives (λ (k : Taken). ShortItem Q k.item) (take_token script start)

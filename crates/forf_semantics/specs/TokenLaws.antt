@@ -6,7 +6,7 @@ use Rattle.semantics.specs.Words as words
 use Rattle.semantics.specs.Tokens.{starts_number}
 use Rattle.semantics.specs.ResultLaws.{choose}
 use Rattle.semantics.specs.Values.{ok, ◌>>=◌}
-use Rattle.forf_semantics.specs.Tokens.{is_end, Class, runByte, openBrace, closeBrace, other, class_of, is_blank, comment_after, blanks_in, blanks, run, magnitude, up_to, is_negative, number, Token, Lexeme, lexeme, word_of, run_token, lex_as, lex}
+use Rattle.forf_semantics.specs.Tokens.{is_end, Class, run_byte, open_brace, close_brace, other, class_of, is_blank, comment_after, blanks_in, blanks, run, magnitude, up_to, is_negative, number, Token, Lexeme, lexeme, word_of, run_token, lex_as, lex}
 use Rattle.forf_semantics.specs.Items.{skip}
 use Rattle.semantics.specs.ResultLaws.{Gives, gives, fails, gives_then, gives_any, gives_check}
 
@@ -49,22 +49,22 @@ one_byte n = (omega arith, refl)
 abbrev pub Fits : ℕ → Token → ℕ → Type 0
 Fits n (Token.integer w) size = (1 ≤ size) × (size ≤ n) × (w < 2 ^ 32)
 Fits n (Token.word bs) size = (1 ≤ size) × (size ≤ n) × (length bs ≤ 31)
-Fits n Token.openBrace size = OneOf n size
-Fits n Token.closeBrace size = OneOf n size
+Fits n Token.open_brace size = OneOf n size
+Fits n Token.close_brace size = OneOf n size
 Fits n Token.end size = size ≡ 0
 
 -- What the class of a run has ends no token.
 abbrev is_run : Class → Bool
-is_run runByte = true
-is_run openBrace = false
-is_run closeBrace = false
+is_run run_byte = true
+is_run open_brace = false
+is_run close_brace = false
 is_run other = false
 
 class_run : (b : ℕ) → T (is_run (class_of b)) → T (not (is_end b))
 unfolding class_of
 class_run b = by (not (is_end b)) (eqb b 123) (eqb b 125)
   where
-    by : (n o c : Bool) → T (is_run (cond n runByte (cond o openBrace (cond c closeBrace other)))) → T n
+    by : (n o c : Bool) → T (is_run (cond n run_byte (cond o open_brace (cond c close_brace other)))) → T n
     by true o c h = tt
     by false true c h = h
     by false false true h = h
@@ -107,10 +107,10 @@ lex_as_fits : (k : Class) (b : ℕ) (s : List ℕ)
     → (T (is_run k) → T (not (is_end b)))
     → Gives (λ l. Fits (suc (length s)) l.token l.size) (lex_as k b s)
 unfolding lex_as lexeme
-lex_as_fits runByte b s h =
+lex_as_fits run_byte b s h =
     gives_then (run_token_lem (take (run (b ∷ s)) (b ∷ s)) _ _ (run_first b s (h tt), run_length (b ∷ s))) (λ t f. gives f)
-lex_as_fits openBrace b s h = gives (one_byte (length s))
-lex_as_fits closeBrace b s h = gives (one_byte (length s))
+lex_as_fits open_brace b s h = gives (one_byte (length s))
+lex_as_fits close_brace b s h = gives (one_byte (length s))
 lex_as_fits other b s h = fails
 
 pub lex_fits : (s : List ℕ) → Gives (λ (l : Lexeme). Fits (length s) l.token l.size) (lex s)

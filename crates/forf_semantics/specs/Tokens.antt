@@ -21,10 +21,10 @@ is_end b = is_space b || eqb b 123 || eqb b 125 || is_parenthesis b
 
 -- What a token's first byte begins. No token begins with a parenthesis: a comment's are not met here.
 pub data Class : Type 0 where
-  runByte openBrace closeBrace other : Class
+  run_byte open_brace close_brace other : Class
 
 unfoldable pub class_of : ℕ → Class
-class_of b = cond (not (is_end b)) runByte (cond (eqb b 123) openBrace (cond (eqb b 125) closeBrace other))
+class_of b = cond (not (is_end b)) run_byte (cond (eqb b 123) open_brace (cond (eqb b 125) close_brace other))
 
 -- ---- space and comments
 
@@ -104,7 +104,7 @@ number s =
 pub data Token : Type 0 where
   integer : ℕ → Token  -- its 32 bits
   word : List ℕ → Token
-  openBrace closeBrace end : Token
+  open_brace close_brace end : Token
 
 -- A token, and how many bytes it takes.
 pub record Lexeme : Type 0 where
@@ -130,12 +130,12 @@ run_token n =
 
 -- The token that begins with the byte b of a class, s being the bytes after it.
 unfoldable pub lex_as : Class → ℕ → List ℕ → Result Lexeme
-lex_as runByte b s = do
+lex_as run_byte b s = do
   let n = take (run (b ∷ s)) (b ∷ s)
   t ← run_token n
   lexeme t (length n)
-lex_as openBrace b s = lexeme openBrace 1
-lex_as closeBrace b s = lexeme closeBrace 1
+lex_as open_brace b s = lexeme open_brace 1
+lex_as close_brace b s = lexeme close_brace 1
 lex_as other b s = fault SyntaxError
 
 -- The token that begins at the first byte, which is neither space nor comment.

@@ -12,7 +12,7 @@ use Rattle.semantics.specs.Sizes.{script_most, fuel_most}
 use Rattle.semantics.specs.ListLaws.{All, nil}
 use Rattle.forf_semantics.specs.Items.{skip}
 use Rattle.forf_semantics.specs.Machine.{Frame}
-use Rattle.forf_semantics.specs.Steps.{Limits, Step, goes, fails, step, finished, outOfFuel, failed, Run, is_empty, is_finished, finish, go_on, run, initial}
+use Rattle.forf_semantics.specs.Steps.{Limits, Step, goes, fails, step, finished, out_of_fuel, failed, Run, is_empty, is_finished, finish, go_on, run, initial}
 use Rattle.forf_semantics.specs.Steps as F
 use Rattle.forf_semantics.specs.declared.Error.{Error}
 use Rattle.forf_machine.specs.Slots.{slots}
@@ -70,7 +70,7 @@ unfolding run
 run_finished l script zero σ h = rw (run, h) refl
 run_finished l script (suc n) σ h = rw (run, h) refl
 
-run_spent : (l : Limits) (script : List ℕ) (σ : F.State) → is_finished script σ ≡ false → run l script zero σ ≡ record { ending = outOfFuel; final = σ }
+run_spent : (l : Limits) (script : List ℕ) (σ : F.State) → is_finished script σ ≡ false → run l script zero σ ≡ record { ending = out_of_fuel; final = σ }
 unfolding run
 run_spent l script σ h = rw (run, h) refl
 

@@ -2,7 +2,7 @@
 -- Assumes nothing.
 use Rattle.std.specs.Prelude.{◌≡◌, List, ℕ, ◌≤◌, length}
 use Rattle.semantics.specs.Sizes.{script_most, fuel_most}
-use Rattle.forf_semantics.specs.Steps.{finished, outOfFuel, failed, run, initial}
+use Rattle.forf_semantics.specs.Steps.{finished, out_of_fuel, failed, run, initial}
 use Rattle.forf_semantics.specs.Steps as Forf
 use Rattle.forf_machine.specs.Rep.{limits_of}
 use Rattle.forf_steps.specs.Stepping.{state_of, Stands, command_text, HeldCommand}
@@ -18,7 +18,7 @@ pub record Begun (script : List ℕ) (fuel : ℕ) (mem : List ℕ) : Type 0 wher
 
 abbrev pub ending_of : List ℕ → Ending → Forf.Ending
 ending_of script ending.Finished = finished
-ending_of script ending.OutOfFuel = outOfFuel
+ending_of script ending.OutOfFuel = out_of_fuel
 ending_of script (ending.Failed x c) = failed x (command_text script c)
 
 abbrev pub HeldEnding : List ℕ → Ending → Type 0

@@ -14,7 +14,7 @@ use Rattle.semantics.specs.Values.{ok, fault, ◌>>=◌, check}
 use Rattle.semantics.specs.Tokens.{starts_number}
 use Rattle.token.specs.declared.numbers.Number.{Number}
 use Rattle.token.specs.declared.numbers.Number.TheVariants as number
-use Rattle.forf_semantics.specs.Tokens.{Class, runByte, openBrace, closeBrace, other, is_end, class_of, run, lexeme, word_of, run_token, lex_as, lex}
+use Rattle.forf_semantics.specs.Tokens.{Class, run_byte, open_brace, close_brace, other, is_end, class_of, run, lexeme, word_of, run_token, lex_as, lex}
 use Rattle.forf_semantics.specs.Tokens as tokens
 use Rattle.forf_semantics.specs.declared.Error.TheVariants.{SyntaxError}
 use Rattle.forf_token.specs.Lexing.{read_number, Lexes, RunAt}
@@ -26,7 +26,7 @@ use Rattle.forf_token.proofs.Counts.{run_go}
 one : (n : ℕ) → n + 1 - n ≡ 1
 one n = omega arith
 
-run_class : (b : ℕ) → is_end b ≡ false → class_of b ≡ runByte
+run_class : (b : ℕ) → is_end b ≡ false → class_of b ≡ run_byte
 unfolding class_of
 run_class b e = rw e refl
 
@@ -40,7 +40,7 @@ module _ (script : List ℕ) (start : ℕ) (inside : start < length script) wher
     pub open_token : get_or script start 0 ≡ 123 → Lexes script start OpenBrace (start + 1)
     unfolding lex_as class_of
     open_token e = record {
-      lexes = lex_as_lem openBrace (ap class_of e) ∙ rw (one start) refl;
+      lexes = lex_as_lem open_brace (ap class_of e) ∙ rw (one start) refl;
       later = omega arith;
       inside = omega arith;
     }
@@ -48,7 +48,7 @@ module _ (script : List ℕ) (start : ℕ) (inside : start < length script) wher
     pub close_token : get_or script start 0 ≡ 125 → Lexes script start CloseBrace (start + 1)
     unfolding lex_as class_of
     close_token e = record {
-      lexes = lex_as_lem closeBrace (ap class_of e) ∙ rw (one start) refl;
+      lexes = lex_as_lem close_brace (ap class_of e) ∙ rw (one start) refl;
       later = omega arith;
       inside = omega arith;
     }
@@ -93,7 +93,7 @@ module _ (n : List ℕ) (t : Bool) (is : t ≡ starts_number n) where
   unfolding run_token word_of check ◌>>=◌
   run_long f h = rw (sym is ∙ f, run_token, lt-leb (length n) name_most h)
 
-run_list : (b : ℕ) (s : List ℕ) (k : ℕ) → run (b ∷ s) ≡ k → k ≤ length (b ∷ s) → lex_as runByte b s ≡ (run_token (take k (b ∷ s)) >>= λ t. lexeme t k)
+run_list : (b : ℕ) (s : List ℕ) (k : ℕ) → run (b ∷ s) ≡ k → k ≤ length (b ∷ s) → lex_as run_byte b s ≡ (run_token (take k (b ∷ s)) >>= λ t. lexeme t k)
 unfolding lex_as
 run_list b s k e h = rw (e, length-take-le k (b ∷ s) h)
 
@@ -109,7 +109,7 @@ module _ {script : List ℕ} {start end : ℕ} (R : RunAt script start) (e : end
 
   whole : lex (drop start script) ≡ (run_token (between script start end) >>= λ t. lexeme t (end - start))
   whole =
-      lex_as_lem script start R.inside runByte (run_class (get_or script start 0) R.is)
+      lex_as_lem script start R.inside run_byte (run_class (get_or script start 0) R.is)
       ∙ run_list (get_or script start 0) (drop (suc start) script) (end - start) (rw first at runs) (rw first at left)
       ∙ rw first refl
 
@@ -129,10 +129,10 @@ module _ {script : List ℕ} {start end : ℕ} (R : RunAt script start) (e : end
       inside = h;
     }
 
-    pub number_fault : t ≡ true → (n : Number) → read_number n ≡ tokens.number (between script start end) → read_number n ≡ fault SyntaxError
+    pub number_fault_lem : t ≡ true → (n : Number) → read_number n ≡ tokens.number (between script start end) → read_number n ≡ fault SyntaxError
         → lex (drop start script) ≡ fault SyntaxError
     unfolding ◌>>=◌
-    number_fault f n g i = whole ∙ rw (run_fault (between script start end) t is f (sym g ∙ i)) refl
+    number_fault_lem f n g i = whole ∙ rw (run_fault (between script start end) t is f (sym g ∙ i)) refl
 
     pub word_token : t ≡ false → end - start ≤ name_most → Lexes script start Word end
     unfolding ◌>>=◌

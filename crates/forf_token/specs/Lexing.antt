@@ -30,8 +30,8 @@ up_to_limit limit r = r >>= up_to limit
 abbrev pub token_of : List ℕ → ℕ → ℕ → Token → tokens.Token
 token_of script start next (Integer w) = tokens.integer w
 token_of script start next Word = tokens.word (take (next - start) (drop start script))
-token_of script start next OpenBrace = tokens.openBrace
-token_of script start next CloseBrace = tokens.closeBrace
+token_of script start next OpenBrace = tokens.open_brace
+token_of script start next CloseBrace = tokens.close_brace
 token_of script start next End = tokens.end
 
 -- The definition reads the token t at `start`, and `next` is the offset after it.

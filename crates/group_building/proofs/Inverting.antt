@@ -38,16 +38,16 @@ abbrev sort : Token → ℕ
 sort (Token.integer w) = 0
 sort (Token.string bs) = 0
 sort (Token.name x n) = 0
-sort Token.openBrace = 1
-sort Token.closeBrace = 2
+sort Token.open_brace = 1
+sort Token.close_brace = 2
 sort Token.end = 3
 
 leaf_sort : (t : Token) → is_leaf t ≡ true → sort t ≡ 0
 leaf_sort (Token.integer w) h = refl
 leaf_sort (Token.string bs) h = refl
 leaf_sort (Token.name x n) h = refl
-leaf_sort Token.openBrace h = absurd (false≢true h)
-leaf_sort Token.closeBrace h = absurd (false≢true h)
+leaf_sort Token.open_brace h = absurd (false≢true h)
+leaf_sort Token.close_brace h = absurd (false≢true h)
 leaf_sort Token.end h = absurd (false≢true h)
 
 -- The definition reads one token at a place.
@@ -84,7 +84,7 @@ module _ {script : List ℕ} where
   pub open_first : {d o after : ℕ} {ns : Nodes}
       → Parsed script d o ns after
       → {next : ℕ}
-      → Lexes script (skip script o) Token.openBrace next
+      → Lexes script (skip script o) Token.open_brace next
       → (less : ℕ) × (ms : Nodes) × (rest : Nodes) × (mid : ℕ)
       × (d ≡ suc less) × (ns ≡ inner ms rest) × Parsed script less next ms mid × Parsed script d mid rest after
   open_first (closes l) L = absurd (omega (arith, ap sort (one_token l L).0))
@@ -95,7 +95,7 @@ module _ {script : List ℕ} where
   pub close_first : {d o after : ℕ} {ns : Nodes}
       → Parsed script d o ns after
       → {next : ℕ}
-      → Lexes script (skip script o) Token.closeBrace next
+      → Lexes script (skip script o) Token.close_brace next
       → (ns ≡ end) × (next ≡ after)
   close_first (closes l) L = (refl, sym (one_token l L).1)
   close_first (token {t = t} l e p) L = absurd (omega (arith, ap sort (one_token l L).0, leaf_sort t e))

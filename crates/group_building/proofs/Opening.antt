@@ -94,7 +94,7 @@ unfolding array_set protect element_set make change with_read_only with_store
 same_dictionary id q n μ = refl
 
 module _ {s e d l script : List ℕ} {depth h id after : ℕ} {m : Machine} {cs : List ℕ} {at c : ℕ} {μ : Floo.Machine} {q : ℕ} {ns : Nodes} {next : ℕ}
-    (L : Lexes script (skip script at) Token.openBrace next) (A : At s e d l script depth h id after m cs at c μ q ns) where
+    (L : Lexes script (skip script at) Token.open_brace next) (A : At s e d l script depth h id after m cs at c μ q ns) where
   pub some_depth : 1 ≤ depth
   some_depth = omega (arith, (open_first A.parsed L).4)
 

@@ -87,8 +87,8 @@ leaf_is_set id q (Token.string bs) μ low =
     ap (λ (ν : Machine). string_filled (made μ) bs ν) (set_made id q (string (made μ)) (text (replicate (length bs) 0)) μ low)
     ∙ filled_last bs (set μ.store id (elements vs)) (made μ) (marked 1 μ) μ (length_made id vs μ)
 leaf_is_set id q (Token.name x n) μ low = set_alone id q (leaf_value (made μ) (Token.name x n)) μ
-leaf_is_set id q Token.openBrace μ low = set_alone id q null μ
-leaf_is_set id q Token.closeBrace μ low = set_alone id q null μ
+leaf_is_set id q Token.open_brace μ low = set_alone id q null μ
+leaf_is_set id q Token.close_brace μ low = set_alone id q null μ
 leaf_is_set id q Token.end μ low = set_alone id q null μ
 
 -- ---- a machine with an array restored

@@ -170,7 +170,7 @@ module _ {script : List ℕ} {at next : ℕ} {t : Token} (L : Lexes script (skip
       }
 
 -- An inner group.
-module _ {script : List ℕ} {at next : ℕ} (L : Lexes script (skip script at) Token.openBrace next) {d : List ℕ} {depth : ℕ} {m m₁ r : Machine} {cs cs₁ cs' : List ℕ}
+module _ {script : List ℕ} {at next : ℕ} (L : Lexes script (skip script at) Token.open_brace next) {d : List ℕ} {depth : ℕ} {m m₁ r : Machine} {cs cs₁ cs' : List ℕ}
     {c first mid : ℕ} (O : Opens script depth m cs next c m₁ cs₁ first) (B : Builds d script (depth - 1) m₁ cs₁ next first r cs' mid) where
   pub inner_turn : Turn d script depth m cs at c r cs' mid (word cs' c 2)
   unfolding planted count wanted names rest_at
@@ -253,7 +253,7 @@ go_on_lem G T same long =
 
 pub finish : {d script : List ℕ} {depth : ℕ} {m₀ : Machine} {cs₀ : List ℕ} {from first : ℕ} {m : Machine} {cs : List ℕ} {at c next : ℕ}
     → Going d script depth m₀ cs₀ from first m cs at c
-    → Lexes script (skip script at) Token.closeBrace next
+    → Lexes script (skip script at) Token.close_brace next
     → Builds d script depth m₀ cs₀ from first m cs next
 unfolding planted wanted
 finish {d = d} {m = m} {cs = cs} G L =
@@ -295,7 +295,7 @@ module _ {d script : List ℕ} {depth : ℕ} {m₀ : Machine} {cs₀ : List ℕ}
           subst (λ c'. Going d script depth m₀ cs₀ from first r cs' next c') (sym z) (go_on_lem G (leaf_turn K.1 K.2 u K.3 P) P.same size)
 
     module _ (next : ℕ) (g : answer ≡ piece.Open next) where
-      an_open : Lexes script (skip script at) Token.openBrace next
+      an_open : Lexes script (skip script at) Token.open_brace next
       an_open = subst (PieceAt script at) g K
 
       pub open_ready : ReadyOpen script depth m cs next c

@@ -34,8 +34,8 @@ unfoldable pub leaf_set : ℕ → ℕ → Token → Floo.Machine → Floo.Machin
 leaf_set id q (Token.integer w) μ = element_set id q (integer w) μ
 leaf_set id q (Token.string bs) μ = string_filled (made μ) bs (string_set id q (length bs) μ)
 leaf_set id q (Token.name x n) μ = element_set id q (name x n) μ
-leaf_set id q Token.openBrace μ = element_set id q null μ
-leaf_set id q Token.closeBrace μ = element_set id q null μ
+leaf_set id q Token.open_brace μ = element_set id q null μ
+leaf_set id q Token.close_brace μ = element_set id q null μ
 leaf_set id q Token.end μ = element_set id q null μ
 
 -- The elements of the array id from q on become these. An inner group's array is made before what is in it.
@@ -94,8 +94,8 @@ LeafIs script read.End t = ⊥
 
 abbrev pub PieceAt : List ℕ → ℕ → Piece → Type 0
 PieceAt script at (piece.Leaf u next) = (t : Token) × Lexes script (skip script at) t next × (is_leaf t ≡ true) × LeafIs script u t
-PieceAt script at (piece.Open next) = Lexes script (skip script at) Token.openBrace next
-PieceAt script at (piece.Close next) = Lexes script (skip script at) Token.closeBrace next
+PieceAt script at (piece.Open next) = Lexes script (skip script at) Token.open_brace next
+PieceAt script at (piece.Close next) = Lexes script (skip script at) Token.close_brace next
 
 -- ---- elements
 
@@ -141,12 +141,12 @@ pub record PutsName (d n : List ℕ) (tag : ℕ) (m : Machine) (cs : List ℕ) (
 
 abbrev pub ReadyOpen : List ℕ → ℕ → Machine → List ℕ → ℕ → ℕ → Type 0
 ReadyOpen script depth m cs next c =
-    (d : List ℕ) × (at : ℕ) × Lexes script (skip script at) Token.openBrace next × Ready d script depth m cs at c
+    (d : List ℕ) × (at : ℕ) × Lexes script (skip script at) Token.open_brace next × Ready d script depth m cs at c
 
 -- The first of the elements is an inner group: its array is there, and so are the elements after it.
 pub record Opens (script : List ℕ) (depth : ℕ) (m : Machine) (cs : List ℕ) (next c : ℕ) (r : Machine) (cs' : List ℕ) (first : ℕ) : Type 0 where
   pub opens : {s e d l : List ℕ} {h id after at : ℕ} {μ : Floo.Machine} {q : ℕ} {ns : Nodes}
-      → Lexes script (skip script at) Token.openBrace next
+      → Lexes script (skip script at) Token.open_brace next
       → (A : At s e d l script depth h id after m cs at c μ q ns)
       → (ms : Nodes) × (ns' : Nodes) × (mid : ℕ) × (x : ℕ)
       × (ns ≡ inner ms ns')

@@ -29,7 +29,7 @@ use Rattle.groups.specs.Parsing.{Parsed, JudgedAs, fault_of}
 use Rattle.groups.specs.declared.Judged.{Judged}
 use Rattle.groups.specs.declared.Judged.TheVariants.{Bad, Good}
 use Rattle.groups.proofs.Trees.{nested, nested_store, values_length, news_cells, group_parsed}
-use Rattle.taking.specs.Flat.{NamedAs, AddsNames, with_names, fault_of as faultIn}
+use Rattle.taking.specs.Flat.{NamedAs, AddsNames, with_names, fault_of as fault_in}
 use Rattle.taking.specs.declared.Named.{Named}
 use Rattle.taking.specs.declared.Named.TheVariants as named
 use Rattle.taking.proofs.Flattening.{parsed_flat}
@@ -93,12 +93,12 @@ module _ {script : List ℕ} {from : ℕ} (first : 1 ≤ from) (inside : from �
     stays : {s e c l : List ℕ} {μ : Floo.Machine} → Rep m s e d c l μ → Rep m s e d' c l μ
     stays R = kept_rep R (omega (arith, long, R.rooms.dict_fits)) (omega (arith, long, R.rooms.dict_few)) N.kept
 
-    pub group_full : {s c : List ℕ} {x y : Error} → r ≡ named.Bad x → y ≡ faultIn r → TakesGroup script from m s s d d' c c (Fail y after)
+    pub group_full : {s c : List ℕ} {x y : Error} → r ≡ named.Bad x → y ≡ fault_in r → TakesGroup script from m s s d d' c c (Fail y after)
     unfolding lent push with_stack filled grown change opened protect make with_read_only with_store with_dictionary
     group_full {s} {c} {x} {y} u q = record {
       takes = λ e l μ R.
           let full = subst (NamedAs (names ns) m s e d d' c l μ) u (named_as R) in
-          let same : LimitCheck ≡ y = sym (q ∙ ap faultIn u ∙ full.0) in
+          let same : LimitCheck ≡ y = sym (q ∙ ap fault_in u ∙ full.0) in
           (nested ns μ, read_is μ, room_slots (lent s e d c l) μ (procedure ns μ) full.1 ∙ ap fault same, refl, refl, stays R, low);
     }
 

@@ -22,7 +22,7 @@ use Rattle.token.specs.declared.Lexed.TheVariants as lexed
 use Rattle.token.specs.declared.Token.TheVariants as read
 use Rattle.token.specs.declared.Token as scanned
 use Rattle.groups.specs.Nodes.{Nodes, end, leaf, inner, count, wanted}
-use Rattle.groups.specs.Parsing.{Parsed, closes, token, opens, Faults, JudgedAs, WeighedAs, fault_of as faultIn, weighed_fault}
+use Rattle.groups.specs.Parsing.{Parsed, closes, token, opens, Faults, JudgedAs, WeighedAs, fault_of as fault_in, weighed_fault}
 use Rattle.groups.specs.declared.Judged.{Judged}
 use Rattle.groups.specs.declared.Judged.TheVariants.{Bad, Good}
 use Rattle.groups.specs.declared.Weighed.{Weighed}
@@ -140,7 +140,7 @@ module _ (script : List ℕ) (at start : ℕ) (begins : start ≡ skip script at
         (_, moved l.token, refl, omega arith, omega (arith, l.token.past, far))
 
     pub weigh_open : t ≡ read.OpenBrace → WeighedAs script at (weighed.Good Open next)
-    weigh_open q = subst (λ n. BraceToken script n Token.openBrace next) begins (at_token read.OpenBrace q)
+    weigh_open q = subst (λ n. BraceToken script n Token.open_brace next) begins (at_token read.OpenBrace q)
 
     pub weigh_close : t ≡ read.CloseBrace → WeighedAs script at (weighed.Good Close next)
     weigh_close q = moved (at_token read.CloseBrace q).token
@@ -193,10 +193,10 @@ module _ {script : List ℕ} {depth from at size wants : ℕ} (J : Judging scrip
       }
 
   module _ {next : ℕ} {r : Weighed} (g : r ≡ weighed.Good Open next) (k : WeighedAs script at r) where
-    brace : BraceToken script (skip script at) Token.openBrace next
+    brace : BraceToken script (skip script at) Token.open_brace next
     brace = subst (WeighedAs script at) g k
 
-    l : Lexes script (skip script at) Token.openBrace next
+    l : Lexes script (skip script at) Token.open_brace next
     l = brace.token
 
     -- The inner group's brace is the byte before its rest.
@@ -211,12 +211,12 @@ module _ {script : List ℕ} {depth from at size wants : ℕ} (J : Judging scrip
     judge_deep z = J.failing OverLimit (faults_via script (from - 1) depth at J.inside l (λ fuel i vs m h. rw z refl))
 
     module _ (d : ℕ) (some : depth ≡ suc d) {inside : Judged} (I : JudgedAs script d next inside) where
-      pub judge_inner_fault : {e : Fault} → inside ≡ Bad e → (x : Fault) → x ≡ faultIn inside → JudgedAs script depth from (Bad x)
+      pub judge_inner_fault : {e : Fault} → inside ≡ Bad e → (x : Fault) → x ≡ fault_in inside → JudgedAs script depth from (Bad x)
       unfolding element ◌>>=◌
       judge_inner_fault {e} u x q =
           let r : Faults script (next - 1) d next e = subst (JudgedAs script d next) u I in
           let f : Faults script (skip script at) d next e = subst (λ n. Faults script n d next e) opens_at r in
-          let same : x ≡ e = q ∙ ap faultIn u in
+          let same : x ≡ e = q ∙ ap fault_in u in
           rw same
           (J.failing e (faults_via script (from - 1) depth at J.inside l (λ fuel i vs m h. rw (some, f.says fuel (made m) [] (opened m) h) refl)))
 
@@ -246,7 +246,7 @@ module _ {script : List ℕ} {depth from at size wants : ℕ} (J : Judging scrip
   pub judge_close : {next : ℕ} {r : Weighed} → r ≡ weighed.Good Close next → WeighedAs script at r → JudgedAs script depth from (Good size wants next)
   unfolding count wanted
   judge_close {next} g k =
-      let l : Lexes script (skip script at) Token.closeBrace next = subst (WeighedAs script at) g k in
+      let l : Lexes script (skip script at) Token.close_brace next = subst (WeighedAs script at) g k in
       let r = J.parsing end next (closes l) in
       (r.0, r.1, omega (arith, r.2), omega (arith, r.3), omega (arith, J.few, l.past, (skip_le script at J.inside).0), l.inside)
 

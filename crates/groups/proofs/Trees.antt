@@ -199,8 +199,8 @@ element_leaf (Token.integer w) h rest i brace depth start after vs m =
 element_leaf (Token.string bs) h rest i brace depth start after vs m = refl
 element_leaf (Token.name x n) h rest i brace depth start after vs m =
     ap (λ (y : Machine). rest i brace depth after (name x n ∷ vs) y) (nothing_made m (slotted n m.dictionary))
-element_leaf Token.openBrace h rest i brace depth start after vs m = absurd (false≢true h)
-element_leaf Token.closeBrace h rest i brace depth start after vs m = absurd (false≢true h)
+element_leaf Token.open_brace h rest i brace depth start after vs m = absurd (false≢true h)
+element_leaf Token.close_brace h rest i brace depth start after vs m = absurd (false≢true h)
 element_leaf Token.end h rest i brace depth start after vs m = absurd (false≢true h)
 
 -- A group takes at least a byte, within the script.

@@ -18,8 +18,8 @@ abbrev pub is_leaf : Token → Bool
 is_leaf (Token.integer w) = true
 is_leaf (Token.string bs) = true
 is_leaf (Token.name x n) = true
-is_leaf Token.openBrace = false
-is_leaf Token.closeBrace = false
+is_leaf Token.open_brace = false
+is_leaf Token.close_brace = false
 is_leaf Token.end = false
 
 -- Its value, where k objects have been made before.
@@ -27,8 +27,8 @@ abbrev pub leaf_value : ℕ → Token → Value
 leaf_value k (Token.integer w) = integer w
 leaf_value k (Token.string bs) = string k
 leaf_value k (Token.name x n) = name x n
-leaf_value k Token.openBrace = null
-leaf_value k Token.closeBrace = null
+leaf_value k Token.open_brace = null
+leaf_value k Token.close_brace = null
 leaf_value k Token.end = null
 
 -- The object that it makes.
@@ -36,8 +36,8 @@ abbrev pub leaf_objects : Token → List Object
 leaf_objects (Token.integer w) = []
 leaf_objects (Token.string bs) = text bs ∷ []
 leaf_objects (Token.name x n) = []
-leaf_objects Token.openBrace = []
-leaf_objects Token.closeBrace = []
+leaf_objects Token.open_brace = []
+leaf_objects Token.close_brace = []
 leaf_objects Token.end = []
 
 -- The name that takes a slot.
@@ -45,8 +45,8 @@ abbrev pub leaf_names : Token → List (List ℕ)
 leaf_names (Token.integer w) = []
 leaf_names (Token.string bs) = []
 leaf_names (Token.name x n) = n ∷ []
-leaf_names Token.openBrace = []
-leaf_names Token.closeBrace = []
+leaf_names Token.open_brace = []
+leaf_names Token.close_brace = []
 leaf_names Token.end = []
 
 -- ---- a group

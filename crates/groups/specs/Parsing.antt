@@ -18,14 +18,14 @@ use Rattle.groups.specs.declared.Weight.TheVariants.{Element, Open, Close, End}
 
 -- From an offset on, with so many levels of inner groups left, the script has these elements and a closing brace, up to the offset after it.
 pub data Parsed (script : List ℕ) : ℕ → ℕ → Nodes → ℕ → Type 0 where
-  closes : {d o next : ℕ} → Lexes script (skip script o) Token.closeBrace next → Parsed script d o end next
+  closes : {d o next : ℕ} → Lexes script (skip script o) Token.close_brace next → Parsed script d o end next
   token : {d o next after : ℕ} {t : Token} {ns : Nodes}
       → Lexes script (skip script o) t next
       → is_leaf t ≡ true
       → Parsed script d next ns after
       → Parsed script d o (leaf t ns) after
   opens : {d o next mid after : ℕ} {ms ns : Nodes}
-      → Lexes script (skip script o) Token.openBrace next
+      → Lexes script (skip script o) Token.open_brace next
       → Parsed script d next ms mid
       → Parsed script (suc d) mid ns after
       → Parsed script (suc d) o (inner ms ns) after
@@ -45,8 +45,8 @@ JudgedAs script depth offset (Good size wants next) =
 abbrev pub WeightAs : List ℕ → ℕ → ℕ → Weight → Type 0
 WeightAs script offset next (Element wants) =
     (t : Token) × Lexes script (skip script offset) t next × (is_leaf t ≡ true) × (wants ≡ wanted (leaf t end)) × (wants + 1 + offset ≤ next)
-WeightAs script offset next Open = BraceToken script (skip script offset) Token.openBrace next
-WeightAs script offset next Close = Lexes script (skip script offset) Token.closeBrace next
+WeightAs script offset next Open = BraceToken script (skip script offset) Token.open_brace next
+WeightAs script offset next Close = Lexes script (skip script offset) Token.close_brace next
 WeightAs script offset next End = lex (skip script offset) (drop (skip script offset) script) ≡ lexeme Token.end 0
 
 abbrev pub WeighedAs : List ℕ → ℕ → Weighed → Type 0

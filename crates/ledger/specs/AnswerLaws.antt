@@ -4,7 +4,7 @@ use Rattle.std.specs.Prelude.{◌≡◌, refl, Bool, true, false, List, ℕ, len
 use Rattle.std.proofs.Common.{ap, subst, ◌∙◌, arith}
 use Rattle.std.proofs.Math.Option.{Option, none, some}
 use Rattle.book.specs.Books.{Entry, once}
-use Rattle.ledger.specs.Reading.{Refusal, Read, accepted, refused, badHeader, badQuoting, fieldCount, badNumber, badPlace, socketTwice, tooMany, ◌>>=◌, given, check, after_header, fresh, Lines, read_from, each, Row, row_of, entry_in, places_fit, numbers_of, reading}
+use Rattle.ledger.specs.Reading.{Refusal, Read, accepted, refused, bad_header, bad_quoting, field_count, bad_number, bad_place, socket_twice, too_many, ◌>>=◌, given, check, after_header, fresh, Lines, read_from, each, Row, row_of, entry_in, places_fit, numbers_of, reading}
 
 -- What an accepted text is at each stage.
 pub record Accepts (room : ℕ) (text : List ℕ) (es : List Entry) : Type 0 where
@@ -40,13 +40,13 @@ check_not r f e = ap (λ b. check b r >>= f) e
 pub accepts : {room : ℕ} {text : List ℕ} {es : List Entry} → Accepts room text es → reading room text ≡ accepted es
 unfolding reading
 accepts a =
-    given_then badHeader _ a.headed
-    ∙ given_then badQuoting _ a.quotes
-    ∙ given_then fieldCount _ a.threes
-    ∙ given_then badNumber _ a.numbers
-    ∙ check_then badPlace _ a.places
-    ∙ check_then socketTwice _ a.sockets
-    ∙ check_then tooMany _ a.roomy
+    given_then bad_header _ a.headed
+    ∙ given_then bad_quoting _ a.quotes
+    ∙ given_then field_count _ a.threes
+    ∙ given_then bad_number _ a.numbers
+    ∙ check_then bad_place _ a.places
+    ∙ check_then socket_twice _ a.sockets
+    ∙ check_then too_many _ a.roomy
 
 -- ---- backwards
 
@@ -71,12 +71,12 @@ check_back false r f e = absurd (no_answer e)
 pub accepts_back : (room : ℕ) (text : List ℕ) (es : List Entry) → reading room text ≡ accepted es → Accepts room text es
 unfolding reading
 accepts_back room text es e =
-    let h = given_back _ badHeader _ e in
-    let q = given_back _ badQuoting _ h.2 in
-    let t = given_back _ fieldCount _ q.2 in
-    let n = given_back _ badNumber _ t.2 in
-    let p = check_back _ badPlace _ n.2 in
-    let s = check_back _ socketTwice _ p.1 in
-    let m = check_back _ tooMany _ s.1 in
+    let h = given_back _ bad_header _ e in
+    let q = given_back _ bad_quoting _ h.2 in
+    let t = given_back _ field_count _ q.2 in
+    let n = given_back _ bad_number _ t.2 in
+    let p = check_back _ bad_place _ n.2 in
+    let s = check_back _ socket_twice _ p.1 in
+    let m = check_back _ too_many _ s.1 in
     subst (Accepts room text) (one_answer m.1)
     (record { body = h.0; found = q.0; rows = t.0; headed = h.1; quotes = q.1; threes = t.1; numbers = n.1; places = p.0; sockets = s.0; roomy = m.0 })

@@ -16,7 +16,7 @@ use Rattle.book.specs.Books.{Entry, IsEntry, greatest, entry_of, record_of, room
 use Rattle.book.specs.SoundLaws.{room_within, sound_count}
 use Rattle.book.specs.BookLaws.{record_entry, entry_range}
 use Rattle.book.specs.declared.Record.{Record}
-use Rattle.ledger.specs.Ledger.{needs_quotes, doubled, in_quotes, field, line, lines, header, ledger_text, entries_of, Writing, malformed, tooShort, written, written_in, writing}
+use Rattle.ledger.specs.Ledger.{needs_quotes, doubled, in_quotes, field, line, lines, header, ledger_text, entries_of, Writing, malformed, too_short, written, written_in, writing}
 use Rattle.ledger.specs.Reading.{accepted, numbers_of, reading, replaced}
 use Rattle.ledger.specs.Sound.{Sound}
 use Rattle.ledger.specs.RoundTrip.{round}
@@ -75,12 +75,12 @@ no_text e =
     let z : ◌≡◌ {A = ℕ} 0 1 = cc in
     absurd (omega arith)
 
-short_text_lem : {A : Type 0} {t : List ℕ} → tooShort ≡ written t → A
+short_text_lem : {A : Type 0} {t : List ℕ} → too_short ≡ written t → A
 short_text_lem e =
     let z : ◌≡◌ {A = ℕ} 0 1 = cc in
     absurd (omega arith)
 
-text_in : (b : Bool) (s t : List ℕ) → cond b (written s) tooShort ≡ written t → s ≡ t
+text_in : (b : Bool) (s t : List ℕ) → cond b (written s) too_short ≡ written t → s ≡ t
 text_in true s t e = cc
 text_in false s t e = short_text_lem e
 

@@ -6,7 +6,7 @@ use mathlib.Core.List.{List, [], ◌∷◌}
 use Rattle.std.proofs.Math.Option.{Option, none, some}
 use Rattle.semantics.specs.ResultLaws.{choose_cond}
 use Rattle.semantics.specs.ListLaws.{none_some, some_one}
-use Rattle.ledger.specs.Reading.{Mode, fresh, begins, plain, quoted, closing, returned, Act, keep, pass, endField, endLine, bad, closed_act, plain_act, first_act, act, Lines, ended, in_front, new_field, new_line, mapped, read_end, read_from}
+use Rattle.ledger.specs.Reading.{Mode, fresh, begins, plain, quoted, closing, returned, Act, keep, pass, end_field, end_line, bad, closed_act, plain_act, first_act, act, Lines, ended, in_front, new_field, new_line, mapped, read_end, read_from}
 use Rattle.ledger.specs.LineLaws.{with_bytes, bytes_fill}
 use Rattle.ledger.specs.Pieces.{Close, comma, line, end, over, wrong, piece_on, close_at, piece_from, after, piece_reads}
 
@@ -24,18 +24,18 @@ Later returned = Unit {0}
 abbrev On : Act → Type 0
 On (keep m) = Later m
 On (pass m) = Later m
-On endField = Unit {0}
-On endLine = Unit {0}
+On end_field = Unit {0}
+On end_line = Unit {0}
 On bad = Unit {0}
 
 closed_on : (b : ℕ) → On (closed_act b)
 unfolding closed_act
-closed_on b = choose_cond On (eqb b 44) endField _ (λ _. tt) (λ _. choose_cond On (eqb b 13) (pass returned) bad (λ _. tt) (λ _. tt))
+closed_on b = choose_cond On (eqb b 44) end_field _ (λ _. tt) (λ _. choose_cond On (eqb b 13) (pass returned) bad (λ _. tt) (λ _. tt))
 
 plain_on : (b : ℕ) → On (plain_act b)
 unfolding plain_act
 plain_on b =
-    choose_cond On (eqb b 44) endField _ (λ _. tt) (λ _. choose_cond On (eqb b 13) (pass returned) _ (λ _. tt) (λ _. choose_cond On (eqb b 34 || eqb b 10) bad (keep plain) (λ _. tt) (λ _. tt)))
+    choose_cond On (eqb b 44) end_field _ (λ _. tt) (λ _. choose_cond On (eqb b 13) (pass returned) _ (λ _. tt) (λ _. choose_cond On (eqb b 34 || eqb b 10) bad (keep plain) (λ _. tt) (λ _. tt)))
 
 first_on : (b : ℕ) → On (first_act b)
 unfolding first_act
@@ -48,7 +48,7 @@ act_on begins b = first_on b
 act_on plain b = plain_on b
 act_on quoted b = choose_cond On (eqb b 34) (pass closing) (keep quoted) (λ _. tt) (λ _. tt)
 act_on closing b = choose_cond On (eqb b 34) (keep quoted) (closed_act b) (λ _. tt) (λ _. closed_on b)
-act_on returned b = choose_cond On (eqb b 10) endLine bad (λ _. tt) (λ _. tt)
+act_on returned b = choose_cond On (eqb b 10) end_line bad (λ _. tt) (λ _. tt)
 
 abbrev pub is_over : Close → Bool
 is_over comma = false
@@ -86,8 +86,8 @@ byte_goes m b s ih = by (act m b) (act_on m b)
     by : (a : Act) → On a → is_over (piece_on (λ n. piece_from n s) b a).close ≡ false
     by (keep n) l = ih n l
     by (pass n) l = ih n l
-    by endField l = refl
-    by endLine l = refl
+    by end_field l = refl
+    by end_line l = refl
     by bad l = refl
 
 later_goes : (s : List ℕ) (m : Mode) → Later m → is_over (piece_from m s).close ≡ false
@@ -154,8 +154,8 @@ ends_drop m (b ∷ s) e = by (act m b) (λ n. ends_drop n s) e
     by : (a : Act) → ((n : Mode) → (piece_from n s).close ≡ end → drop (piece_from n s).taken s ≡ []) → (piece_on (λ n. piece_from n s) b a).close ≡ end → drop (piece_on (λ n. piece_from n s) b a).taken (b ∷ s) ≡ []
     by (keep n) ih e = ih n e
     by (pass n) ih e = ih n e
-    by endField ih e = absurd (true≢false (ap is_comma e))
-    by endLine ih e = absurd (true≢false (ap is_line e))
+    by end_field ih e = absurd (true≢false (ap is_comma e))
+    by end_line ih e = absurd (true≢false (ap is_line e))
     by bad ih e = absurd (true≢false (ap is_wrong e))
 
 -- ---- the first field

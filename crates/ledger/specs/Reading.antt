@@ -12,7 +12,7 @@ use Rattle.ledger.specs.Ledger.{header}
 
 -- In the order in which they are looked for.
 pub data Refusal : Type 0 where
-  badHeader badQuoting fieldCount badNumber badPlace socketTwice tooMany : Refusal
+  bad_header bad_quoting field_count bad_number bad_place socket_twice too_many : Refusal
 
 -- What a text is read as, or why it is refused.
 pub data Read (A : Type 0) : Type 0 where
@@ -61,15 +61,15 @@ pub data Mode : Type 0 where
 pub data Act : Type 0 where
   keep : Mode → Act  -- it is the field's next byte
   pass : Mode → Act  -- it is no byte of the field
-  endField endLine bad : Act
+  end_field end_line bad : Act
 
 -- After a field: a comma or CRLF.
 unfoldable pub closed_act : ℕ → Act
-closed_act b = cond (eqb b 44) endField (cond (eqb b 13) (pass returned) bad)
+closed_act b = cond (eqb b 44) end_field (cond (eqb b 13) (pass returned) bad)
 
 -- In a field without quotes: no quote, no lone LF.
 unfoldable pub plain_act : ℕ → Act
-plain_act b = cond (eqb b 44) endField (cond (eqb b 13) (pass returned) (cond (eqb b 34 || eqb b 10) bad (keep plain)))
+plain_act b = cond (eqb b 44) end_field (cond (eqb b 13) (pass returned) (cond (eqb b 34 || eqb b 10) bad (keep plain)))
 
 unfoldable pub first_act : ℕ → Act
 first_act b = cond (eqb b 34) (pass quoted) (plain_act b)
@@ -80,7 +80,7 @@ act begins b = first_act b
 act plain b = plain_act b
 act quoted b = cond (eqb b 34) (pass closing) (keep quoted)
 act closing b = cond (eqb b 34) (keep quoted) (closed_act b)
-act returned b = cond (eqb b 10) endLine bad
+act returned b = cond (eqb b 10) end_line bad
 
 -- Lines of fields of bytes.
 abbrev pub Lines : Type 0
@@ -113,8 +113,8 @@ mapped f (some a) = some (f a)
 unfoldable pub read_on : (Mode → Option Lines) → ℕ → Act → Option Lines
 read_on rest b (keep m) = mapped (in_front b) (rest m)
 read_on rest b (pass m) = rest m
-read_on rest b endField = mapped new_field (rest begins)
-read_on rest b endLine = mapped new_line (rest fresh)
+read_on rest b end_field = mapped new_field (rest begins)
+read_on rest b end_line = mapped new_line (rest fresh)
 read_on rest b bad = none
 
 -- The end of the text begins no line, ends a field, and is bad between quotes and after CR.
@@ -184,13 +184,13 @@ numbers_of es = map (λ (e : Entry). e.number) es
 -- The records of a text, where so many fit.
 unfoldable pub reading : ℕ → List ℕ → Read (List Entry)
 reading room text = do
-  body ← given (after_header text) badHeader
-  ls ← given (read_from fresh body) badQuoting
-  rows ← given (each row_of ls) fieldCount
-  es ← given (each entry_in rows) badNumber
-  _ ← check (places_fit es) badPlace
-  _ ← check (once (numbers_of es)) socketTwice
-  _ ← check (leb (length es) room) tooMany
+  body ← given (after_header text) bad_header
+  ls ← given (read_from fresh body) bad_quoting
+  rows ← given (each row_of ls) field_count
+  es ← given (each entry_in rows) bad_number
+  _ ← check (places_fit es) bad_place
+  _ ← check (once (numbers_of es)) socket_twice
+  _ ← check (leb (length es) room) too_many
   accepted es
 
 -- An accepted text's records replace the book; lent records past its count stay.

@@ -28,8 +28,8 @@ act_is KeepQuoted = reading.keep reading.quoted
 act_is Open = reading.pass reading.quoted
 act_is Shut = reading.pass reading.closing
 act_is Return = reading.pass reading.returned
-act_is EndField = reading.endField
-act_is EndLine = reading.endLine
+act_is EndField = reading.end_field
+act_is EndLine = reading.end_line
 act_is Bad = reading.bad
 
 abbrev pub close_is : Close → pieces.Close

@@ -11,7 +11,7 @@ use lib.Dec.{leb}
 use borrow.Author.Tests.{le-leb, lt-leb}
 use Rattle.semantics.specs.ListLaws.{none_some, some_one}
 use Rattle.book.specs.Books.{Entry, once}
-use Rattle.ledger.specs.Reading.{Refusal, Read, accepted, refused, ◌>>=◌, check, badHeader, badQuoting, fieldCount, badNumber, badPlace, socketTwice, tooMany, after_header, fresh, Lines, read_from, mapped, each, Row, row_of, entry_in, places_fit, numbers_of, reading}
+use Rattle.ledger.specs.Reading.{Refusal, Read, accepted, refused, ◌>>=◌, check, bad_header, bad_quoting, field_count, bad_number, bad_place, socket_twice, too_many, after_header, fresh, Lines, read_from, mapped, each, Row, row_of, entry_in, places_fit, numbers_of, reading}
 use Rattle.ledger.specs.AnswerLaws.{given_then, given_not, check_then, check_not}
 use Rattle.ledger.specs.Pieces.{is_there}
 use Rattle.ledger.specs.Stages.{Staged, counted, numbered, placed, passed}
@@ -79,12 +79,12 @@ module _ (room : ℕ) (text : List ℕ) where
   refusing why e t = let z = t.1 in refuses why e t.0 t.2 (omega (arith, z))
 
   module _ {start : ℕ} (h : Headed text start) where
-    pub header_bad : {r : Judged} → start ≡ 0 → Told r badHeader → Judges room text r
+    pub header_bad : {r : Judged} → start ≡ 0 → Told r bad_header → Judges room text r
     unfolding reading
     header_bad {r} z t = by h
       where
         by : Headed text start → Judges room text r
-        by (bad e n) = refusing badHeader (given_not badHeader _ n) t
+        by (bad e n) = refusing bad_header (given_not bad_header _ n) t
         by (good l i n) = absurd (omega (arith, z, l))
 
     module _ (some-start : start ≡ 0 → ⊥) where
@@ -108,26 +108,26 @@ module _ (room : ℕ) (text : List ℕ) where
       not_there (some ls) e = let z : ◌≡◌ {A = ℕ} 0 1 = cc in absurd (omega arith)
 
       module _ {t : Bool} (is : t ≡ is_there (read_from fresh (drop start text))) where
-        pub quoting_bad : {r : Judged} → t ≡ false → Told r badQuoting → Judges room text r
+        pub quoting_bad : {r : Judged} → t ≡ false → Told r bad_quoting → Judges room text r
         unfolding reading
-        quoting_bad e told = refusing badQuoting (given_then badHeader _ headed ∙ given_not badQuoting _ (not_there _ (sym is ∙ e))) told
+        quoting_bad e told = refusing bad_quoting (given_then bad_header _ headed ∙ given_not bad_quoting _ (not_there _ (sym is ∙ e))) told
 
         module _ {all : Tally} (a : Tallied text start all) where
-          pub count_bad : {r : Judged} → all.rank ≡ 0 → Told r fieldCount → Judges room text r
+          pub count_bad : {r : Judged} → all.rank ≡ 0 → Told r field_count → Judges room text r
           unfolding reading
-          count_bad e told = refusing fieldCount (given_then badHeader _ headed ∙ given_then badQuoting _ a.reads ∙ given_not fieldCount _ (stage_none a.staged e)) told
+          count_bad e told = refusing field_count (given_then bad_header _ headed ∙ given_then bad_quoting _ a.reads ∙ given_not field_count _ (stage_none a.staged e)) told
 
-          pub number_bad : {r : Judged} → all.rank ≡ 1 → Told r badNumber → Judges room text r
+          pub number_bad : {r : Judged} → all.rank ≡ 1 → Told r bad_number → Judges room text r
           unfolding reading
           number_bad e told =
               let s = stage_number a.staged e in
-              refusing badNumber (given_then badHeader _ headed ∙ given_then badQuoting _ a.reads ∙ given_then fieldCount _ s.threes ∙ given_not badNumber _ s.numbers) told
+              refusing bad_number (given_then bad_header _ headed ∙ given_then bad_quoting _ a.reads ∙ given_then field_count _ s.threes ∙ given_not bad_number _ s.numbers) told
 
-          pub place_bad : {r : Judged} → all.rank ≡ 2 → Told r badPlace → Judges room text r
+          pub place_bad : {r : Judged} → all.rank ≡ 2 → Told r bad_place → Judges room text r
           unfolding reading
           place_bad e told =
               let s = stage_place a.staged e in
-              refusing badPlace (given_then badHeader _ headed ∙ given_then badQuoting _ a.reads ∙ given_then fieldCount _ s.threes ∙ given_then badNumber _ s.numbers ∙ check_not badPlace _ s.places) told
+              refusing bad_place (given_then bad_header _ headed ∙ given_then bad_quoting _ a.reads ∙ given_then field_count _ s.threes ∙ given_then bad_number _ s.numbers ∙ check_not bad_place _ s.places) told
 
           module _ (x : all.rank ≡ 0 → ⊥) (y : all.rank ≡ 1 → ⊥) (z : all.rank ≡ 2 → ⊥) where
             s : AtPlaces a.lines true
@@ -140,14 +140,14 @@ module _ (room : ℕ) (text : List ℕ) where
             rests = (s.records, rest)
 
             -- What is left to be decided once every place is in range.
-            placed_all : reading room text ≡ (check (once (numbers_of s.records)) socketTwice >>= λ _. check (leb (length s.records) room) tooMany >>= λ _. accepted s.records)
+            placed_all : reading room text ≡ (check (once (numbers_of s.records)) socket_twice >>= λ _. check (leb (length s.records) room) too_many >>= λ _. accepted s.records)
             unfolding reading
             placed_all =
-                given_then badHeader _ headed
-                ∙ given_then badQuoting _ a.reads
-                ∙ given_then fieldCount _ s.threes
-                ∙ given_then badNumber _ s.numbers
-                ∙ check_then badPlace _ s.places
+                given_then bad_header _ headed
+                ∙ given_then bad_quoting _ a.reads
+                ∙ given_then field_count _ s.threes
+                ∙ given_then bad_number _ s.numbers
+                ∙ check_then bad_place _ s.places
 
             many : length s.records ≡ all.count
             many = each_length entry_in s.rows s.records s.numbers ∙ each_length row_of a.lines s.rows s.threes ∙ a.counts x
@@ -156,27 +156,27 @@ module _ (room : ℕ) (text : List ℕ) where
               alone : u ≡ once (numbers_of s.records)
               alone = o.alone ∙ ap (λ es. once (numbers_of es)) (rest_one o.rest rest)
 
-              pub socket_twice : {r : Judged} → u ≡ false → Told r socketTwice → Judges room text r
-              socket_twice e told =
-                  refusing socketTwice
+              pub socket_twice_lem : {r : Judged} → u ≡ false → Told r socket_twice → Judges room text r
+              socket_twice_lem e told =
+                  refusing socket_twice
                   (placed_all
-                  ∙ check_not socketTwice _ (sym alone ∙ e))
+                  ∙ check_not socket_twice _ (sym alone ∙ e))
                   told
 
-              pub too_many : {r : Judged} → u ≡ true → room < all.count → Told r tooMany → Judges room text r
-              too_many e l told =
-                  refusing tooMany
+              pub too_many_lem : {r : Judged} → u ≡ true → room < all.count → Told r too_many → Judges room text r
+              too_many_lem e l told =
+                  refusing too_many
                   (placed_all
-                  ∙ check_then socketTwice _ (sym alone ∙ e)
-                  ∙ check_not tooMany _ (lt-leb (length s.records) room (let m = many in omega (arith, l, m))))
+                  ∙ check_then socket_twice _ (sym alone ∙ e)
+                  ∙ check_not too_many _ (lt-leb (length s.records) room (let m = many in omega (arith, l, m))))
                   told
 
               pub all_read : u ≡ true → all.count ≤ room → Judges room text (record { answer = Accepted all.count; start = start; count = all.count })
               all_read e l =
                   accepts s.records
                   (placed_all
-                  ∙ check_then socketTwice _ (sym alone ∙ e)
-                  ∙ check_then tooMany _ (le-leb (length s.records) room (let m = many in omega (arith, l, m))))
+                  ∙ check_then socket_twice _ (sym alone ∙ e)
+                  ∙ check_then too_many _ (le-leb (length s.records) room (let m = many in omega (arith, l, m))))
                   (ap Accepted (sym many))
                   (sym many)
                   rest

@@ -14,13 +14,13 @@ use Rattle.ledger_reader.specs.declared.Judged.{Judged}
 -- The answer to a reading: how many records were read, or why the text is refused.
 abbrev pub answer_of : Read (List Entry) → Reading
 answer_of (accepted es) = Accepted (length es)
-answer_of (refused reading.badHeader) = BadHeader
-answer_of (refused reading.badQuoting) = BadQuoting
-answer_of (refused reading.fieldCount) = FieldCount
-answer_of (refused reading.badNumber) = BadNumber
-answer_of (refused reading.badPlace) = BadPlace
-answer_of (refused reading.socketTwice) = SocketTwice
-answer_of (refused reading.tooMany) = TooMany
+answer_of (refused reading.bad_header) = BadHeader
+answer_of (refused reading.bad_quoting) = BadQuoting
+answer_of (refused reading.field_count) = FieldCount
+answer_of (refused reading.bad_number) = BadNumber
+answer_of (refused reading.bad_place) = BadPlace
+answer_of (refused reading.socket_twice) = SocketTwice
+answer_of (refused reading.too_many) = TooMany
 
 -- An accepted text's records replace the book; a refusal leaves it.
 abbrev pub book_after : Read (List Entry) → List Record → List Record

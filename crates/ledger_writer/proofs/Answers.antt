@@ -12,7 +12,7 @@ use Rattle.semantics.specs.ObjectOperators.{pasted}
 use Rattle.book.specs.Books.{room_of, is_sound}
 use Rattle.book.specs.SoundLaws.{each_sound}
 use Rattle.book.specs.declared.Record.{Record}
-use Rattle.ledger.specs.Ledger.{ledger_text, entries_of, Writing, malformed, tooShort, written, written_in, writing}
+use Rattle.ledger.specs.Ledger.{ledger_text, entries_of, Writing, malformed, too_short, written, written_in, writing}
 use Rattle.ledger_writer.specs.declared.Written.{Written}
 use Rattle.ledger_writer.specs.declared.Written.TheVariants.{BookMalformed, TooShort, Wrote}
 use Rattle.ledger_writer.specs.Emitting.{Emitted, answer_of, text_after, told, Writes}
@@ -38,9 +38,9 @@ module _ (ys : List Record) where
     sound_writes : (y : Bool) → is_sound ys count ≡ true → y ≡ leb (length (T count)) (length old) → new ≡ cond y (pasted 0 (T count) old) old → r ≡ told true y (length (T count)) → Writes ys count old new r
     unfolding writing written_in
     sound_writes true s e b a =
-        told_writes (written (T count)) (ap (λ t. cond t (written_in (length old) (T count)) malformed) s ∙ ap (λ l. cond l (written (T count)) tooShort) (sym e)) a b
+        told_writes (written (T count)) (ap (λ t. cond t (written_in (length old) (T count)) malformed) s ∙ ap (λ l. cond l (written (T count)) too_short) (sym e)) a b
     sound_writes false s e b a =
-        told_writes tooShort (ap (λ t. cond t (written_in (length old) (T count)) malformed) s ∙ ap (λ l. cond l (written (T count)) tooShort) (sym e)) a b
+        told_writes too_short (ap (λ t. cond t (written_in (length old) (T count)) malformed) s ∙ ap (λ l. cond l (written (T count)) too_short) (sym e)) a b
 
     pub writes : (n bytes end : ℕ) (t y : Bool) {mid : List ℕ}
         → t ≡ is_sound ys count

@@ -2,7 +2,7 @@
 -- Assumes nothing.
 use Rattle.std.specs.Prelude.{◌≡◌, Bool, true, false, ◌&&◌, cond, List, [], ℕ, ◌+◌, ◌≤◌, ◌<◌, ◌^◌, length}
 use Rattle.semantics.specs.ObjectOperators.{pasted}
-use Rattle.ledger.specs.Ledger.{Writing, malformed, tooShort, written, writing, line}
+use Rattle.ledger.specs.Ledger.{Writing, malformed, too_short, written, writing, line}
 use Rattle.book.specs.Books.{Entry, entry_of}
 use Rattle.book.specs.declared.Record.{Record}
 use Rattle.ledger_writer.specs.declared.Written.{Written}
@@ -25,12 +25,12 @@ line_of r = line (entry_of r) []
 -- The answer to what becomes of a book that is written, and the lent text after it.
 abbrev pub answer_of : Writing → Written
 answer_of malformed = BookMalformed
-answer_of tooShort = TooShort
+answer_of too_short = TooShort
 answer_of (written t) = Wrote (length t)
 
 abbrev pub text_after : Writing → List ℕ → List ℕ
 text_after malformed old = old
-text_after tooShort old = old
+text_after too_short old = old
 text_after (written t) old = pasted 0 t old
 
 -- The answer by whether the book is sound and its text is written.

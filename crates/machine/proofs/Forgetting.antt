@@ -2,14 +2,11 @@
 -- Assumes nothing.
 use mathlib.Core.Path.{◌≡◌, refl, sym, subst}
 use mathlib.Core.List.{List}
-use Prim.Native.Nat.{ℕ, suc, ◌+◌, ◌-◌, ◌*◌, ◌≤◌, ◌<◌}
+use Prim.Native.Nat.{ℕ, ◌-◌, ◌≤◌, ◌<◌}
 use native.Mathlib.Omega.{arith}
-use lib.ListN.{get_or}
-use Rattle.semantics.specs.Machine as Floo
 use Rattle.heap.specs.Shape.{Full}
 use Rattle.heap.specs.declared.Lists.{Lists}
 use Rattle.heap.proofs.Parts as parts
-use Rattle.machine.specs.Rep.{Rep}
 use Rattle.machine.specs.Recount.{Recounts}
 use Rattle.machine.specs.declared.Machine.{Machine}
 use Rattle.machine.proofs.Recounting.{nothing_to_let_go}

@@ -12,7 +12,6 @@ use Rattle.semantics.specs.Values.{Value, integer, boolean}
 use Rattle.semantics.specs.Machine.{Machine, with_stack}
 use Rattle.semantics.specs.ListLaws.{All, nil, cons}
 use Rattle.heap.proofs.Upds.{at_upd}
-use Rattle.store.specs.Rep as Store
 use Rattle.store.specs.Rep.{Names, by_string, by_array}
 use Rattle.machine.specs.Places.{is_object, Nameless, from_end, root_in, roots}
 

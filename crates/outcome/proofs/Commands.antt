@@ -279,7 +279,7 @@ pub ending_few : {m : Machine} {s e d c l : List ℕ} {μ : Floo.Machine} (scrip
 unfolding ending_of
 ending_few script Finished R h = ending_length Steps.finished (omega arith)
 ending_few script Stopped R h = ending_length Steps.stopped (omega arith)
-ending_few script OutOfFuel R h = ending_length Steps.outOfFuel (omega arith)
+ending_few script OutOfFuel R h = ending_length Steps.out_of_fuel (omega arith)
 ending_few {μ = μ} script (Failed error command) R h = ending_length (Steps.failed error (command_text script (keys μ) command)) (command_length script command R h)
 ending_few script (Misread f) R h = ending_length (Steps.misread f) (omega arith)
 

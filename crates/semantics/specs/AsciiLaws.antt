@@ -9,7 +9,7 @@ use Rattle.semantics.specs.Values.{Value, integer, boolean, null, mark, operator
 use Rattle.semantics.specs.Machine.{Machine, object, elements_of, bytes_of}
 use Rattle.semantics.specs.Printing.{truth, escaped, name_byte, name_text, item}
 use Rattle.semantics.specs.Held.{held_cells}
-use Rattle.semantics.specs.Steps.{Ending, finished, stopped, outOfFuel, failed, misread, Run}
+use Rattle.semantics.specs.Steps.{Ending, finished, stopped, out_of_fuel, failed, misread, Run}
 use Rattle.semantics.specs.Errors.{error_text, fault_text, where_text}
 use Rattle.semantics.specs.Outcome.{line, ending_lines, where_of, items, outcome}
 use Rattle.semantics.specs.TextLaws.{decimal_all}
@@ -144,7 +144,7 @@ place_ascii : (e : Ending) → Ascii (where_of e)
 unfolding where_of
 place_ascii finished = nil
 place_ascii stopped = nil
-place_ascii outOfFuel = nil
+place_ascii out_of_fuel = nil
 place_ascii (failed e c) = nil
 place_ascii (misread f) = where_ascii f
 
@@ -152,7 +152,7 @@ place_ascii (misread f) = where_ascii f
 abbrev pub PlainEnding : Ending → Type 0
 PlainEnding finished = Unit {0}
 PlainEnding stopped = Unit {0}
-PlainEnding outOfFuel = Unit {0}
+PlainEnding out_of_fuel = Unit {0}
 PlainEnding (failed e c) = Bytes c
 PlainEnding (misread f) = Unit {0}
 
@@ -160,7 +160,7 @@ ending_ascii : (e : Ending) → PlainEnding e → Ascii (ending_lines e)
 unfolding ending_lines bytes
 ending_ascii finished h = words_ascii _ tt
 ending_ascii stopped h = words_ascii _ tt
-ending_ascii outOfFuel h = words_ascii _ tt
+ending_ascii out_of_fuel h = words_ascii _ tt
 ending_ascii (failed e c) h =
     all_append (all_append (words_ascii (bytes "ending=error\n") tt) (line_ascii (words_ascii (bytes "error") tt) (error_ascii e)))
     (line_ascii (words_ascii (bytes "command") tt) (name_ascii true h))

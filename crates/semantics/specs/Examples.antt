@@ -13,7 +13,7 @@ use Rattle.semantics.specs.Printing.{printing, joined, item}
 use Rattle.semantics.specs.Operators.{operators}
 use Rattle.semantics.specs.Held.{holding}
 use Rattle.semantics.specs.Groups.{grouping}
-use Rattle.semantics.specs.Steps.{Ending, finished, stopped, outOfFuel, failed, misread, Run, run, initial, stepping}
+use Rattle.semantics.specs.Steps.{Ending, finished, stopped, out_of_fuel, failed, misread, Run, run, initial, stepping}
 use Rattle.semantics.specs.Outcome.{outcomes}
 use Rattle.semantics.specs.Setup.{Lent, limits, refusal, printed, refused, faulty, read, reading, settings}
 use Rattle.semantics.specs.Errors.{error_text, errors}
@@ -54,7 +54,7 @@ left s = items_of (run (limits (lent 4096 dictionary_words_most)) (bytes "#FLOO\
 error_in : Ending → List ℕ
 error_in finished = []
 error_in stopped = []
-error_in outOfFuel = []
+error_in out_of_fuel = []
 error_in (failed e c) = error_text e
 error_in (misread f) = []
 

@@ -42,10 +42,10 @@ module _ (size : ℕ) where
   element_inside rest f i brace depth start bytes vs m (Token.integer w) h k = later (omega arith) (f i brace depth (start + bytes) _ _ (omega arith))
   element_inside rest f i brace depth start bytes vs m (Token.string bs) h k = later (omega arith) (f i brace depth (start + bytes) _ _ (omega arith))
   element_inside rest f i brace depth start bytes vs m (Token.name x n) h k = later (omega arith) (f i brace depth (start + bytes) _ _ (omega arith))
-  element_inside rest f i brace zero start bytes vs m Token.openBrace h k = fails
-  element_inside rest f i brace (suc d) start bytes vs m Token.openBrace h k =
+  element_inside rest f i brace zero start bytes vs m Token.open_brace h k = fails
+  element_inside rest f i brace (suc d) start bytes vs m Token.open_brace h k =
       gives_then (f (made m) start d (start + bytes) _ _ (omega arith)) (λ t k. later (omega arith) (f i brace (suc d) t.after _ _ k.1))
-  element_inside rest f i brace depth start bytes vs m Token.closeBrace h k =
+  element_inside rest f i brace depth start bytes vs m Token.close_brace h k =
       let first : start < start + bytes = omega arith in
       let last : start + bytes ≤ size = omega arith in
       gives (first, last)
@@ -61,12 +61,12 @@ module _ (size : ℕ) where
   element_same rest other i brace depth start bytes vs m (Token.integer w) f e h k = e i brace depth (start + bytes) _ _ (omega arith) (omega arith)
   element_same rest other i brace depth start bytes vs m (Token.string bs) f e h k = e i brace depth (start + bytes) _ _ (omega arith) (omega arith)
   element_same rest other i brace depth start bytes vs m (Token.name x n) f e h k = e i brace depth (start + bytes) _ _ (omega arith) (omega arith)
-  element_same rest other i brace zero start bytes vs m Token.openBrace f e h k = refl
-  element_same rest other i brace (suc d) start bytes vs m Token.openBrace f e h k =
+  element_same rest other i brace zero start bytes vs m Token.open_brace f e h k = refl
+  element_same rest other i brace (suc d) start bytes vs m Token.open_brace f e h k =
       let inner : rest (made m) start d (start + bytes) [] (opened m) ≡ other (made m) start d (start + bytes) [] (opened m) = e (made m) start d (start + bytes) [] (opened m) (omega arith) (omega arith) in
       then_same (f (made m) start d (start + bytes) [] (opened m) (omega arith)) (λ t k. e i brace (suc d) t.after _ _ (omega arith) k.1)
       ∙ ap (λ r. r >>= λ (t : Taken). other i brace (suc d) t.after (t.value ∷ vs) t.machine) inner
-  element_same rest other i brace depth start bytes vs m Token.closeBrace f e h k = refl
+  element_same rest other i brace depth start bytes vs m Token.close_brace f e h k = refl
   element_same rest other i brace depth start bytes vs m Token.end f e h k = refl
 
 module _ (script : List ℕ) where

@@ -43,11 +43,11 @@ unfoldable pub element : Reader → ℕ → ℕ → ℕ → ℕ → ℕ → List
 element rest i brace depth start after vs m (Token.integer w) = rest i brace depth after (integer w ∷ vs) m
 element rest i brace depth start after vs m (Token.string bs) = rest i brace depth after (string (made m) ∷ vs) (enclosed bs m)
 element rest i brace depth start after vs m (Token.name x n) = rest i brace depth after (name x n ∷ vs) (intern n m)
-element rest i brace zero start after vs m Token.openBrace = fault OverLimit
-element rest i brace (suc d) start after vs m Token.openBrace = do
+element rest i brace zero start after vs m Token.open_brace = fault OverLimit
+element rest i brace (suc d) start after vs m Token.open_brace = do
   t ← rest (made m) start d after [] (opened m)
   rest i brace (suc d) t.after (t.value ∷ vs) t.machine
-element rest i brace depth start after vs m Token.closeBrace = closed i vs m after
+element rest i brace depth start after vs m Token.close_brace = closed i vs m after
 element rest i brace depth start after vs m Token.end = fault (BadBrace brace)
 
 -- The rest of a brace group. `fuel` bounds the tokens read; `GroupLaws` proves that it is never spent.
@@ -64,8 +64,8 @@ token_value script m start after (Token.integer w) = taken (integer w) m after
 token_value script m start after (Token.string bs) = taken (string (made m)) (make (text bs) m) after
 token_value script m start after (Token.name true n) = taken (name true n) m after
 token_value script m start after (Token.name false n) = taken (name false n) (intern n m) after
-token_value script m start after Token.openBrace = group script (length script) (made m) start 15 after [] (opened m)
-token_value script m start after Token.closeBrace = fault (BadBrace start)
+token_value script m start after Token.open_brace = group script (length script) (made m) start 15 after [] (opened m)
+token_value script m start after Token.close_brace = fault (BadBrace start)
 token_value script m start after Token.end = fault (BadBrace start)
 
 -- The value of the token at `start`, which is neither space nor comment.

@@ -7,7 +7,7 @@ use Rattle.semantics.specs.Machine.{Machine}
 use Rattle.semantics.specs.Printing.{name_text, item}
 use Rattle.semantics.specs.Errors.{error_text, fault_text, where_text}
 use Rattle.semantics.specs.Held.{held_cells}
-use Rattle.semantics.specs.Steps.{Ending, finished, stopped, outOfFuel, failed, misread, Run}
+use Rattle.semantics.specs.Steps.{Ending, finished, stopped, out_of_fuel, failed, misread, Run}
 
 unfoldable pub line : List ℕ → List ℕ → List ℕ
 line key value = key ++ bytes "=" ++ value ++ bytes "\n"
@@ -16,7 +16,7 @@ line key value = key ++ bytes "=" ++ value ++ bytes "\n"
 unfoldable pub ending_lines : Ending → List ℕ
 ending_lines finished = bytes "ending=finished\nerror=none\ncommand=\n"
 ending_lines stopped = bytes "ending=stopped\nerror=none\ncommand=\n"
-ending_lines outOfFuel = bytes "ending=fuel\nerror=none\ncommand=\n"
+ending_lines out_of_fuel = bytes "ending=fuel\nerror=none\ncommand=\n"
 ending_lines (failed e c) = bytes "ending=error\n" ++ line (bytes "error") (error_text e) ++ line (bytes "command") (name_text true c)
 ending_lines (misread f) = bytes "ending=error\n" ++ line (bytes "error") (fault_text f) ++ bytes "command=\n"
 
@@ -24,7 +24,7 @@ ending_lines (misread f) = bytes "ending=error\n" ++ line (bytes "error") (fault
 unfoldable pub where_of : Ending → List ℕ
 where_of finished = []
 where_of stopped = []
-where_of outOfFuel = []
+where_of out_of_fuel = []
 where_of (failed e c) = []
 where_of (misread f) = where_text f
 

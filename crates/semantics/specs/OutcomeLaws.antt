@@ -11,7 +11,7 @@ use Rattle.semantics.specs.Machine.{Machine, object, elements_of, bytes_of}
 use Rattle.semantics.specs.Printing.{truth, escaped, name_byte, name_text, item}
 use Rattle.semantics.specs.Held.{held_cells}
 use Rattle.semantics.specs.Tokens.{within}
-use Rattle.semantics.specs.Steps.{Ending, finished, stopped, outOfFuel, failed, misread, Run}
+use Rattle.semantics.specs.Steps.{Ending, finished, stopped, out_of_fuel, failed, misread, Run}
 use Rattle.semantics.specs.Errors.{error_text, fault_text, where_text}
 use Rattle.semantics.specs.Outcome.{line, ending_lines, where_of, items, outcome}
 use Rattle.semantics.specs.TextLaws.{decimal_length}
@@ -130,7 +130,7 @@ where_length OverLimit = omega arith
 abbrev pub command_in : Ending → List ℕ
 command_in finished = []
 command_in stopped = []
-command_in outOfFuel = []
+command_in out_of_fuel = []
 command_in (failed e c) = c
 command_in (misread f) = []
 
@@ -139,7 +139,7 @@ pub ending_length : (e : Ending) → length (command_in e) ≤ name_most → len
 unfolding ending_lines where_of name_text bytes
 ending_length finished h = omega arith
 ending_length stopped h = omega arith
-ending_length outOfFuel h = omega arith
+ending_length out_of_fuel h = omega arith
 ending_length (failed e c) h =
     simp length-append (omega (arith, line_length (bytes "error") (error_text e), line_length (bytes "command") (name_text true c), escaped_length c, error_length e))
 ending_length (misread f) h = simp length-append (omega (arith, line_length (bytes "error") (fault_text f), fault_length f, where_length f))

@@ -8,7 +8,7 @@ use Rattle.semantics.specs.Errors.{error_text}
 use Rattle.semantics.specs.Machine.{Machine, Frame, lookup}
 use Rattle.semantics.specs.Tokens.{Lexing}
 use Rattle.semantics.specs.Groups.{Taken, skip, take_token}
-use Rattle.semantics.specs.Steps.{Limits, State, Step, goes, fails, misreads, unmoved, failing, ended, moved, token_step, step_on, step, Run, stopped, outOfFuel, is_finished, finish, go_on, run}
+use Rattle.semantics.specs.Steps.{Limits, State, Step, goes, fails, misreads, unmoved, failing, ended, moved, token_step, step_on, step, Run, stopped, out_of_fuel, is_finished, finish, go_on, run}
 use Rattle.semantics.specs.ResultLaws.{choose}
 use Rattle.semantics.specs.declared.Error.{Error}
 use Rattle.semantics.specs.declared.Fault.{Fault}
@@ -70,7 +70,7 @@ go_on_steps rest fuel σ f (unread h k n) = omega arith
 pub run_steps : (l : Limits) (script : List ℕ) (fuel : ℕ) (σ : State) → (run l script fuel σ).final.steps ≤ σ.steps + fuel
 unfolding run finish
 run_steps l script zero σ =
-    choose (λ (r : Run). r.final.steps ≤ σ.steps + 0) (is_finished script σ) (finish script σ) (record { ending = outOfFuel; final = σ })
+    choose (λ (r : Run). r.final.steps ≤ σ.steps + 0) (is_finished script σ) (finish script σ) (record { ending = out_of_fuel; final = σ })
     (λ t. omega arith)
     (λ t. omega arith)
 run_steps l script (suc fuel) σ =

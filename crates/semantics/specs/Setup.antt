@@ -93,8 +93,8 @@ reading_of start l =
       | Token.string bs ↦ read String after (start + 1) (l.size - 2)
       | Token.name true n ↦ read ExecutableName after start l.size
       | Token.name false n ↦ read LiteralName after (start + 1) (l.size - 1)
-      | Token.openBrace ↦ read OpenBrace after start 1
-      | Token.closeBrace ↦ read CloseBrace after start 1
+      | Token.open_brace ↦ read OpenBrace after start 1
+      | Token.close_brace ↦ read CloseBrace after start 1
       | Token.end ↦ read End after start 0
     ]
 

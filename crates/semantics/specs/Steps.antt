@@ -205,7 +205,7 @@ step l script σ = step_on l script σ σ.machine.exec
 -- ---- a run
 
 pub data Ending : Type 0 where
-  finished stopped outOfFuel : Ending
+  finished stopped out_of_fuel : Ending
   failed : Error → List ℕ → Ending  -- the error and the command
   misread : Fault → Ending  -- what is wrong with a token
 
@@ -233,7 +233,7 @@ go_on rest (goes τ) = elim τ.machine.stopped [ true ↦ record { ending = stop
 -- Whether the run is finished is asked before fuel is looked at. Each step costs 1 fuel.
 unfoldable pub run : Limits → List ℕ → ℕ → State → Run
 run l script zero σ =
-    elim (is_finished script σ) [ true ↦ finish script σ | false ↦ record { ending = outOfFuel; final = σ } ]
+    elim (is_finished script σ) [ true ↦ finish script σ | false ↦ record { ending = out_of_fuel; final = σ } ]
 run l script (suc fuel) σ =
     elim (is_finished script σ) [ true ↦ finish script σ | false ↦ go_on (run l script fuel) (step l script σ) ]
 

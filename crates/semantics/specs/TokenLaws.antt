@@ -3,7 +3,7 @@
 use Rattle.std.specs.Prelude.{◌≡◌, refl, Bool, true, false, ◌||◌, cond, List, [], ◌∷◌, ℕ, suc, ◌+◌, ◌≤◌, length, take, drop, T, eqb}
 use Rattle.std.proofs.Common.{arith, length-drop, length-take-le}
 use Rattle.semantics.specs.Values.{ok, fault, ◌>>=◌}
-use Rattle.semantics.specs.Tokens.{Lexing, is_digit, is_name_byte, Class, name_byte, bracket, openBrace, closeBrace, quote, slash, other, class_of, is_blank, comment_after, blanks_in, blanks, run, starts_number, number, Met, nothing, Act, byte, go, close, cut, bad, act, Quoted, quoted_on, quoted, Token, Lexeme, lexeme, name_of, run_token, signs, slash_token, lex_as, lex}
+use Rattle.semantics.specs.Tokens.{Lexing, is_digit, is_name_byte, Class, name_byte, bracket, open_brace, close_brace, quote, slash, other, class_of, is_blank, comment_after, blanks_in, blanks, run, starts_number, number, Met, nothing, Act, byte, go, close, cut, bad, act, Quoted, quoted_on, quoted, Token, Lexeme, lexeme, name_of, run_token, signs, slash_token, lex_as, lex}
 use Rattle.semantics.specs.Groups.{skip}
 use Rattle.semantics.specs.declared.Fault.TheVariants.{BadByte}
 use Rattle.semantics.specs.ResultLaws.{choose, Gives, gives, fails, gives_then, gives_any}
@@ -74,16 +74,16 @@ abbrev pub Fits : ℕ → Token → ℕ → Type 0
 Fits n (Token.integer w) size = Within n size
 Fits n (Token.string bs) size = Within n size
 Fits n (Token.name x bs) size = Within n size
-Fits n Token.openBrace size = Within n size
-Fits n Token.closeBrace size = Within n size
+Fits n Token.open_brace size = Within n size
+Fits n Token.close_brace size = Within n size
 Fits n Token.end size = size ≡ 0
 
 -- What the class of name bytes has is a name byte.
 abbrev is_name : Class → Bool
 is_name name_byte = true
 is_name bracket = false
-is_name openBrace = false
-is_name closeBrace = false
+is_name open_brace = false
+is_name close_brace = false
 is_name quote = false
 is_name slash = false
 is_name other = false
@@ -93,7 +93,7 @@ unfolding class_of
 class_name b = by (is_name_byte b) (eqb b 91 || eqb b 93) (eqb b 123) (eqb b 125) (eqb b 34) (eqb b 47)
   where
     by : (n k o c q s : Bool)
-        → T (is_name (cond n name_byte (cond k bracket (cond o openBrace (cond c closeBrace (cond q quote (cond s slash other)))))))
+        → T (is_name (cond n name_byte (cond k bracket (cond o open_brace (cond c close_brace (cond q quote (cond s slash other)))))))
         → T n
     by true k o c q s h = tt
     by false true o c q s h = h
@@ -132,8 +132,8 @@ unfolding lex_as lexeme
 lex_as_fits name_byte at b s h =
     gives_then (run_token_lem at (take (run (b ∷ s)) (b ∷ s)) _ _ (run_first b s (h tt), run_length (b ∷ s))) (λ t f. gives f)
 lex_as_fits bracket at b s h = gives (one_byte (length s))
-lex_as_fits openBrace at b s h = gives (one_byte (length s))
-lex_as_fits closeBrace at b s h = gives (one_byte (length s))
+lex_as_fits open_brace at b s h = gives (one_byte (length s))
+lex_as_fits close_brace at b s h = gives (one_byte (length s))
 lex_as_fits quote at b s h = gives_then (quoted_size at (suc at) nothing s) (λ q f. gives (one_more f))
 lex_as_fits slash at b s h =
     gives_then (slash_token_lem (suc at) (take (run s) s) _ _ (omega arith, omega (arith, run_length s))) (λ t f. gives f)

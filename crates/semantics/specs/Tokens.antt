@@ -37,13 +37,13 @@ is_name_byte b = within 33 126 b && not (eqb b 91 || eqb b 93 || eqb b 123 || eq
 
 -- What a token's first byte begins.
 pub data Class : Type 0 where
-  name_byte bracket openBrace closeBrace quote slash other : Class
+  name_byte bracket open_brace close_brace quote slash other : Class
 
 unfoldable pub class_of : ℕ → Class
 class_of b =
     cond (is_name_byte b) name_byte
     (cond (eqb b 91 || eqb b 93) bracket
-    (cond (eqb b 123) openBrace (cond (eqb b 125) closeBrace (cond (eqb b 34) quote (cond (eqb b 47) slash other)))))
+    (cond (eqb b 123) open_brace (cond (eqb b 125) close_brace (cond (eqb b 34) quote (cond (eqb b 47) slash other)))))
 
 -- ---- space and comment
 
@@ -180,7 +180,7 @@ pub data Token : Type 0 where
   integer : ℕ → Token  -- its 32 bits
   string : List ℕ → Token  -- its bytes, escapes read
   name : Bool → List ℕ → Token  -- executable or not
-  openBrace closeBrace end : Token
+  open_brace close_brace end : Token
 
 -- A token, and how many bytes it takes.
 pub record Lexeme : Type 0 where
@@ -224,8 +224,8 @@ lex_as name_byte at b s = do
   t ← run_token at n
   lexeme t (length n)
 lex_as bracket at b s = lexeme (name true (b ∷ [])) 1
-lex_as openBrace at b s = lexeme openBrace 1
-lex_as closeBrace at b s = lexeme closeBrace 1
+lex_as open_brace at b s = lexeme open_brace 1
+lex_as close_brace at b s = lexeme close_brace 1
 lex_as quote at b s = do
   q ← quoted at (suc at) nothing s
   lexeme (string q.contents) (suc q.taken)

@@ -11,7 +11,7 @@ use Rattle.std.proofs.Math.ListN.{length}
 use Rattle.semantics.specs.Words.{word}
 use Rattle.semantics.specs.Values.{Attempt, Result, ok, fault, ◌>>=◌, check, Value}
 use Rattle.semantics.specs.Machine.{Machine, Frame, made, lookup}
-use Rattle.semantics.specs.Tokens.{Lexing, digit, digits_from, digits, starts_number, up_to, Form, negative, hexadecimal, plain, form_of, number, Met, nothing, Act, byte, go, close, cut, bad, act, Quoted, quoted_on, quoted, Class, name_byte, bracket, openBrace, closeBrace, quote, slash, other, class_of, run, Token, Lexeme, lexeme, name_of, run_token, signs, slash_token, lex_as, lex}
+use Rattle.semantics.specs.Tokens.{Lexing, digit, digits_from, digits, starts_number, up_to, Form, negative, hexadecimal, plain, form_of, number, Met, nothing, Act, byte, go, close, cut, bad, act, Quoted, quoted_on, quoted, Class, name_byte, bracket, open_brace, close_brace, quote, slash, other, class_of, run, Token, Lexeme, lexeme, name_of, run_token, signs, slash_token, lex_as, lex}
 use Rattle.semantics.specs.Groups.{Taken, taken, skip, Reader, opened, closed, element, group, token_value, take_token}
 use Rattle.semantics.specs.Steps as steps
 use Rattle.semantics.specs.Steps.{Limits, State, Step, goes, misreads, unmoved, failing, ended, moved, token_move, token_step, step_on, step, Ending, misread, Run, is_finished, finish, go_on}
@@ -146,8 +146,8 @@ lex_as_lies name_byte at b s =
     let short = run_length (b ∷ s) in
     lies_on (lies_wider (omega arith) (omega arith) (run_token_lies at (take (run (b ∷ s)) (b ∷ s)))) (λ t. right)
 lex_as_lies bracket at b s = right
-lex_as_lies openBrace at b s = right
-lex_as_lies closeBrace at b s = right
+lex_as_lies open_brace at b s = right
+lex_as_lies close_brace at b s = right
 lex_as_lies quote at b s = lies_on (lies_wider (omega arith) (omega arith) (quoted_lies at (suc at) nothing s (omega arith))) (λ q. right)
 lex_as_lies slash at b s =
     let short = run_length s in
@@ -179,12 +179,12 @@ module _ (script : List ℕ) where
   element_lies rest i brace depth start bytes vs m (Token.integer w) f g h k l = f i brace depth _ _ _ (omega arith) (omega arith)
   element_lies rest i brace depth start bytes vs m (Token.string bs) f g h k l = f i brace depth _ _ _ (omega arith) (omega arith)
   element_lies rest i brace depth start bytes vs m (Token.name x n) f g h k l = f i brace depth _ _ _ (omega arith) (omega arith)
-  element_lies rest i brace zero start bytes vs m Token.openBrace f g h k l = wrong tt
-  element_lies rest i brace (suc d) start bytes vs m Token.openBrace f g h k l =
+  element_lies rest i brace zero start bytes vs m Token.open_brace f g h k l = wrong tt
+  element_lies rest i brace (suc d) start bytes vs m Token.open_brace f g h k l =
       lies_then (lies_wider (omega arith) (omega arith) (f (made m) start d (start + bytes) [] (opened m) (omega arith) (omega arith)))
       (g (made m) start d (start + bytes) [] (opened m) (omega arith))
       (λ t p. f i brace (suc d) t.after _ _ (omega arith) p.1)
-  element_lies rest i brace depth start bytes vs m Token.closeBrace f g h k l = right
+  element_lies rest i brace depth start bytes vs m Token.close_brace f g h k l = right
   element_lies rest i brace depth start bytes vs m Token.end f g h k l = wrong {f = BadBrace brace} (omega arith, omega arith)
 
   -- From a brace on nothing is wrong before it.
@@ -207,8 +207,8 @@ module _ (script : List ℕ) where
   value_lies m start bytes (Token.string bs) h k = right
   value_lies m start bytes (Token.name true n) h k = right
   value_lies m start bytes (Token.name false n) h k = right
-  value_lies m start bytes Token.openBrace h k = group_lies (length script) (made m) start 15 (start + bytes) [] (opened m) (omega arith) (omega arith)
-  value_lies m start bytes Token.closeBrace h k = wrong {f = BadBrace start} (omega arith, omega arith)
+  value_lies m start bytes Token.open_brace h k = group_lies (length script) (made m) start 15 (start + bytes) [] (opened m) (omega arith) (omega arith)
+  value_lies m start bytes Token.close_brace h k = wrong {f = BadBrace start} (omega arith, omega arith)
   value_lies m start bytes Token.end h k = wrong {f = BadBrace start} (omega arith, omega arith)
 
   taken_lies : (start : ℕ) (m : Machine) → start ≤ length script → Lies start (length script) (take_token script start m)
@@ -223,9 +223,9 @@ module _ (script : List ℕ) where
   value_inside m start bytes (Token.string bs) h k = let l : start + bytes ≤ length script = omega arith in gives l
   value_inside m start bytes (Token.name true n) h k = let l : start + bytes ≤ length script = omega arith in gives l
   value_inside m start bytes (Token.name false n) h k = let l : start + bytes ≤ length script = omega arith in gives l
-  value_inside m start bytes Token.openBrace h k =
+  value_inside m start bytes Token.open_brace h k =
       gives_weaker (group_inside script (length script) (made m) start 15 (start + bytes) [] (opened m) (omega arith)) (λ x p. p.1)
-  value_inside m start bytes Token.closeBrace h k = fails
+  value_inside m start bytes Token.close_brace h k = fails
   value_inside m start bytes Token.end h k = fails
 
   taken_inside : (start : ℕ) (m : Machine) → start ≤ length script → Gives (λ (x : Taken). x.after ≤ length script) (take_token script start m)
@@ -276,7 +276,7 @@ module _ (script : List ℕ) where
 abbrev pub Placed : ℕ → ℕ → Ending → Type 0
 Placed low high steps.finished = Unit {0}
 Placed low high steps.stopped = Unit {0}
-Placed low high steps.outOfFuel = Unit {0}
+Placed low high steps.out_of_fuel = Unit {0}
 Placed low high (steps.failed e c) = Unit {0}
 Placed low high (misread f) = Where low high f
 
@@ -299,7 +299,7 @@ pub run_placed : (l : Limits) (script : List ℕ) (fuel : ℕ) (σ : State)
     → Placed (steps.run l script fuel σ).final.at (length script) (steps.run l script fuel σ).ending
 unfolding steps.run finish
 run_placed l script zero σ h =
-    choose (λ (r : Run). Placed r.final.at (length script) r.ending) (is_finished script σ) (finish script σ) (record { ending = steps.outOfFuel; final = σ })
+    choose (λ (r : Run). Placed r.final.at (length script) r.ending) (is_finished script σ) (finish script σ) (record { ending = steps.out_of_fuel; final = σ })
     (λ t. tt)
     (λ t. tt)
 run_placed l script (suc fuel) σ h =
@@ -320,8 +320,8 @@ token_read low high start (Token.integer w) n = tt
 token_read low high start (Token.string bs) n = tt
 token_read low high start (Token.name true m) n = tt
 token_read low high start (Token.name false m) n = tt
-token_read low high start Token.openBrace n = tt
-token_read low high start Token.closeBrace n = tt
+token_read low high start Token.open_brace n = tt
+token_read low high start Token.close_brace n = tt
 token_read low high start Token.end n = tt
 
 lexed_read : (low high start : ℕ) → low ≤ start → {r : Lexing Lexeme} → Lies start high r

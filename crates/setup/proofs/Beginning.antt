@@ -44,8 +44,8 @@ other_byte (a ∷ x) (b ∷ y) (suc i) h k f = other_byte x y i (omega (arith, h
 
 -- ---- the first bytes of a script, against a header
 
-pub too_short : (script header : List ℕ) → length script < length header → same (take (length header) script) header ≡ false
-too_short script header h = same_shorter _ _ (omega (arith, h, length-take (length header) script, min-le_right (length header) (length script)))
+pub too_short_lem : (script header : List ℕ) → length script < length header → same (take (length header) script) header ≡ false
+too_short_lem script header h = same_shorter _ _ (omega (arith, h, length-take (length header) script, min-le_right (length header) (length script)))
 
 -- After i bytes that are the same, the rest decides.
 pub record Alike (script header : List ℕ) (i : ℕ) : Type 0 where

@@ -6,7 +6,7 @@
 ghost use Rattle.std.specs.Prelude.{◌≡◌, ◌+◌, ◌*◌, ◌≤◌, ◌<◌, length};
 ghost use Rattle.semantics.specs.Text.{bytes};
 ghost use Rattle.semantics.specs.Words.{signed};
-ghost use Rattle.semantics.specs.StackOperators.{modulo as moduloOf};
+ghost use Rattle.semantics.specs.StackOperators.{modulo as modulo_of};
 ghost use Rattle.semantics.specs.Operators.{perform};
 ghost use Rattle.machine.specs.Rep.{Somewhere, MovesStack, MovesHeap};
 ghost use Rattle.machine.specs.Room.{DoesStack, DoesHeap};
@@ -180,7 +180,7 @@ fn double(m: Machine, stack: &mut [u32], cells: &mut [u32], n: usize) -> Machine
 // The shift, a signed word, modulo n, from 0 up.
 fn modulo(shift: u32, n: u32) -> u32
     requires { 0 < n }
-    ensures value { result ≡ moduloOf (signed shift) n }
+    ensures value { result ≡ modulo_of (signed shift) n }
     ensures upper_bound { result < n }
 {
     if shift < SIGN {

@@ -105,12 +105,12 @@ module _ {script : List ℕ} {σ : State} (none : σ.machine.frames ≡ 0) {star
         subst (λ n. steps.step (lent s e d c l) script (state_of σ μ) ≡ steps.misreads y (unmoved (state_of σ μ) n)) (sym begins)
         (fault_step (lent s e d c l) script (state_of σ μ) (exec_empty R none) (subst (λ n. lex n (drop n script) ≡ fault y) begins v)))
 
-    pub close_fault : {next : ℕ} → BraceToken script start Token.closeBrace next → {r : Stepped} → r ≡ misread_by σ start (BadBrace start) → TriesToken script σ s s e e d d c c r
+    pub close_fault : {next : ℕ} → BraceToken script start Token.close_brace next → {r : Stepped} → r ≡ misread_by σ start (BadBrace start) → TriesToken script σ s s e e d d c c r
     unfolding token_value token_step
     close_fault {next} B =
         misread_ends (λ l μ R.
         subst (λ n. steps.step (lent s e d c l) script (state_of σ μ) ≡ steps.misreads (BadBrace n) (unmoved (state_of σ μ) n)) (sym begins)
-        (token_step_lem (lent s e d c l) script (state_of σ μ) (exec_empty R none) (subst (λ n. Lexes script n Token.closeBrace next) begins B.token)))
+        (token_step_lem (lent s e d c l) script (state_of σ μ) (exec_empty R none) (subst (λ n. Lexes script n Token.close_brace next) begins B.token)))
 
     pub end_fault : {next : ℕ} → EndToken script start next → {r : Stepped} → r ≡ misread_by σ start (BadBrace start) → TriesToken script σ s s e e d d c c r
     end_fault {next} E =
@@ -171,7 +171,7 @@ module _ {script : List ℕ} {σ : State} (none : σ.machine.frames ≡ 0) {star
 
 -- ---- a brace group
 
-module _ (script : List ℕ) (σ : State) (none : σ.machine.frames ≡ 0) (start : ℕ) (begins : start ≡ skip script σ.next) (low : start ≤ length script) (next : ℕ) (B : BraceToken script start Token.openBrace next)
+module _ (script : List ℕ) (σ : State) (none : σ.machine.frames ≡ 0) (start : ℕ) (begins : start ≡ skip script σ.next) (low : start ≤ length script) (next : ℕ) (B : BraceToken script start Token.open_brace next)
     (s s' e d d' c c' : List ℕ) where
   opens_step : {l : List ℕ} {μ : Floo.Machine} → Rep σ.machine s e d c l μ
       → {r : Lexing Taken} → group_read script next μ ≡ r
@@ -180,8 +180,8 @@ module _ (script : List ℕ) (σ : State) (none : σ.machine.frames ≡ 0) (star
   opens_step {l} {μ} R q =
       let limits = lent s e d c l in
       let brace : start ≡ next - 1 = omega (arith, B.ends) in
-      subst (λ n. steps.step limits script (state_of σ μ) ≡ token_step limits (state_of σ μ) n (token_value script μ n next Token.openBrace)) (sym begins)
-      (token_step_lem limits script (state_of σ μ) (exec_empty R none) (subst (λ n. Lexes script n Token.openBrace next) begins B.token))
+      subst (λ n. steps.step limits script (state_of σ μ) ≡ token_step limits (state_of σ μ) n (token_value script μ n next Token.open_brace)) (sym begins)
+      (token_step_lem limits script (state_of σ μ) (exec_empty R none) (subst (λ n. Lexes script n Token.open_brace next) begins B.token))
       ∙ ap (λ n. token_step limits (state_of σ μ) start (group script (length script) (made μ) n 15 next [] (opened μ))) brace
       ∙ ap (token_step limits (state_of σ μ) start) q
 
@@ -222,7 +222,7 @@ module _ (script : List ℕ) (σ : State) (none : σ.machine.frames ≡ 0) (star
 pub group_does : {script : List ℕ} {σ : State} → σ.machine.frames ≡ 0
     → {start : ℕ} → start ≡ skip script σ.next
     → start ≤ length script
-    → {next : ℕ} → BraceToken script start Token.openBrace next
+    → {next : ℕ} → BraceToken script start Token.open_brace next
     → {s s' e d d' c c' : List ℕ} (answer : Grouped)
     → TakesGroup script next σ.machine s s' d d' c c' answer
     → {r : Stepped}

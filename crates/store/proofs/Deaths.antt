@@ -30,7 +30,7 @@ use Rattle.store.proofs.Sorts.{no_name, no_object, no_element}
 -- Nothing dead is in a supported set.
 pub dead_out : (store : List Object) (roots : ℕ → Value) (S : ℕ → Type 0) → Supported store roots S → (i : ℕ) → Dead store roots i → S i → ⊥
 dead_out store roots S sup i (dead f n) s =
-    ⊎_elim (λ x. f x.0 x.1) (λ x. dead_out store roots S sup x.0 (n x.0 x.1 x.3) x.2) (sup i s)
+    ⊎_elim (λ (x : (r : ℕ) × Names (roots r) i). f x.0 x.1) (λ (x : (j : ℕ) × (q : ℕ) × S j × Names (element store j q) i). dead_out store roots S sup x.0 (n x.0 x.1 x.3) x.2) (sup i s)
 
 -- The dead stay dead where nothing new names them.
 pub dead_mono : (store store' : List Object) (roots roots' : ℕ → Value)

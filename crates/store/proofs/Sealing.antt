@@ -4,15 +4,14 @@
 use mathlib.Core.Path.{◌≡◌, sym, ap, ◌∙◌}
 use mathlib.Core.List.{List, [], ◌∷◌, ◌++◌}
 use mathlib.Core.Logic.{⊎_elim}
-use Prim.Native.Nat.{ℕ, ◌+◌, ◌/◌, ◌%◌, ◌≤◌, ◌<◌}
+use Prim.Native.Nat.{ℕ, ◌/◌, ◌%◌, ◌≤◌}
 use native.Mathlib.Omega.{arith}
 use lib.ListN.{length, length-append}
 use lib.Dec.{eqb}
 use Rattle.semantics.specs.Values.{Value, Object}
-use Rattle.semantics.specs.Machine.{member}
 use Rattle.semantics.specs.MarkLaws.{member_last, member_other, member_above, below_more, below_added}
 use Rattle.heap.specs.Word.{word}
-use Rattle.heap.specs.Chain.{live, on}
+use Rattle.heap.specs.Chain.{live}
 use Rattle.heap.specs.Upd.{upd}
 use Rattle.heap.specs.Shape.{Ghost, size_unit}
 use Rattle.heap.specs.Reading.{is_sealed}

@@ -137,6 +137,13 @@ module _ {keys : List (List ℕ)} {texts : List Bool} {ρ : ℕ → ℕ} where
   stands_names (a_string r e) by_string = (omega arith, r)
   stands_names (an_array r e) by_array = (omega arith, r)
   stands_names (a_procedure r e) by_array = (omega arith, r)
+  stands_names {pay = pay} {i = i} a_null x5 = elim x5 [ ]
+  stands_names {i = i} (an_integer {w = w}) x6 = elim x6 [ ]
+  stands_names {i = i} (a_boolean {b = b}) x7 = elim x7 [ ]
+  stands_names {pay = pay} {i = i} a_mark x8 = elim x8 [ ]
+  stands_names {pay = pay} {i = i} (an_operator {o = o} _) x13 = elim x13 [ ]
+  stands_names {pay = pay} {i = i} (a_literal {n = n} _) x14 = elim x14 [ ]
+  stands_names {pay = pay} {i = i} (an_executable {n = n} _) x15 = elim x15 [ ]
 
   pub stands_plain : {v : Value} {tag pay i : ℕ} → Stands keys texts ρ v tag pay → tag < 8 → Names v i → ⊥
   stands_plain s l n = omega (arith, (stands_names s n).0)

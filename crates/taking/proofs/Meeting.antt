@@ -95,10 +95,10 @@ module _ (script : List ℕ) (at start : ℕ) (begins : start ≡ skip script at
     meet_literal {from} {size} q = met_name (at_token (read.LiteralName from size) q)
 
     pub meet_open : t ≡ read.OpenBrace → MetAt script at (met.Good Other next)
-    meet_open q = met_other Token.openBrace refl (at_token read.OpenBrace q).token
+    meet_open q = met_other Token.open_brace refl (at_token read.OpenBrace q).token
 
     pub meet_close : t ≡ read.CloseBrace → MetAt script at (met.Good Other next)
-    meet_close q = met_other Token.closeBrace refl (at_token read.CloseBrace q).token
+    meet_close q = met_other Token.close_brace refl (at_token read.CloseBrace q).token
 
     pub meet_end : t ≡ read.End → ⊥
     meet_end q =

@@ -16,8 +16,8 @@ abbrev pub value_of : Token → Machine → Value
 value_of (Token.integer w) μ = integer w
 value_of (Token.string bs) μ = string (made μ)
 value_of (Token.name x n) μ = name x n
-value_of Token.openBrace μ = null
-value_of Token.closeBrace μ = null
+value_of Token.open_brace μ = null
+value_of Token.close_brace μ = null
 value_of Token.end μ = null
 
 abbrev pub machine_of : Token → Machine → Machine
@@ -25,8 +25,8 @@ machine_of (Token.integer w) μ = μ
 machine_of (Token.string bs) μ = make (text bs) μ
 machine_of (Token.name true n) μ = μ
 machine_of (Token.name false n) μ = intern n μ
-machine_of Token.openBrace μ = μ
-machine_of Token.closeBrace μ = μ
+machine_of Token.open_brace μ = μ
+machine_of Token.close_brace μ = μ
 machine_of Token.end μ = μ
 
 abbrev pub taken_of : Token → Machine → ℕ → Taken

@@ -18,7 +18,7 @@ use Rattle.semantics.specs.declared.Fault as semantics
 use Rattle.semantics.specs.declared.Fault.TheVariants.{BadEscape, OpenString, BadByte, OverLimit}
 use Rattle.semantics.specs.TokenLaws.{run_le}
 use Rattle.token.specs.Bytes.{class_is}
-use Rattle.token.specs.Numbers.{number_is, fault_of as numberFault}
+use Rattle.token.specs.Numbers.{number_is, fault_of as number_fault}
 use Rattle.token.specs.Strings.{CutAt, BadAt, JudgedAt}
 use Rattle.token.specs.Lexing.{ClassAt, Lexes, StringToken, NameToken, BraceToken, EndToken}
 use Rattle.token.specs.declared.bytes.Class.{Class}
@@ -33,8 +33,8 @@ use Rattle.token.proofs.Blanks.{run_go}
 place : tokens.Class → ℕ
 place tokens.name_byte = 0
 place tokens.bracket = 1
-place tokens.openBrace = 2
-place tokens.closeBrace = 3
+place tokens.open_brace = 2
+place tokens.close_brace = 3
 place tokens.quote = 4
 place tokens.slash = 5
 place tokens.other = 6
@@ -44,11 +44,11 @@ unfolding class_of place
 name_byte_lem b e =
     by (is_name_byte b)
     (cond (eqb b 91 || eqb b 93) tokens.bracket
-    (cond (eqb b 123) tokens.openBrace
-    (cond (eqb b 125) tokens.closeBrace (cond (eqb b 34) tokens.quote (cond (eqb b 47) tokens.slash tokens.other)))))
+    (cond (eqb b 123) tokens.open_brace
+    (cond (eqb b 125) tokens.close_brace (cond (eqb b 34) tokens.quote (cond (eqb b 47) tokens.slash tokens.other)))))
     (below (eqb b 91 || eqb b 93) tokens.bracket _ (omega arith)
-    (below (eqb b 123) tokens.openBrace _ (omega arith)
-    (below (eqb b 125) tokens.closeBrace _ (omega arith)
+    (below (eqb b 123) tokens.open_brace _ (omega arith)
+    (below (eqb b 125) tokens.close_brace _ (omega arith)
     (below (eqb b 34) tokens.quote _ (omega arith) (below (eqb b 47) tokens.slash tokens.other (omega arith) (omega arith))))))
     e
   where
@@ -141,13 +141,13 @@ module _ {script : List ℕ} {start : ℕ} where
     ends = refl;
   }
 
-  pub open_token : ClassAt script start tokens.openBrace → BraceToken script start tokens.openBrace (start + 1)
+  pub open_token : ClassAt script start tokens.open_brace → BraceToken script start tokens.open_brace (start + 1)
   unfolding lex_as
-  open_token C = brace tokens.openBrace tokens.openBrace C refl
+  open_token C = brace tokens.open_brace tokens.open_brace C refl
 
-  pub close_token : ClassAt script start tokens.closeBrace → BraceToken script start tokens.closeBrace (start + 1)
+  pub close_token : ClassAt script start tokens.close_brace → BraceToken script start tokens.close_brace (start + 1)
   unfolding lex_as
-  close_token C = brace tokens.closeBrace tokens.closeBrace C refl
+  close_token C = brace tokens.close_brace tokens.close_brace C refl
 
 -- ---- a run, from its first byte to its end
 
@@ -199,10 +199,10 @@ module _ {script : List ℕ} {start end : ℕ} (C : ClassAt script start tokens.
     }
 
     pub word_fault : t ≡ true → {n : Number} {x y : semantics.Fault} → number_is n ≡ number start (between script start end)
-        → n ≡ Fault x → y ≡ numberFault n → lex start (drop start script) ≡ fault y
+        → n ≡ Fault x → y ≡ number_fault n → lex start (drop start script) ≡ fault y
     unfolding ◌>>=◌
     word_fault f {n} {x} {y} g i q =
-        let same : y ≡ x = q ∙ ap numberFault i in
+        let same : y ≡ x = q ∙ ap number_fault i in
         rw same (word ∙ rw (run_fault start (between script start end) t is f x (sym g ∙ ap number_is i)) refl)
 
     pub word_name : t ≡ false → end - start ≤ name_most → NameToken script start true 0 start (end - start) end

@@ -7,8 +7,8 @@ use Rattle.token.specs.declared.bytes.Class.TheVariants.{NameByte, Bracket, Open
 abbrev pub class_is : Class → tokens.Class
 class_is NameByte = tokens.name_byte
 class_is Bracket = tokens.bracket
-class_is OpenBrace = tokens.openBrace
-class_is CloseBrace = tokens.closeBrace
+class_is OpenBrace = tokens.open_brace
+class_is CloseBrace = tokens.close_brace
 class_is Quote = tokens.quote
 class_is Slash = tokens.slash
 class_is Other = tokens.other

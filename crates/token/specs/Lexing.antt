@@ -51,8 +51,8 @@ TokenAt script start next (Integer w) = Lexes script start (tokens.integer w) ne
 TokenAt script start next (String at size) = StringToken script start at size next
 TokenAt script start next (ExecutableName at size) = NameToken script start true 0 at size next
 TokenAt script start next (LiteralName at size) = NameToken script start false 1 at size next
-TokenAt script start next OpenBrace = BraceToken script start tokens.openBrace next
-TokenAt script start next CloseBrace = BraceToken script start tokens.closeBrace next
+TokenAt script start next OpenBrace = BraceToken script start tokens.open_brace next
+TokenAt script start next CloseBrace = BraceToken script start tokens.close_brace next
 TokenAt script start next End = EndToken script start next
 
 abbrev pub LexedAt : List ℕ → ℕ → Lexed → Type 0

@@ -14,7 +14,7 @@ use Rattle.semantics.specs.Values.{ok, Value, integer, name, Object, elements, t
 use Rattle.semantics.specs.Text.{bytes}
 use Rattle.semantics.specs.Machine.{Machine, Frame, pending, running, looping, repeating, counting, elements_of, bytes_of}
 use Rattle.semantics.specs.Printing.{stringval}
-use Rattle.semantics.specs.NumberOperators.{Logical, bits, truth as logicalTruth, neither, logical, logical2, negated}
+use Rattle.semantics.specs.NumberOperators.{Logical, bits, truth as logical_truth, neither, logical, logical2, negated}
 use Rattle.semantics.specs.ControlOperators.{operator_or, bound, from_loop}
 use Rattle.semantics.specs.ObjectOperators.{new_length, is_mark, above_mark, length_of, got, size, redirect}
 use Rattle.semantics.specs.TextOperators.{as_executable}
@@ -56,7 +56,7 @@ length_of_size (text bs) = current_length bs
 -- What is asked of the bits of an operand of and, or, xor and not.
 abbrev Low : Parts → Logical → Type 0
 Low A (bits a) = A.numbers.Word a
-Low A (logicalTruth b) = Unit {0}
+Low A (logical_truth b) = Unit {0}
 Low A neither = Unit {0}
 
 -- A length that array or string takes.
@@ -96,11 +96,11 @@ module _ {A : Parts} {s : List Object} where
   connected : (f : ℕ → ℕ → ℕ) (g : Bool → Bool → Bool) → Bitwise f → (x y : Logical) → Low A x → Low A y → Gives (Good A s) (logical2 f g x y)
   unfolding logical2
   connected f g e (bits a) (bits b) p q = gives (a_word (A.numbers.bitwise f e a b p q))
-  connected f g e (bits a) (logicalTruth b) p q = fails
+  connected f g e (bits a) (logical_truth b) p q = fails
   connected f g e (bits a) neither p q = fails
-  connected f g e (logicalTruth a) (bits b) p q = fails
-  connected f g e (logicalTruth a) (logicalTruth b) p q = gives a_truth
-  connected f g e (logicalTruth a) neither p q = fails
+  connected f g e (logical_truth a) (bits b) p q = fails
+  connected f g e (logical_truth a) (logical_truth b) p q = gives a_truth
+  connected f g e (logical_truth a) neither p q = fails
   connected f g e neither y p q = fails
 
   pub logical2_good : (f : ℕ → ℕ → ℕ) (g : Bool → Bool → Bool)
@@ -114,7 +114,7 @@ module _ {A : Parts} {s : List Object} where
   pub negated_good : (x : Logical) → Gives (Good A s) (negated x)
   unfolding negated
   negated_good (bits a) = gives (a_word (A.numbers.word ((2 ^ 32 - 1) - a) (omega arith)))
-  negated_good (logicalTruth b) = gives a_truth
+  negated_good (logical_truth b) = gives a_truth
   negated_good neither = fails
 
   -- ---- references

@@ -13,7 +13,7 @@ use Rattle.semantics.specs.Values.{Value, operator, Object, text}
 use Rattle.semantics.specs.Errors.{error_names}
 use Rattle.semantics.specs.Machine.{Machine, make}
 use Rattle.semantics.specs.Operators.{Entry, ◌is◌, table}
-use Rattle.semantics.specs.Steps.{Limits, State, Step, step, stopped, outOfFuel, Run, is_finished, finish, go_on, run, slot, predefined, unhandled, initial, lending}
+use Rattle.semantics.specs.Steps.{Limits, State, Step, step, stopped, out_of_fuel, Run, is_finished, finish, go_on, run, slot, predefined, unhandled, initial, lending}
 use Rattle.semantics.specs.OutcomeLaws.{command_in}
 use Rattle.semantics.specs.ResultLaws.{choose}
 use Rattle.semantics.specs.ListLaws.{All, nil, ◌&◌, every, all_every, nothing, just, all_any, all_append, all_map, all_weaker}
@@ -58,7 +58,7 @@ module _ (A : Parts) (Room : Machine → Type 0) (l : Limits) (script : List ℕ
     pub run_keeps : (fuel : ℕ) (σ : State) → Everywhere A σ.machine → Room σ.machine → KeptRun A Room (run l script fuel σ)
     unfolding run parts_alone
     run_keeps zero σ h k =
-        choose (KeptRun A Room) (is_finished script σ) (finish script σ) (record { ending = outOfFuel; final = σ })
+        choose (KeptRun A Room) (is_finished script σ) (finish script σ) (record { ending = out_of_fuel; final = σ })
         (λ t. finish_keeps σ h k)
         (λ t. record { command = unnamed A; parts = h; room = k })
     run_keeps (suc fuel) σ h k =

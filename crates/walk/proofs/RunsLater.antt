@@ -7,7 +7,7 @@ use mathlib.Core.List.{List}
 use Prim.Native.Nat.{ℕ, zero, suc, ◌≤◌}
 use native.Mathlib.Omega.{arith}
 use Rattle.semantics.specs.Machine.{Machine}
-use Rattle.semantics.specs.Steps.{Limits, State, Step, goes, step, Run, stopped, outOfFuel, is_finished, finish, go_on, run}
+use Rattle.semantics.specs.Steps.{Limits, State, Step, goes, step, Run, stopped, out_of_fuel, is_finished, finish, go_on, run}
 use Rattle.semantics.specs.RunLaws.{Stepped, went, stuck, unread, step_stepped}
 use Rattle.semantics.specs.ResultLaws.{choose}
 
@@ -51,7 +51,7 @@ module _ (Kept : Machine → Type 0) (R : Machine → Machine → Type 0) (l : L
     pub run_from : (fuel : ℕ) (σ : State) → Kept σ.machine → From σ.machine (run l script fuel σ)
     unfolding run finish
     run_from zero σ k =
-        choose (From σ.machine) (is_finished script σ) (finish script σ) (record { ending = outOfFuel; final = σ })
+        choose (From σ.machine) (is_finished script σ) (finish script σ) (record { ending = out_of_fuel; final = σ })
         (λ t. itself σ.machine)
         (λ t. itself σ.machine)
     run_from (suc fuel) σ k =
@@ -82,7 +82,7 @@ module _ (Kept : Machine → Type 0) (R : Machine → Machine → Type 0) (l : L
         → R (run l script early σ).final.machine (run l script late σ).final.machine
     unfolding run finish
     run_later zero late h σ k =
-        choose (λ (r : Run). Later r (run l script late σ)) (is_finished script σ) (finish script σ) (record { ending = outOfFuel; final = σ })
+        choose (λ (r : Run). Later r (run l script late σ)) (is_finished script σ) (finish script σ) (record { ending = out_of_fuel; final = σ })
         (λ t. run_from late σ k)
         (λ t. run_from late σ k)
     run_later (suc early) zero h σ k = absurd (omega (arith, h))

@@ -9,7 +9,7 @@ use lib.ListN.{length, drop}
 use lib.Dec.{T, leb, leb→le, eqb}
 use Rattle.semantics.specs.Words.{word}
 use Rattle.semantics.specs.Values.{ok, fault, ◌>>=◌}
-use Rattle.semantics.specs.Tokens.{Lexing, within, is_break, is_octal, Class, name_byte, bracket, openBrace, closeBrace, quote, slash, other, class_of, run, digits, starts_number, up_to, Form, negative, hexadecimal, plain, form_of, number, Met, nothing, backslash, return, octal, Act, byte, go, close, cut, bad, plain_act, octal_act, act, Quoted, quoted_on, quoted, Token, Lexeme, lexeme, name_of, run_token, signs, slash_token, lex_as, lex}
+use Rattle.semantics.specs.Tokens.{Lexing, within, is_break, is_octal, Class, name_byte, bracket, open_brace, close_brace, quote, slash, other, class_of, run, digits, starts_number, up_to, Form, negative, hexadecimal, plain, form_of, number, Met, nothing, backslash, return, octal, Act, byte, go, close, cut, bad, plain_act, octal_act, act, Quoted, quoted_on, quoted, Token, Lexeme, lexeme, name_of, run_token, signs, slash_token, lex_as, lex}
 use Rattle.semantics.specs.ResultLaws.{Gives, gives, fails, gives_then, gives_check, choose, choose_cond}
 use Rattle.semantics.specs.ListLaws.{All, nil, cons, both, all_take}
 use Rattle.semantics.specs.declared.Fault.{Fault}
@@ -23,8 +23,8 @@ pub data GoodToken (A : Parts) : Token → Type 0 where
   a_number : {w : ℕ} → A.numbers.Word w → GoodToken A (Token.integer w)
   a_text : {bs : List ℕ} → All A.numbers.Byte bs → A.numbers.Size (length bs) → GoodToken A (Token.string bs)
   a_name : {x : Bool} {n : List ℕ} → A.numbers.Spelling n → GoodToken A (Token.name x n)
-  an_opening : GoodToken A Token.openBrace
-  a_closing : GoodToken A Token.closeBrace
+  an_opening : GoodToken A Token.open_brace
+  a_closing : GoodToken A Token.close_brace
   an_end : GoodToken A Token.end
 
 -- ---- numbers
@@ -161,8 +161,8 @@ module _ (A : Parts) where
   unfolding lex_as lexeme
   lex_as_good name_byte at b s p h l = gives_then (run_token_good at (all_take (run (b ∷ s)) (cons p h))) (λ t g. gives g)
   lex_as_good bracket at b s p h l = gives (a_name (A.numbers.spelling (b ∷ []) (cons p nil) (omega arith)))
-  lex_as_good openBrace at b s p h l = gives an_opening
-  lex_as_good closeBrace at b s p h l = gives a_closing
+  lex_as_good open_brace at b s p h l = gives an_opening
+  lex_as_good close_brace at b s p h l = gives a_closing
   lex_as_good quote at b s p h l =
       gives_then (quoted_in at (suc at) nothing tt h) (λ q g. gives (a_text g.bytes (A.numbers.smaller _ (suc (length s)) (omega (arith, g.few)) l)))
   lex_as_good slash at b s p h l = gives_then (slash_token_good (suc at) (all_take (run s) h)) (λ t g. gives g)

@@ -2,7 +2,7 @@
 -- Assumes nothing.
 use mathlib.Core.Path.{ap}
 use Rattle.forf_token.specs.Lexing.{read_number}
-use Rattle.forf_token.proofs.Lexemes.{between_short, some_run, integer_token, number_fault, word_token, word_long}
+use Rattle.forf_token.proofs.Lexemes.{between_short, some_run, integer_token, number_fault_lem, word_token, word_long}
 use borrow.Author.Rules.{rules}
 use Rattle.forf_token.proofs.run_at.Statement.{statement}
 use Rattle.forf_token.proofs.run_at.Tie as tie
@@ -41,7 +41,7 @@ returns c =
     let starts-number = c.before.before.before.before.starts-number in
     let if1 = c.before.before.before.if1 in
     let number_of_lem = c.before.before.number_of_lem in
-    number_fault (pre) run-end.ensures.0 run-end.ensures.1 _ starts-number.ensures if1.true number_of_lem.result number_of_lem.ensures (ap read_number c.enum_told.given.1)
+    number_fault_lem (pre) run-end.ensures.0 run-end.ensures.1 _ starts-number.ensures if1.true number_of_lem.result number_of_lem.ensures (ap read_number c.enum_told.given.1)
 
 returns-2 : tie.Need-returns-2
 returns-2 c =

@@ -2,7 +2,7 @@
 -- Assumes nothing.
 use mathlib.Core.Path.{sym, ◌∙◌}
 use borrow.Author.Tests.{not-true, not-false}
-use Rattle.ledger_reader.proofs.Deciding.{header_bad, start_inside, quoting_bad, count_bad, number_bad, place_bad, rests, socket_twice, too_many, all_read}
+use Rattle.ledger_reader.proofs.Deciding.{header_bad, start_inside, quoting_bad, count_bad, number_bad, place_bad, rests, socket_twice_lem, too_many_lem, all_read}
 use Rattle.ledger_reader.proofs.judge.Statement.{statement}
 use Rattle.ledger_reader.proofs.judge.Tie as tie
 
@@ -52,13 +52,13 @@ refused-requires-6 : tie.Need-refused-requires-6
 refused-requires-6 c κs = tt
 
 returns-6 : tie.Need-returns-6
-returns-6 c = socket_twice _ _ c.before.before.before.before.before.before.before.before.before.before.before.before.before.header-end.ensures c.before.before.before.before.before.before.before.before.before.before.before.before.if1.false c.before.before.before.before.before.before.before.before.before.before.before.quoting-ok.ensures c.before.before.before.before.before.before.before.before.before.tally-lines.ensures c.before.before.before.before.before.before.before.if3.false c.before.before.before.before.before.if4.false c.before.before.before.if5.false c.before.before.is-once.ensures (not-true _ c.before.if6.true) c.refused6.ensures
+returns-6 c = socket_twice_lem _ _ c.before.before.before.before.before.before.before.before.before.before.before.before.before.header-end.ensures c.before.before.before.before.before.before.before.before.before.before.before.before.if1.false c.before.before.before.before.before.before.before.before.before.before.before.quoting-ok.ensures c.before.before.before.before.before.before.before.before.before.tally-lines.ensures c.before.before.before.before.before.before.before.if3.false c.before.before.before.before.before.if4.false c.before.before.before.if5.false c.before.before.is-once.ensures (not-true _ c.before.if6.true) c.refused6.ensures
 
 refused-requires-7 : tie.Need-refused-requires-7
 refused-requires-7 c κs = tt
 
 returns-7 : tie.Need-returns-7
-returns-7 c = too_many _ _ c.before.before.before.before.before.before.before.before.before.before.before.before.before.before.before.header-end.ensures c.before.before.before.before.before.before.before.before.before.before.before.before.before.before.if1.false c.before.before.before.before.before.before.before.before.before.before.before.before.before.quoting-ok.ensures c.before.before.before.before.before.before.before.before.before.before.before.tally-lines.ensures c.before.before.before.before.before.before.before.before.before.if3.false c.before.before.before.before.before.before.before.if4.false c.before.before.before.before.before.if5.false c.before.before.before.before.is-once.ensures (not-false _ c.before.before.before.if6.false) c.before.if7.true c.refused7.ensures
+returns-7 c = too_many_lem _ _ c.before.before.before.before.before.before.before.before.before.before.before.before.before.before.before.header-end.ensures c.before.before.before.before.before.before.before.before.before.before.before.before.before.before.if1.false c.before.before.before.before.before.before.before.before.before.before.before.before.before.quoting-ok.ensures c.before.before.before.before.before.before.before.before.before.before.before.tally-lines.ensures c.before.before.before.before.before.before.before.before.before.if3.false c.before.before.before.before.before.before.before.if4.false c.before.before.before.before.before.if5.false c.before.before.before.before.is-once.ensures (not-false _ c.before.before.before.if6.false) c.before.if7.true c.refused7.ensures
 
 returns-8 : tie.Need-returns-8
 returns-8 c = all_read _ _ c.before.before.before.before.before.before.before.before.before.before.before.before.before.before.header-end.ensures c.before.before.before.before.before.before.before.before.before.before.before.before.before.if1.false c.before.before.before.before.before.before.before.before.before.before.before.before.quoting-ok.ensures c.before.before.before.before.before.before.before.before.before.before.tally-lines.ensures c.before.before.before.before.before.before.before.before.if3.false c.before.before.before.before.before.before.if4.false c.before.before.before.before.if5.false c.before.before.before.is-once.ensures (not-false _ c.before.before.if6.false) c.if7.false

@@ -5,7 +5,7 @@ use native.Mathlib.Omega.{arith}
 use mathlib.Core.Path.{sym}
 use Prim.Native.Nat.{◌-◌}
 use Rattle.semantics.specs.Text.{bytes}
-use Rattle.setup.proofs.Beginning.{Alike, too_short, alike_none, alike_more, byte_differs, alike_all}
+use Rattle.setup.proofs.Beginning.{Alike, too_short_lem, alike_none, alike_more, byte_differs, alike_all}
 use Rattle.setup.proofs.begins.Statement.{statement}
 use Rattle.setup.proofs.begins.Tie as tie
 
@@ -17,7 +17,7 @@ decreases-loop script header i₀ i = 5 - i
 
 returns : tie.Need-returns invariant-loop decreases-loop
 unfolding bytes
-returns c = sym (too_short c.before.before.args.script.now (bytes "#FLOO") c.if1.true)
+returns c = sym (too_short_lem c.before.before.args.script.now (bytes "#FLOO") c.if1.true)
 
 loop-holds : tie.Need-loop-init invariant-loop decreases-loop
 loop-holds c = alike_none c.if1.false
