@@ -20,7 +20,8 @@ OPENS = re.compile(r"^(?:module|data|record|infix|ruleset|use)\b")
 
 
 def same(n):
-    return n.replace("_", "-")
+    """A name as both spellings compare: tools/respell.py also made `one_Int` and `copy_lem` of steps' names."""
+    return re.sub(r"-lem(?=\d*$)", "", n.replace("_", "-").lower())
 
 
 class Signature:
@@ -131,6 +132,8 @@ def as_record(body, names_):
             return None
     rest = body[at:]
     parts = split_tuple(rest)
+    while parts and len(parts) < len(names_) and (more := split_tuple(parts[-1])):
+        parts = parts[:-1] + more
     lead = body[:at] + (" " if at else "")
     if parts and len(parts) >= len(names_):
         k = len(names_) - 1
@@ -181,32 +184,80 @@ def blocks(text):
     return head, uses, [(n, "\n".join(b).rstrip()) for n, b in decls]
 
 
+class Where:
+    """The place of a goal: the steps behind it, the nearest first, as `--old-names` lists them."""
+
+    def __init__(self, facts, asked):
+        at = {n: i for i, n in enumerate(facts["places_by_name"])}
+        old = {p[0]: i for i, p in enumerate(facts["places"])}
+        self.facts, self.chain = facts, []
+        i = at.get(asked[1], old.get(asked[0])) if asked else None
+        while i is not None:
+            self.chain.append(i)
+            i = old.get(facts["places"][i][1])
+
+    def step(self, name, depth):
+        """The step of this older name at that many places behind, or nearest to it."""
+        found = [(abs(k - depth), i) for k, i in enumerate(self.chain) if same(self.facts["places"][i][2][0] or "") == same(name)]
+        return min(found)[1] if found else None
+
+    def arm(self, i, name, path):
+        """A path at an arm of a match, in today's words."""
+        arm = self.facts["arms"][i]
+        best = None
+        for k in self.chain:
+            other = self.facts["arms"][k]
+            if not other or arm and other[0] != arm[0]:
+                continue
+            for field, step, where in other[2]:
+                if same(step) == same(name) and path[: len(where)] == where and (best is None or len(where) > best[0]):
+                    best = (len(where), other[0] + "." + field)
+        return best and ".".join([best[1]] + path[best[0] :])
+
+    def typed(self, name):
+        for k in self.chain:
+            for x, step in self.facts["typed"][k]:
+                if same(step) == same(name):
+                    return x
+        return None
+
+
 def places(body, start="c"):
-    """Paths to places behind us all become the one record of facts; a name that was bound to a place goes."""
-    aliases = {start}
+    """Paths to places behind us become `\x01N\x02`, N places behind; a name that was bound to a place, or to a step alone, goes."""
+    behind = {start: 0}
     while True:
-        m = re.search(r"\blet (" + NAME + r") = (" + NAME + r")((?:\.before)*) in(\s+|$)", body)
-        if not m or m.group(2) not in aliases:
-            m = None
-            for k in re.finditer(r"\blet (" + NAME + r") = (" + NAME + r")((?:\.before)*) in(\s+|$)", body):
-                if k.group(2) in aliases:
-                    m = k
-                    break
+        m = None
+        for k in re.finditer(r"\blet (" + NAME + r") = (" + NAME + r")((?:\.before)*) in(\s+|$)", body):
+            if k.group(2) in behind:
+                m = k
+                break
         if not m:
             break
-        aliases.add(m.group(1))
+        behind[m.group(1)] = behind[m.group(2)] + m.group(3).count(".before")
         gap = m.group(4)
         body = body[: m.start()] + ("" if "\n" not in gap or body[: m.start()].endswith((" ", "\n")) else gap) + body[m.end() :]
-    for a in sorted(aliases, key=len, reverse=True):
-        body = re.sub(r"(?<![\w.'’-])" + re.escape(a) + r"(?:\.before)*(?![\w'’-])", "\0", body)
-    return body.replace("\0", start)
+    for a in sorted(behind, key=len, reverse=True):
+        body = re.sub(
+            r"(?<![\w.'’-])" + re.escape(a) + r"((?:\.before)*)(?![\w'’-])(?=\.)",
+            lambda m: f"\x01{behind[a] + m.group(1).count('.before')}\x02",
+            body,
+        )
+    while True:
+        m = re.search(r"\blet (" + NAME + r") = (\x01\d+\x02\.(?!requires\b|args\b)" + NAME + r") in(\s+|$)", body)
+        if not m:
+            return body
+        gap, rest = m.group(3), body[m.end() :]
+        again = re.search(r"\blet " + re.escape(m.group(1)) + r" = ", rest)
+        until = again.start() if again else len(rest)
+        rest = re.sub(r"(?<![\w.'’-])" + re.escape(m.group(1)) + r"(?![\w'’-])", m.group(2), rest[:until]) + rest[until:]
+        body = body[: m.start()] + ("" if "\n" not in gap or body[: m.start()].endswith((" ", "\n")) else gap) + rest
 
 
-def steps(body, step_of, params, said, where, start="c", sigs=None, own=None):
+def steps(body, step_of, params, said, where, start="c", sigs=None, own=None, at=None):
     def one(m):
-        old, rest = m.group(1), m.group(2) or ""
-        if old == "requires" and own:
-            return f"{start}." + by_name(".requires" + rest, "requires", own.requires)[1:]
+        depth, old, rest = int(m.group(1)), m.group(2), m.group(3) or ""
+        if old == "requires":
+            return f"{start}." + (by_name(".requires" + rest, "requires", own.requires)[1:] if own else "requires" + rest)
         if old == "args":
             parts = rest.split(".")
             if len(parts) > 1:
@@ -214,9 +265,25 @@ def steps(body, step_of, params, said, where, start="c", sigs=None, own=None):
             return f"{start}.args" + ".".join(parts)
         if old in ("well-formed", "well_formed"):
             return f"{start}.well_formed{rest}"
-        new = step_of.get(same(old))
+        if old == "ranges":
+            parts = rest.split(".")
+            if len(parts) > 1:
+                parts[1] = parts[1].replace("-", "_")
+            return f"{start}.ranges" + ".".join(parts)
+        path = [x for x in rest.split(".") if x]
+        i = at.step(old, depth) if at else None
+        if i is not None:
+            new = step_at(at.facts, i)
+            found = at.arm(i, old, path)
+            if found:
+                return f"{start}.{found}"
+        else:
+            new = step_of.get(same(old))
+        if path[:1] == ["given"] and at and at.typed(old):
+            return f"{start}.type_inv.{at.typed(old)}" + "".join("." + x for x in path[1:])
         if new is None:
-            return m.group(0)
+            said.append(f"{where}: {start}.{old}{rest}: no such step")
+            return f"{start}.{old}{rest}"
         name, callee, decided = new
         a = re.match(r"\.auto((?:\.1)*)\.0(?![.\d])", rest)
         if a:
@@ -225,7 +292,7 @@ def steps(body, step_of, params, said, where, start="c", sigs=None, own=None):
             if ps and k < len(ps):
                 rest = ".auto." + ps[k] + rest[a.end() :]
             else:
-                said.append(f"{where}: {m.group(0)}: no parameter {k}")
+                said.append(f"{where}: {start}.{name}{rest}: no parameter {k}")
         sig = signature_of(callee, sigs)
         a = re.match(r"\.new((?:\.1)*)\.0(?![.\d])", rest)
         if a and sig and a.group(1).count("1") < len(sig.lent):
@@ -237,18 +304,28 @@ def steps(body, step_of, params, said, where, start="c", sigs=None, own=None):
         g = re.match(r"\.given\.1(?![.\d])", rest)
         if g:
             rest = ".is" + rest[g.end() :]
-        g = re.match(r"\.given(?![.\w])", rest)
+        g = re.match(r"\.given(?![\w])", rest)
         if g:
-            said.append(f"{where}: {m.group(0)}: what is given")
+            said.append(f"{where}: {start}.{name}{rest}: what is given")
         return f"{start}.{name}{rest}"
 
-    return re.sub(r"(?<![\w.'’-])" + start + r"\.(" + NAME + r")((?:\.[\w'’-]+)*)", one, body)
+    body = re.sub(r"\x01(\d+)\x02\.(" + NAME + r")((?:\.[\w'’-]+)*)", one, body)
+    # a test of `!x` says of `x` itself what it is
+    body = re.sub(r"\bnot-(?:true|false) _ (?=" + start + r"\.[\w.'-]*\bif-not-)", "", body)
+    return re.sub(r"\x01\d+\x02", start, body)
 
 
-def aliases(body, start, sigs, own, step_of):
+def step_at(facts, i):
+    p, cl = facts["places"][i], facts["clauses"][i]
+    return (p[2][1], p[3], cl["fields"] if cl and not cl.get("told") else None)
+
+
+def aliases(body, sigs, own, step_of, at):
     """What `let P = c.requires in` or `let E = c.step.ensures in` binds is read by the clauses' names too."""
-    for m in list(re.finditer(r"\blet (" + NAME + r") = " + start + r"\.(" + NAME + r")(\.ensures)? in\b", body)):
-        alias, step, ensures = m.groups()
+    for m in list(re.finditer(r"\blet (" + NAME + r") = \x01(\d+)\x02\.(" + NAME + r")(\.ensures)? in\b", body)):
+        alias, depth, step, ensures = m.groups()
+        i = at.step(step, int(depth))
+        step_of = dict(step_of, **{same(step): step_at(at.facts, i)}) if i is not None else step_of
         if step == "requires" and not ensures:
             label, clauses = "requires", own.requires if own else []
         elif ensures and same(step) in step_of:
@@ -322,10 +399,7 @@ def turn(crate, path, facts, said, sigs):
     for p, cl in zip(facts["places"], facts["clauses"]):
         o, n = p[2]
         if o:
-            k = same(o)
-            if k in step_of and step_of[k][0] != n:
-                said.append(f"{fn}: the step {o} is {step_of[k][0]} and {n}")
-            step_of[k] = (n, p[3], cl["fields"] if cl and not cl.get("told") else None)
+            step_of[same(o)] = (n, p[3], cl["fields"] if cl and not cl.get("told") else None)
     loops = {}
     for (names_, vs), ch in zip(facts["loops"], facts["changed"]):
         loops[same("invariant-" + names_[0])] = ("invariant-" + names_[1], vs, ch)
@@ -333,15 +407,25 @@ def turn(crate, path, facts, said, sigs):
         if names_[0] not in step_of:
             step_of[same(names_[0])] = (names_[1], None, None)
     params = facts["params"]
+    asked_at = {n: a for (_, n), a in zip(facts["needs"], facts["asked_at"])}
+    cycle = fn.startswith("+")
     answers, invariants, own = [], [], []
     for name, block in decls:
         if name is None:
             own.append(block)
             continue
         sig = re.sub(r"\s+", " ", block[block.index(name + " :") :]).split(" : ", 1)[1] if name + " :" in block else ""
-        if "statement M" in block and "tie.close" in block:
+        if "statement M" in block and re.search(r"\bclose\b", block):
             continue
-        m = re.match(r"tie\.(invariant|decreases)-([\w-]+)", sig)
+        if cycle and re.match(r"(?:ℕ → )?(?:In \d|Measures \d|[\w-]+-lts\.Claims)", sig):
+            m = re.match(r"a((?:\.1)*)\.0(\.now)?$", definition(block)[4].strip()) if sig.startswith("Measures") else None
+            if m:
+                x = params[f"{crate}::{fn[1:]}"][m.group(1).count("1")]
+                invariants.append(f"abbrev pub decreases-{fn[1:]} : goal.decreases-{fn[1:]}\ndecreases-{fn[1:]} l = l.{x}{m.group(2) or ''}")
+            elif sig.startswith("Measures"):
+                said.append(f"{fn}: {name}: the measure, by hand")
+            continue
+        m = re.match(r"(?:tie|[\w-]+-lts)\.(invariant|decreases)-([\w-]+)", sig)
         if m:
             d = definition(block)
             new = loops.get(same(f"{m.group(1)}-{m.group(2)}"))
@@ -354,27 +438,29 @@ def turn(crate, path, facts, said, sigs):
             body = body if "\n" in body or body.startswith(" ") else " " + body.strip()
             invariants.append("\n".join(comments + [f"abbrev pub {new[0]} : goal.{new[0]}"] + unfold + [f"{new[0]} l =" + (body if body.startswith("\n") or body.startswith(" ") and "\n" not in body.split("\n")[0] else " " + body)]))
             continue
-        m = re.match(r"tie\.Need-([\w'’-]+)", sig)
+        m = re.match(r"(?:\(t : ℕ\) → )?(?:tie|[\w-]+-lts)\.Need-([\w'’-]+)", sig)
         if m:
             name_of_goal = m.group(1)
             new = needs.get(same(name_of_goal))
             d = definition(block)
             if new is None:
-                said.append(f"{fn}: {name}: no goal {m.group(1)}: " + ("dropped" if d and d[4].strip() == "search rules" and not d[2] else "LEFT"))
-                if not (d and d[4].strip() == "search rules" and not d[2]):
-                    own.append("-- no goal " + m.group(1) + "\n" + block)
+                idle = same(m.group(1)).startswith(("same-length", "enum-known", "enum-told")) or d and d[4].strip() == "search rules" and not d[2]
+                if not idle:
+                    said.append(f"{fn}: {name}: no goal {m.group(1)}: LEFT: {d[4] if d else ''}")
                 continue
             if not d:
                 said.append(f"{fn}: {name}: no single equation")
                 own.append(block)
                 continue
             comments, _, unfold, args, body = d
-            if body.strip() == "search rules" and not unfold:
+            if body.strip() == "search rules" and not unfold or re.match(r"enum-(?:known|told)", same(name_of_goal)):
                 continue
             args = [a for a in args if a not in ("κs",)]
-            body = places(body, args[0])
-            body = aliases(body, args[0], sigs, own_sig, step_of)
-            body = steps(body, step_of, params, said, f"{fn}: {new}", args[0], sigs, own_sig)
+            start = args[1] if cycle else args[0]
+            at = Where(facts, asked_at[new])
+            body = places(body, start)
+            body = aliases(body, sigs, own_sig, step_of, at)
+            body = steps(body, step_of, params, said, f"{fn}: {new}", start, sigs, own_sig, at)
             m = re.match(r"([\w-]+?)-requires(?:-\d+)?$", name_of_goal)
             asked = None
             if m:
@@ -399,7 +485,7 @@ def turn(crate, path, facts, said, sigs):
         if "tie." in block or "(c :" in block:
             said.append(f"{fn}: {name}: a helper over places")
         own.append(block)
-    uses = [u for u in uses if not re.search(r"\.(Statement|Tie)\b", u)]
+    uses = [u for u in uses if not re.search(r"\.(?:Statement|Tie|Reads|Kinds|Lts-\w+)\b|borrow\.Fn\.|\.\{statement\}", u)]
     if answers or own:
         body = "\n\n".join(["\n".join(head + uses + [f"use {module}.Goals as goal"])] + own + answers) + "\n"
         with open(os.path.join(folder, "Answers.antt"), "w") as f:
@@ -425,10 +511,10 @@ def main():
         fn = os.path.relpath(folder, os.path.join("crates", crate, "proofs"))
         if only and fn not in only:
             continue
-        key = f"Rattle-{crate}-proofs.{fn.replace('/', '.')}.Lts"
+        key = f"Rattle-{crate}-proofs.{fn.replace('/', '.')}.Lts" + ("-" + fn[1:] if fn.startswith("+") else "")
         with open(os.path.join(folder, "Proof.antt")) as f:
             text = f.read()
-        if key not in facts or "tie.spec" not in text:
+        if key not in facts or "tie.spec" not in text and "-lts.spec" not in text:
             said.append(f"{fn}: by hand" + ("" if key in facts else ": no names"))
             continue
         turn(crate, os.path.join(folder, "Proof.antt"), facts[key], said, sigs)

@@ -5,11 +5,11 @@ use mathlib.Core.Path.{◌≡◌, refl, sym, ap, ◌∙◌, subst}
 use mathlib.Core.Bool.{Bool, true, false}
 use mathlib.Core.List.{List, [], ◌∷◌, ◌++◌}
 use mathlib.Core.Logic.{⊎_elim}
-use Prim.Native.Nat.{ℕ, suc, ◌+◌, ◌-◌, ◌*◌, ◌≤◌, ◌<◌}
+use Prim.Native.Nat.{ℕ, suc, ◌+◌, ◌*◌, ◌≤◌, ◌<◌}
 use native.Mathlib.Omega.{arith}
 use lib.ListN.{length, get_or, set, length-set, length-append, get_or-append}
 use lib.Seq.{get_or-set_same, get_or-set_other}
-use Rattle.semantics.specs.Values.{Value, null, string, array, Object, elements, text}
+use Rattle.semantics.specs.Values.{Value, null, array, Object, elements, text}
 use Rattle.semantics.specs.Machine as Floo
 use Rattle.semantics.specs.Machine.{with_store, object, elements_of, make, made, change}
 use Rattle.heap.specs.Word.{word}

@@ -7,14 +7,14 @@ use mathlib.Core.List.{List, [], ◌∷◌, ◌++◌}
 use Prim.Native.Nat.{ℕ, suc, ◌+◌, ◌*◌, ◌/◌, ◌≤◌}
 use native.Mathlib.Omega.{arith}
 use lib.ListN.{length, get_or}
-use Rattle.semantics.specs.Values.{Value, integer, boolean, null, mark, operator, name, string, array, ok, fault, object_id}
+use Rattle.semantics.specs.Values.{Value, null, ok, fault, object_id}
 use Rattle.semantics.specs.Machine as Floo
 use Rattle.semantics.specs.Machine.{member, with_read_only, protect, writable}
 use Rattle.semantics.specs.ResultLaws.{ok_one, fault_ok}
 use Rattle.semantics.specs.MarkLaws.{writable_plain, writable_marked}
 use Rattle.semantics.specs.declared.Error.TheVariants.{InvalidAccess}
 use Rattle.heap.specs.Chain.{live}
-use Rattle.heap.specs.Shape.{Full, cells}
+use Rattle.heap.specs.Shape.{Full}
 use Rattle.heap.specs.Reading.{is_sealed}
 use Rattle.heap.specs.Seal.{Seals}
 use Rattle.heap.proofs.Shapes.{room}
@@ -23,7 +23,7 @@ use Rattle.store.specs.Rep.{Stands, a_null, an_integer, a_boolean, a_mark, an_op
 use Rattle.store.proofs.Rooting.{rep_alike}
 use Rattle.store.proofs.Sealing.{sealed_rep, sealed_marks}
 use Rattle.machine.specs.Words.{item_tag, item_payload}
-use Rattle.machine.specs.Places.{root_count, roots}
+use Rattle.machine.specs.Places.{root_count}
 use Rattle.machine.specs.Rep.{Rep, MovesHeap}
 use Rattle.machine.specs.declared.Machine.{Machine}
 use Rattle.machine.proofs.Copying.{word_of}

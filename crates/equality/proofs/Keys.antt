@@ -2,7 +2,7 @@
 -- two words of a value say.
 -- Assumes nothing.
 use mathlib.Core.Path.{◌≡◌, refl, sym, ap, ◌∙◌, subst}
-use mathlib.Core.Bool.{Bool, true, false, not}
+use mathlib.Core.Bool.{Bool, true, false}
 use mathlib.Core.List.{List, [], ◌∷◌, map}
 use mathlib.Core.Logic.{⊎_elim}
 use mathlib.Core.Option.{some}
@@ -11,7 +11,7 @@ use native.Mathlib.Omega.{arith}
 use borrow.Author.Tests.{ne_eqb}
 use lib.ListN.{get_or, get_elem?}
 use Rattle.semantics.specs.Text.{same}
-use Rattle.semantics.specs.Values.{Value, operator, string, current}
+use Rattle.semantics.specs.Values.{Value, string, current}
 use Rattle.semantics.specs.Machine as Floo
 use Rattle.semantics.specs.Machine.{object, bytes_of}
 use Rattle.semantics.specs.NumberOperators.{key}

@@ -25,7 +25,7 @@ at_corner f a b t e h =
     let p = and_yes (eqb a (2 ^ 31)) (eqb b (2 ^ 32 - 1)) (subst T (sym h ∙ e) tt) in
     rw (eqb_yes {a = a} {b = 2 ^ 31} p.0, eqb_yes {a = b} {b = 2 ^ 32 - 1} p.1)
 
-pub off_corner : (a b : ℕ) (t : Bool) → t ≡ is_corner a b → t ≡ false → a ≡ 2 ^ 31 → b ≡ 2 ^ 32 - 1 → ⊥
+off_corner : (a b : ℕ) (t : Bool) → t ≡ is_corner a b → t ≡ false → a ≡ 2 ^ 31 → b ≡ 2 ^ 32 - 1 → ⊥
 off_corner a b t e h p q = true≢false (sym (e ∙ rw (p, q)) ∙ h)
 
 -- ---- elsewhere
@@ -64,6 +64,9 @@ pub record Operands (a b : ℕ) (x y : ℤ) : Type 0 where
   pub y_is : y ≡ signed b
   pub not_zero : b ≢ 0
   pub apart : a ≡ 2 ^ 31 → b ≡ 2 ^ 32 - 1 → ⊥
+
+pub operands : {a b : ℕ} {x y : ℤ} {t : Bool} → Fits w32 a → Fits w32 b → x ≡ signed a → y ≡ signed b → b ≢ 0 → t ≡ is_corner a b → t ≡ false → Operands a b x y
+operands g h e f n corner k = record { a_fits = g; b_fits = h; x_is = e; y_is = f; not_zero = n; apart = off_corner _ _ _ corner k }
 
 module _ {a b : ℕ} {x y : ℤ} (o : Operands a b x y) where
   read : {A : Type 0} (f : ℤ → ℤ → A) → f (to_z w32 (of_z w32 x)) (to_z w32 (of_z w32 y)) ≡ f (signed a) (signed b)

@@ -1,6 +1,6 @@
 -- Forf's shifts: what the machine's give for counts from 0 to 31, and what stands for a count outside.
 -- Assumes nothing.
-use Rattle.std.proofs.Common.{◌≡◌, ℕ, ◌*◌, ◌/◌, ◌%◌, ◌^◌, ◌<◌, ◌≤◌, cond, ltb, ℤ, pos, negsuc, ap, ◌∙◌, div-le_self, arith, w32, Fits, SFits, to_z, of_z, le-ltb, lt-ltb}
+use Rattle.std.proofs.Common.{◌≡◌, ℕ, ◌*◌, ◌%◌, ◌^◌, ◌<◌, ◌≤◌, cond, ltb, ℤ, pos, negsuc, ap, ◌∙◌, div-le_self, arith, w32, Fits, SFits, to_z, of_z, le-ltb, lt-ltb}
 use lib.Signed.{shr_z}
 use mir.ValLaws.{to_z-Fits, to_z-of_z}
 use Rattle.semantics.specs.Words.{signed, word, shift}
