@@ -9,7 +9,7 @@ use native.Mathlib.Omega.{arith}
 use lib.Dec.{eqb}
 use lib.ListN.{length, take, drop, get_or, drop_of_length-le, length-drop}
 use lib.Seq.{drop-cons, length-take-le}
-use borrow.Author.Tests.{le-leb, lt-leb, ne_eqb, eq-eqb}
+use borrow.Author.Tests.{le-leb, lt-leb, ne_eqb}
 use Rattle.semantics.specs.Sizes.{name_most}
 use Rattle.semantics.specs.Values.{ok, fault, ◌>>=◌, check}
 use Rattle.semantics.specs.Tokens.{is_name_byte, class_of, run, starts_number, signs, number, quoted, lexeme, name_of, run_token, slash_token, lex_as, lex}
