@@ -1,7 +1,6 @@
 // The types that the definition of Forf in specs/ shares with the code above it. Nothing runs here.
 #![tactic(auto)]
 
-
 // The errors of a step, in their order. `error_text` of specs/Outcome gives each its name in the paper.
 #[derive(Clone, Copy)]
 pub enum Error {

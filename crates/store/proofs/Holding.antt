@@ -12,8 +12,9 @@ use Rattle.semantics.specs.Values.{Value, integer, boolean, null, mark, operator
 use Rattle.semantics.specs.Machine.{Machine, object, elements_of, member}
 use Rattle.semantics.specs.Held
 use Rattle.semantics.specs.Held.{of_value, gather, of_object, held}
-use Rattle.semantics.specs.HeldLaws as laws
-use Rattle.semantics.specs.HeldLaws.{◌∈◌, or_cases, or_left, or_right}
+use Rattle.semantics.proofs.HeldLaws as laws
+use Rattle.semantics.specs.HeldLaws.{◌∈◌}
+use Rattle.semantics.proofs.HeldLaws.{or_cases, or_left, or_right}
 use Rattle.heap.specs.Shape.{Ghost, Shape, Counts}
 use Rattle.store.specs.Rep.{Names, by_string, by_array, object_at, Alive, Rep}
 use Rattle.store.proofs.Standing.{null_names}
