@@ -14,7 +14,7 @@ import subprocess
 import sys
 import tempfile
 
-NAME = r"[A-Za-z_+μ][\w'’₀]*(?:-[\w'’₀]+)*"
+NAME = r"[A-Za-z_+μ][\w'’₀]*(?:-+[\w'’₀]+)*"
 SIGNATURE = re.compile(r"^(?:(?:abbrev|unfoldable|pub) )*(" + NAME + r") :(?: |$)")
 OPENS = re.compile(r"^(?:module|data|record|infix|ruleset|use)\b")
 

@@ -1,12 +1,11 @@
 -- What `enter` has at each of its three ends: an entry that is live and replaces, one that is live and adds, and any other.
 -- Assumes nothing.
 use mathlib.Core.Path.{◌≡◌, refl, sym, ap, ◌∙◌}
-use mathlib.Core.Bool.{Bool, true, false, not, ◌&&◌, cond, true≢false, false≢true}
+use mathlib.Core.Bool.{Bool, true, false, ◌&&◌, cond, true≢false, false≢true}
 use mathlib.Core.List.{List}
 use Prim.Native.Nat.{ℕ, ◌+◌, ◌≤◌, ◌<◌}
 use native.Mathlib.Omega.{arith}
 use lib.ListN.{length, set}
-use lib.Dec.{T}
 use Rattle.book.specs.Books.{room_of, place_of}
 use Rattle.book.specs.Fates.{fate_in, is_replacing, is_adding, book_with, book_after, count_after, Enters}
 use Rattle.book.specs.SoundLaws.{room_within}
@@ -61,10 +60,10 @@ module _ (b : List Record) (e : Record) (count n : ℕ) (r : Entered) (few : n �
     unfolding count_after
     numbered t q = ap (λ (s : Bool). cond s (count + 1) count) q
 
-  pub replaced : (live y : Bool) → n ≡ cond live count 0 → y ≡ (live && is_replacing r.fate) → T y
+  pub replaced : (live y : Bool) → n ≡ cond live count 0 → y ≡ (live && is_replacing r.fate) → y ≡ true
       → (r.at < length b) × ((zs : List Record) → zs ≡ set b r.at e → Enters live e count b zs r)
   unfolding book_with
-  replaced live false c t h = absurd h
+  replaced live false c t h = absurd (false≢true h)
   replaced false true c t h = absurd (true≢false t)
   replaced true true c t h =
       let l = (replaces_fate b n e (ap is_replacing (sym j.0) ∙ sym t)).0 in
@@ -79,10 +78,10 @@ module _ (b : List Record) (e : Record) (count n : ℕ) (r : Entered) (few : n �
         },
       )
 
-  pub added : (live y : Bool) → n ≡ cond live count 0 → y ≡ (live && is_adding r.fate) → T y
+  pub added : (live y : Bool) → n ≡ cond live count 0 → y ≡ (live && is_adding r.fate) → y ≡ true
       → (n < length b) × ((zs : List Record) (m : ℕ) (r' : Entered) → zs ≡ set b n e → m ≡ n + 1 → (r'.fate ≡ r.fate) × (r'.at ≡ r.at) × (r'.count ≡ m) → Enters live e count b zs r')
   unfolding book_with
-  added live false c t h = absurd h
+  added live false c t h = absurd (false≢true h)
   added false true c t h = absurd (true≢false t)
   added true true c t h =
       let l = adds_fate b n e (ap is_adding (sym j.0) ∙ sym t) in
@@ -97,10 +96,10 @@ module _ (b : List Record) (e : Record) (count n : ℕ) (r : Entered) (few : n �
         },
       )
 
-  pub untouched : (live y z : Bool) → n ≡ cond live count 0 → y ≡ (live && is_replacing r.fate) → T (not y) → z ≡ (live && is_adding r.fate) → T (not z) → Enters live e count b b r
+  pub untouched : (live y z : Bool) → n ≡ cond live count 0 → y ≡ (live && is_replacing r.fate) → y ≡ false → z ≡ (live && is_adding r.fate) → z ≡ false → Enters live e count b b r
   unfolding book_after
-  untouched live true z c t h s k = absurd h
-  untouched live false true c t h s k = absurd k
+  untouched live true z c t h s k = absurd (true≢false h)
+  untouched live false true c t h s k = absurd (true≢false k)
   untouched false false false c t h s k = record { fate = λ z. absurd (false≢true z); at = λ z. absurd (false≢true z); count = λ z. absurd (false≢true z); book = λ z. absurd (false≢true z); still = λ _. refl }
   untouched true false false c t h s k =
       let a = ap is_adding (sym (fate c)) ∙ sym s in

@@ -13,7 +13,8 @@ use Rattle.semantics.specs.Machine.{Machine, with_stack, with_store, push, objec
 use Rattle.semantics.specs.Printing.{shown, echoed_to, echoed}
 use Rattle.semantics.specs.ResultLaws.{choose, ok_one}
 use Rattle.semantics.specs.AsciiLaws.{Bytes}
-use Rattle.semantics.specs.EchoLaws.{quoted_text, integer_text, string_echoed, lex_quoted, lex_integer}
+use Rattle.semantics.specs.EchoLaws.{quoted_text, integer_text}
+use Rattle.semantics.proofs.EchoLaws.{string_echoed, lex_quoted, lex_integer}
 use Rattle.echo_laws.specs.Runs.{current_at, Iff}
 
 -- ---- alike

@@ -12,7 +12,7 @@ use Rattle.semantics.specs.Machine.{Machine, Frame, running, with_stack, with_ex
 use Rattle.semantics.specs.Printing.{echoed}
 use Rattle.semantics.specs.Operators.{perform}
 use Rattle.semantics.specs.Steps.{Limits, State, Move, command_of, execute, is_procedure, treat, silent, resume, goes, passed, step_on, step}
-use Rattle.semantics.specs.EchoLaws.{echo_performed, echo_does, echoed_same}
+use Rattle.semantics.proofs.EchoLaws.{echo_performed, echo_does, echoed_same}
 use Rattle.walk.specs.Parts.{Within}
 use Rattle.echo_laws.specs.Runs.{Executes, waiting, element}
 use Rattle.echo_laws.proofs.Rooms.{room_there, same_cells, moved_goes}

@@ -14,7 +14,8 @@ use Rattle.semantics.specs.Held.{sum_of, held_cells}
 use Rattle.semantics.specs.Groups.{Taken, taken, skip, token_value, take_token}
 use Rattle.semantics.specs.Steps.{Limits, State, command_of, execute, is_procedure, treat, new_cells, room_for, goes, token_move, token_step, step_on, step}
 use Rattle.semantics.specs.AsciiLaws.{Bytes}
-use Rattle.semantics.specs.EchoLaws.{quoted_text, integer_text, lex_quoted, lex_integer}
+use Rattle.semantics.specs.EchoLaws.{quoted_text, integer_text}
+use Rattle.semantics.proofs.EchoLaws.{lex_quoted, lex_integer}
 use Rattle.walk.specs.Parts.{Within}
 use Rattle.echo_laws.proofs.Rooms.{room_there, same_cells, moved_goes}
 

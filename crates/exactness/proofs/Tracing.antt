@@ -8,7 +8,8 @@ use Prim.Native.Nat.{ℕ, zero, suc, ◌+◌, ◌≤◌, ◌<◌}
 use native.Mathlib.Omega.{arith}
 use lib.ListN.{length, get_or, take}
 use Rattle.semantics.specs.Steps.{Limits, State, Step, goes, fails, misreads, step, Run, stopped, out_of_fuel, failed, misread, is_finished, finish, go_on, run}
-use Rattle.semantics.specs.RunLaws.{Stepped, went, stuck, unread, step_stepped}
+use Rattle.semantics.specs.RunLaws.{Stepped, went, stuck, unread}
+use Rattle.semantics.proofs.RunLaws.{step_stepped}
 use Rattle.semantics.specs.ResultLaws.{choose}
 use Rattle.semantics.specs.declared.Error.{Error}
 use Rattle.semantics.specs.declared.Fault.{Fault}

@@ -9,11 +9,15 @@ use Rattle.semantics.specs.Values.{ok, fault, ◌>>=◌}
 use Rattle.semantics.specs.ResultLaws.{gives_ok, then_ok, ok_one}
 use Rattle.forf_semantics.specs.Errors.{Result}
 use Rattle.forf_semantics.specs.Tokens.{lexeme, lex}
-use Rattle.forf_semantics.specs.Items.{skip, read_group}
-use Rattle.forf_semantics.specs.TokenLaws.{Fits, skip_le, token_fits}
-use Rattle.forf_semantics.specs.GroupLaws.{Inside, group_takes}
+use Rattle.forf_semantics.specs.Tokens as tokens
+use Rattle.forf_semantics.specs.Items.{Group, skip, read_group}
+use Rattle.forf_semantics.specs.TokenLaws.{Fits}
+use Rattle.forf_semantics.proofs.TokenLaws.{skip_le, token_fits}
+use Rattle.forf_semantics.specs.GroupLaws.{Inside}
+use Rattle.forf_semantics.proofs.GroupLaws.{group_takes}
 use Rattle.forf_semantics.specs.RestLaws.{TokenAt}
-use Rattle.forf_semantics.specs.EndLaws.{end_of, group_end, end_number, end_word, end_group, end_too_deep, end_close, end_missing, end_fault}
+use Rattle.forf_semantics.specs.EndLaws.{end_of, group_end}
+use Rattle.forf_semantics.proofs.EndLaws.{end_number, end_word, end_group, end_too_deep, end_close, end_missing, end_fault}
 use Rattle.forf_semantics.specs.declared.Error.TheVariants.{SyntaxError}
 use Rattle.forf_token.specs.Lexing.{token_of, Lexes, LexedAt}
 use Rattle.forf_token.specs.declared.Token.{Token}

@@ -27,7 +27,8 @@ use Rattle.forf_semantics.specs.Items.{count}
 use Rattle.forf_semantics.specs.Machine.{Value}
 use Rattle.forf_semantics.specs.BodyLaws.{body_at, Known}
 use Rattle.forf_semantics.specs.Outcome.{ending_lines, item}
-use Rattle.forf_semantics.specs.OutcomeLaws.{command_in, item_length, error_length, ending_length}
+use Rattle.forf_semantics.specs.OutcomeLaws.{command_in}
+use Rattle.forf_semantics.proofs.OutcomeLaws.{item_length, error_length, ending_length}
 use Rattle.forf_semantics.specs.declared.Error.{Error}
 use Rattle.forf_machine.specs.Slots.{slots}
 use Rattle.forf_machine.specs.Rep.{value_as, value_of, SoundValue}

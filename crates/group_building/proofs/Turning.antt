@@ -14,7 +14,7 @@ use Rattle.semantics.specs.Values.{Value, null, array, Object, elements, cells}
 use Rattle.semantics.specs.Machine as Floo
 use Rattle.semantics.specs.Machine.{with_store, with_read_only, object, elements_of, made, change}
 use Rattle.semantics.specs.Groups.{skip}
-use Rattle.semantics.specs.TokenLaws.{skip_le}
+use Rattle.semantics.proofs.TokenLaws.{skip_le}
 use Rattle.semantics.specs.Held.{sum_of}
 use Rattle.semantics.specs.ListLaws.{All}
 use Rattle.heap.specs.Word.{word}

@@ -11,7 +11,7 @@ use Rattle.semantics.specs.Values.{Value, Attempt, ok, fault, ◌>>=◌, cells}
 use Rattle.semantics.specs.Machine.{Machine, made}
 use Rattle.semantics.specs.Held.{sum_of}
 use Rattle.semantics.specs.Groups.{taken, skip, opened, element, group}
-use Rattle.semantics.specs.TokenLaws.{skip_le}
+use Rattle.semantics.proofs.TokenLaws.{skip_le}
 use Rattle.semantics.specs.ResultLaws.{Gives, gives, fails, gives_then}
 use Rattle.semantics.specs.declared.Fault.{Fault}
 use Rattle.semantics.specs.declared.Fault.TheVariants.{BadBrace, OverLimit}

@@ -13,7 +13,7 @@ use Rattle.semantics.specs.Values.{Value, integer, name, array, Object, elements
 use Rattle.semantics.specs.Machine.{Machine, Slot, with_dictionary, with_store, with_read_only, make, made, change, protect, intern, slotted}
 use Rattle.semantics.specs.Held.{sum_of}
 use Rattle.semantics.specs.Groups.{Taken, taken, skip, Reader, opened, enclosed, closed, element, group}
-use Rattle.semantics.specs.TokenLaws.{skip_le}
+use Rattle.semantics.proofs.TokenLaws.{skip_le}
 use Rattle.token.specs.Lexing.{Lexes}
 use Rattle.groups.specs.Nodes.{Nodes, end, leaf, inner, is_leaf, leaf_value, leaf_objects, leaf_names, count, objects, values, news, wanted, names, intern_all, up_from, marked, grown, filled}
 use Rattle.groups.specs.Parsing.{Parsed, closes, token, opens}

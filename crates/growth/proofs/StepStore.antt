@@ -13,7 +13,8 @@ use Rattle.semantics.specs.Machine.{Machine, object, make, made, change, with_st
 use Rattle.semantics.specs.ObjectOperators.{size}
 use Rattle.semantics.specs.Steps.{Limits, State, goes, step}
 use Rattle.semantics.specs.ListLaws.{all_any}
-use Rattle.semantics.specs.HeldLaws.{◌∈◌, append_left}
+use Rattle.semantics.specs.HeldLaws.{◌∈◌}
+use Rattle.semantics.proofs.HeldLaws.{append_left}
 use Rattle.walk.specs.Objects.{is_string, Alike}
 use Rattle.walk.proofs.Property.{Property, Fit}
 use Rattle.walk.proofs.StepsKeep.{step_goes}

@@ -8,7 +8,7 @@ use Rattle.semantics.specs.ResultLaws.{choose_cond}
 use Rattle.semantics.specs.ListLaws.{none_some, some_one}
 use Rattle.ledger.specs.Reading.{Mode, fresh, begins, plain, quoted, closing, returned, Act, keep, pass, end_field, end_line, bad, closed_act, plain_act, first_act, act, Lines, ended, in_front, new_field, new_line, mapped, read_end, read_from}
 use Rattle.ledger.specs.LineLaws.{with_bytes, bytes_fill}
-use Rattle.ledger.specs.Pieces.{Close, comma, line, end, over, wrong, Piece, piece_on, close_at, piece_from, after, piece_reads}
+use Rattle.ledger.specs.Pieces.{Close, comma, line, end, over, wrong, piece_on, close_at, piece_from, after, piece_reads}
 
 -- ---- only a text without a byte is over, and only where a line may begin
 

@@ -1,15 +1,15 @@
 -- A written book reads back as the same records in the same order (02, W11).
 -- Assumes nothing.
-use Rattle.std.specs.Prelude.{◌≡◌, refl, Bool, true, ◌&&◌, cond, List, [], ◌∷◌, ◌++◌, map, ℕ, ◌≤◌, length, leb}
-use Rattle.std.proofs.Common.{ap, ◌∙◌, arith, le-leb}
-use Rattle.std.proofs.Math.Option.{Option, none, some}
+use Rattle.std.specs.Prelude.{◌≡◌, refl, true, ◌&&◌, List, [], ◌∷◌, map, ℕ, ◌≤◌, length}
+use Rattle.std.proofs.Common.{ap, ◌∙◌, le-leb}
+use Rattle.std.proofs.Math.Option.{some}
 use Rattle.semantics.specs.Text.{textual, decimal}
-use Rattle.semantics.specs.ListLaws.{All, nil, cons}
+use Rattle.semantics.specs.ListLaws.{All, cons}
 use Rattle.book.specs.Books.{Entry, IsEntry, is_place_length}
 use Rattle.ledger.specs.Ledger.{lines, header, ledger_text}
 use Rattle.ledger.specs.Reading.{accepted, after_break, after_header, mapped, each, Row, row_of, number_in, with_numbers, entry_in, places_fit, reading}
 use Rattle.ledger.specs.LineLaws.{fields_of, lines_read}
-use Rattle.ledger.specs.AnswerLaws.{Accepts, accepts}
+use Rattle.ledger.specs.AnswerLaws.{accepts}
 use Rattle.ledger.specs.DecimalLaws.{number_reads}
 use Rattle.ledger.specs.Sound.{Sound}
 

@@ -1,7 +1,7 @@
 -- The records of an accepted text are sound: numbers, times and places are in range, no number stands twice, and they fit. What is then
 -- written for them is read as the same records again.
 -- Assumes nothing.
-use Rattle.std.specs.Prelude.{◌≡◌, refl, true, ◌&&◌, cond, List, [], ◌∷◌, ℕ, ◌≤◌, length, leb}
+use Rattle.std.specs.Prelude.{◌≡◌, refl, true, List, [], ◌∷◌, ℕ, ◌≤◌, length, leb}
 use Rattle.std.proofs.Common.{subst, leb→le, leb-true}
 use Rattle.std.proofs.Math.Bool.{and-eq-true_iff}
 use Rattle.std.proofs.Math.Option.{Option, none, some}
@@ -10,7 +10,7 @@ use Rattle.semantics.specs.ListLaws.{All, nil, cons, Maybe, nothing, just, none_
 use Rattle.book.specs.Books.{Entry, IsEntry, greatest, is_place_length}
 use Rattle.ledger.specs.Ledger.{ledger_text}
 use Rattle.ledger.specs.Reading.{accepted, mapped, each, Row, digits_on, limited, number_in, with_numbers, entry_in, places_fit, reading}
-use Rattle.ledger.specs.AnswerLaws.{Accepts, accepts_back}
+use Rattle.ledger.specs.AnswerLaws.{accepts_back}
 use Rattle.ledger.specs.Sound.{Sound}
 use Rattle.ledger.specs.RoundTrip.{round}
 

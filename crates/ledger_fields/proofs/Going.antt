@@ -8,16 +8,14 @@ use lib.ListN.{length, drop, get_or, drop_of_length-le}
 use lib.Seq.{drop-cons}
 use Rattle.ledger.specs.Reading as reading
 use Rattle.ledger.specs.Reading.{act}
-use Rattle.ledger.specs.Pieces as pieces
 use Rattle.ledger.specs.Pieces.{Piece, piece_on, close_at, piece_from}
 use Rattle.ledger_fields.specs.declared.Mode.{Mode}
 use Rattle.ledger_fields.specs.declared.Mode.TheVariants.{Plain, Quoted, Closing, Returned}
 use Rattle.ledger_fields.specs.declared.Act.{Act}
 use Rattle.ledger_fields.specs.declared.Act.TheVariants.{KeepPlain, KeepQuoted, Open, Shut, Return, EndField, EndLine, Bad}
 use Rattle.ledger_fields.specs.declared.Close.{Close}
-use Rattle.ledger_fields.specs.declared.Close.TheVariants.{Comma, Line, End, Over, Wrong}
+use Rattle.ledger_fields.specs.declared.Close.TheVariants.{Comma, Line, Wrong}
 use Rattle.ledger_fields.specs.declared.Seen.{Seen}
-use Rattle.ledger_fields.specs.declared.Field.{Field}
 use Rattle.ledger_fields.specs.Fields.{mode_is, act_is, close_is, taken_by, unseen, seen_from, FieldAt}
 
 pub record Going (text : List ℕ) (at : ℕ) (start : Mode) (i : ℕ) (seen : Seen) (m : Mode) : Type 0 where

@@ -10,7 +10,7 @@ use Rattle.semantics.specs.Machine.{Machine, with_stack, write, object, bytes_of
 use Rattle.semantics.specs.Printing.{echoed}
 use Rattle.semantics.specs.TextOperators.{print, echo, echostack}
 use Rattle.semantics.specs.Operators.{perform, find, table, ◌is◌}
-use Rattle.semantics.specs.EchoLaws.{echo_performed, echoed_same}
+use Rattle.semantics.proofs.EchoLaws.{echo_performed, echoed_same}
 use Rattle.semantics.specs.declared.Error.TheVariants.{StackUnderflow, TypeCheck}
 use Rattle.machine.specs.Moves.{dropped}
 use Rattle.machine.proofs.Operands.{pop1_some, pop1_under}

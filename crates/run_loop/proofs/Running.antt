@@ -10,8 +10,9 @@ use Rattle.semantics.specs.Sizes.{script_most, fuel_most}
 use Rattle.semantics.specs.Machine as Floo
 use Rattle.semantics.specs.Steps as steps
 use Rattle.semantics.specs.Steps.{run, finish, is_finished}
-use Rattle.semantics.specs.RunLaws as laws
-use Rattle.semantics.specs.RunLaws.{step_stepped, went}
+use Rattle.semantics.proofs.RunLaws as laws
+use Rattle.semantics.specs.RunLaws.{went}
+use Rattle.semantics.proofs.RunLaws.{step_stepped}
 use Rattle.semantics.specs.declared.Error.{Error}
 use Rattle.semantics.specs.declared.Fault.{Fault}
 use Rattle.heap.specs.Shape.{cells}

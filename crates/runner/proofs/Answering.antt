@@ -11,7 +11,7 @@ use Rattle.semantics.specs.Steps.{Limits, Run, run, initial}
 use Rattle.semantics.specs.Outcome.{outcome}
 use Rattle.semantics.specs.AsciiLaws.{Ascii}
 use Rattle.semantics.specs.Setup.{limits, refusal}
-use Rattle.semantics.specs.RunLaws.{run_steps}
+use Rattle.semantics.proofs.RunLaws.{run_steps}
 use Rattle.text.specs.Writing.{Written}
 use Rattle.setup.proofs.Accepting.{accepted}
 use Rattle.exactness.proofs.Lists.{along_length}

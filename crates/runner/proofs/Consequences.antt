@@ -8,7 +8,8 @@ use native.Mathlib.Omega.{arith}
 use lib.ListN.{length, get_or, take}
 use lib.Seq.{take_at}
 use Rattle.semantics.specs.Held.{held}
-use Rattle.semantics.specs.HeldLaws.{Once, held_once}
+use Rattle.semantics.specs.HeldLaws.{Once}
+use Rattle.semantics.proofs.HeldLaws.{held_once}
 use Rattle.semantics.specs.Steps as steps
 use Rattle.semantics.specs.Steps.{Limits}
 use Rattle.semantics.specs.ObjectOperators.{pasted}

@@ -1,6 +1,6 @@
 -- The mark for read only (02, W7): an object that gets it has it, others have it as before, and an object that is not made has none. What is written to has none.
 -- Assumes nothing.
-use Rattle.std.specs.Prelude.{◌≡◌, refl, Bool, true, false, not, ◌||◌, List, [], ◌∷◌, ◌++◌, ℕ, ◌≤◌, ◌<◌, eqb}
+use Rattle.std.specs.Prelude.{◌≡◌, refl, Bool, true, false, ◌||◌, List, [], ◌∷◌, ◌++◌, ℕ, ◌≤◌, ◌<◌, eqb}
 use Rattle.std.proofs.Common.{ap, ◌∙◌, arith, eq-eqb, ne_eqb}
 use Rattle.semantics.specs.Values.{ok, fault, check}
 use Rattle.semantics.specs.Machine.{Machine, with_read_only, member, protect, writable}

@@ -7,7 +7,7 @@ use Rattle.std.proofs.Math.ListN.{get_elem?}
 use Rattle.semantics.specs.Text.{bytes}
 use Rattle.semantics.specs.Words.{signed, word}
 use Rattle.semantics.specs.Values.{Result, ok, fault, ◌>>=◌, check, given, Value, integer, boolean, null, mark, operator, name, string, array, text, cells}
-use Rattle.semantics.specs.Machine.{Machine, Frame, pending, running, looping, repeating, counting, Slot, Latest, with_dictionary, with_exec, with_latest, push, enter, object, elements_of, make, made, lookup, assign, slotted}
+use Rattle.semantics.specs.Machine.{Machine, Frame, pending, running, looping, repeating, counting, Slot, with_dictionary, with_exec, with_latest, push, enter, object, elements_of, make, made, lookup, assign, slotted}
 use Rattle.semantics.specs.Errors.{error_text, error_names}
 use Rattle.semantics.specs.Operators.{perform, table, Entry}
 use Rattle.semantics.specs.Held.{held_cells, sum_of}

@@ -2,7 +2,6 @@
 // against the definition.
 #![tactic(auto)]
 
-
 // Counts and limits, as specs/Sizes has them.
 pub const OPERATOR_COUNT: usize = 61;
 

@@ -16,7 +16,7 @@ use Rattle.semantics.specs.Values.{ok, fault, ◌>>=◌, check}
 use Rattle.semantics.specs.Words.{word}
 use Rattle.semantics.specs.Tokens.{Lexing, is_digit, within, digit, digits, digits_from, up_to, starts_number, signs, form_of, number}
 use Rattle.semantics.specs.Tokens as tokens
-use Rattle.semantics.specs.TokenLaws.{signs_le}
+use Rattle.semantics.proofs.TokenLaws.{signs_le}
 use Rattle.semantics.specs.declared.Fault as semantics
 use Rattle.semantics.specs.declared.Fault.TheVariants.{BadNumber, OverLimit}
 use Rattle.token.specs.Numbers.{number_is, fault_of, with_digit, numeral, negation}

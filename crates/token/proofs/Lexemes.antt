@@ -16,7 +16,7 @@ use Rattle.semantics.specs.Tokens.{is_name_byte, class_of, run, starts_number, s
 use Rattle.semantics.specs.Tokens as tokens
 use Rattle.semantics.specs.declared.Fault as semantics
 use Rattle.semantics.specs.declared.Fault.TheVariants.{BadEscape, OpenString, BadByte, OverLimit}
-use Rattle.semantics.specs.TokenLaws.{run_le}
+use Rattle.semantics.proofs.TokenLaws.{run_le}
 use Rattle.token.specs.Bytes.{class_is}
 use Rattle.token.specs.Numbers.{number_is, fault_of as number_fault}
 use Rattle.token.specs.Strings.{CutAt, BadAt, JudgedAt}

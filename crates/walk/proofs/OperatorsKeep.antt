@@ -23,7 +23,7 @@ use Rattle.semantics.specs.TextOperators.{cvs, convert, cvn, print, echo, echost
 use Rattle.semantics.specs.Operators.{Entry, ◌is◌, table, find, perform}
 use Rattle.semantics.specs.ResultLaws.{Gives, gives, fails, gives_then, gives_check, choose, choose_cond}
 use Rattle.semantics.specs.ListLaws.{All, nil, cons, ◌&◌, Maybe, just, gives_given, all_append, all_take, all_drop, all_reverse, all-getElem?, all_replicate}
-use Rattle.semantics.specs.PegLaws.{ones_small, lowest_finds, highest_finds, found_small}
+use Rattle.semantics.proofs.PegLaws.{ones_small, lowest_finds, highest_finds, found_small}
 use Rattle.walk.specs.Objects.{is_string}
 use Rattle.walk.specs.Parts.{Bitwise, Parts, Good, a_truth, a_null, a_mark, a_name, a_string, an_array, GoodFrame, GoodObject}
 use Rattle.walk.proofs.Parts.{array_object, text_object, lookup_good, assign_good, name_or_null_good}

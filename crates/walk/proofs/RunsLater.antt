@@ -8,7 +8,8 @@ use Prim.Native.Nat.{ℕ, zero, suc, ◌≤◌}
 use native.Mathlib.Omega.{arith}
 use Rattle.semantics.specs.Machine.{Machine}
 use Rattle.semantics.specs.Steps.{Limits, State, Step, goes, step, Run, stopped, out_of_fuel, is_finished, finish, go_on, run}
-use Rattle.semantics.specs.RunLaws.{Stepped, went, stuck, unread, step_stepped}
+use Rattle.semantics.specs.RunLaws.{Stepped, went, stuck, unread}
+use Rattle.semantics.proofs.RunLaws.{step_stepped}
 use Rattle.semantics.specs.ResultLaws.{choose}
 
 -- Two choices by one test.

@@ -5,7 +5,8 @@ use mathlib.Core.Option.{some}
 use native.Mathlib.Nat.{div-eq_of_lt, div-eq_of_lt-le}
 use lib.Count.{ones, ones_step, under, count_trailing_zeros, count_leading_zeros, leading_top}
 use Rattle.semantics.specs.NumberOperators.{bit_of, ones_in, lowest_in, highest_in}
-use Rattle.semantics.specs.PegLaws.{Highest, bit_zero, bit_suc, lowest_exactly, highest_exactly}
+use Rattle.semantics.specs.PegLaws.{Highest}
+use Rattle.semantics.proofs.PegLaws.{bit_zero, bit_suc, lowest_exactly, highest_exactly}
 
 half_lt : (k w : ℕ) → w < 2 ^ suc k → w / 2 < 2 ^ k
 half_lt k w h = omega (arith, pow-suc 2 k)

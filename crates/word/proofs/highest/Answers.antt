@@ -1,7 +1,7 @@
 -- `word::highest` meets its contract: 0 has no bit that is 1, and the zeros above any other word's highest begin after it.
 -- Assumes nothing.
 use Rattle.std.proofs.Common.{sym, arith}
-use Rattle.semantics.specs.PegLaws.{highest_none}
+use Rattle.semantics.proofs.PegLaws.{highest_none}
 use Rattle.word.proofs.BitCounts.{leading_below, leading_is}
 use Rattle.word.proofs.highest.Goals as goal
 

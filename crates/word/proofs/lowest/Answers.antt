@@ -1,7 +1,7 @@
 -- `word::lowest` meets its contract: 0 has no bit that is 1, and the zeros below any other word's lowest end at it.
 -- Assumes nothing.
 use Rattle.std.proofs.Common.{sym, arith}
-use Rattle.semantics.specs.PegLaws.{lowest_none}
+use Rattle.semantics.proofs.PegLaws.{lowest_none}
 use Rattle.word.proofs.BitCounts.{trailing_is}
 use Rattle.word.proofs.lowest.Goals as goal
 

@@ -1,0 +1,10 @@
+pub mod TokenLaws
+pub mod OutcomeLaws
+pub mod SkipLaws
+pub mod RestLaws
+pub mod ShortLaws
+pub mod GroupLaws
+pub mod EndLaws
+pub mod BodyLaws
+pub mod PlaceLaws
+pub mod FaultLaws
