@@ -1,5 +1,5 @@
-// The lent book of records, one for each socket: whether it is sound, and what an entry does to it (02, W3). What touches the slice of records is thin
-// and walked by hand; every decision is on plain values.
+// The lent book of records, one for each socket: whether it is sound, and what an entry does to it (02, W3). What touches the slice of records is thin;
+// every decision is on plain values.
 #![tactic(auto)]
 
 ghost use Rattle.std.specs.Prelude.{◌≡◌, true, ◌&&◌, cond, ◌+◌, ◌<◌, ◌≤◌, length, get_or, set, ltb, eqb};

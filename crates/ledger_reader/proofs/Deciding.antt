@@ -1,6 +1,6 @@
 -- The answers of `judge` are the definition's, stage by stage.
 -- Assumes nothing.
-use mathlib.Core.Path.{◌≡◌, refl, sym, ap, subst, ◌∙◌}
+use mathlib.Core.Path.{◌≡◌, refl, sym, ap, ◌∙◌}
 use mathlib.Core.Bool.{Bool, true, false}
 use mathlib.Core.List.{List, [], ◌∷◌}
 use mathlib.Core.Option.{Option, none, some}
@@ -9,13 +9,12 @@ use native.Mathlib.Omega.{arith}
 use lib.ListN.{length, drop}
 use lib.Dec.{leb}
 use borrow.Author.Tests.{le-leb, lt-leb}
-use Rattle.semantics.specs.ListLaws.{none_some, some_one}
+use Rattle.semantics.specs.ListLaws.{some_one}
 use Rattle.book.specs.Books.{Entry, once}
-use Rattle.ledger.specs.Reading.{Refusal, Read, accepted, refused, ◌>>=◌, check, bad_header, bad_quoting, field_count, bad_number, bad_place, socket_twice, too_many, after_header, fresh, Lines, read_from, mapped, each, Row, row_of, entry_in, places_fit, numbers_of, reading}
+use Rattle.ledger.specs.Reading.{Refusal, accepted, refused, ◌>>=◌, check, bad_header, bad_quoting, field_count, bad_number, bad_place, socket_twice, too_many, after_header, fresh, Lines, read_from, each, Row, row_of, entry_in, places_fit, numbers_of, reading}
 use Rattle.ledger.specs.AnswerLaws.{given_then, given_not, check_then, check_not}
 use Rattle.ledger.specs.Pieces.{is_there}
 use Rattle.ledger.specs.Stages.{Staged, counted, numbered, placed, passed}
-use Rattle.ledger_reader.specs.declared.Reading.{Reading}
 use Rattle.ledger_reader.specs.declared.Reading.TheVariants.{Accepted}
 use Rattle.ledger_reader.specs.declared.Judged.{Judged}
 use Rattle.ledger_reader.specs.declared.Tally.{Tally}

@@ -3,8 +3,8 @@
 use mathlib.Core.Path.{◌≡◌, refl, sym, ap, ap₂, subst, ◌∙◌}
 use mathlib.Core.Bool.{Bool, true, false, true≢false}
 use mathlib.Core.List.{List, [], ◌∷◌}
-use mathlib.Core.Option.{Option, none, some}
-use Prim.Native.Nat.{ℕ, ◌+◌, ◌≤◌, ◌<◌}
+use mathlib.Core.Option.{none, some}
+use Prim.Native.Nat.{ℕ, ◌≤◌, ◌<◌}
 use native.Mathlib.Omega.{arith}
 use lib.ListN.{length, drop}
 use lib.Seq.{drop-drop}
@@ -19,7 +19,7 @@ use Rattle.ledger_fields.specs.declared.Mode.TheVariants.{Fresh, Begins}
 use Rattle.ledger_fields.specs.declared.Field.{Field}
 use Rattle.ledger_fields.specs.Fields.{mode_is, close_is, unseen, seen_from, FieldAt}
 use Rattle.ledger_reader.specs.declared.Line.{Line}
-use Rattle.ledger_reader.specs.Lines.{rank_by, entry_by, LineIs, over, uneven, line, LineAt}
+use Rattle.ledger_reader.specs.Lines.{rank_by, entry_by, over, uneven, line, LineAt}
 use Rattle.ledger_reader.proofs.Ranking.{ranked_three, rank_some}
 
 not_both : (c : Close) → is_over c ≡ true → is_comma c ≡ true → ⊥

@@ -9,12 +9,11 @@ use lib.Seq.{take-suc-set, drop-set-lt}
 use Rattle.book.specs.Books.{Entry, record_of, room_of}
 use Rattle.book.specs.SoundLaws.{room_within}
 use Rattle.book.specs.declared.Record.{Record}
-use Rattle.ledger.specs.Reading.{Read, accepted, refused, reading, replaced}
+use Rattle.ledger.specs.Reading.{reading, replaced}
 use Rattle.ledger.specs.SoundLaws.{accepted_sound}
-use Rattle.ledger_reader.specs.declared.Line.{Line}
 use Rattle.ledger_reader.specs.declared.Judged.{Judged}
 use Rattle.ledger_reader.specs.declared.Reading.{Reading}
-use Rattle.ledger_reader.specs.Lines.{LineAt, RestAt, PutAt, Fills, full, fills}
+use Rattle.ledger_reader.specs.Lines.{RestAt, PutAt, Fills, full, fills}
 use Rattle.ledger_reader.specs.Judging.{answer_of, book_after, Judges, refuses, accepts, Reads}
 use Rattle.ledger_reader.proofs.Resting.{NextIs, none_left, one_left, next_is}
 

@@ -1,19 +1,18 @@
 -- The rank and the record of a line of three fields, from what is kept of them. By the tests that the code makes.
 -- Assumes nothing.
-use mathlib.Core.Path.{◌≡◌, refl, sym, ap, ap₂, subst, ◌∙◌}
+use mathlib.Core.Path.{◌≡◌, refl, sym, ap, ap₂, ◌∙◌}
 use mathlib.Core.Bool.{Bool, true, false, ◌&&◌, cond, and-false}
-use mathlib.Core.List.{List, [], ◌∷◌, ◌++◌}
-use mathlib.Core.Option.{Option, none, some}
-use Prim.Native.Nat.{ℕ, ◌-◌, ◌≤◌, ◌<◌}
+use mathlib.Core.List.{List, [], ◌∷◌}
+use mathlib.Core.Option.{none, some}
+use Prim.Native.Nat.{ℕ, ◌≤◌, ◌<◌}
 use native.Mathlib.Omega.{arith}
-use lib.ListN.{length, replicate}
+use lib.ListN.{length}
 use lib.Dec.{leb}
 use borrow.Author.Tests.{le-leb, lt-leb, leb-true, leb-false}
 use Rattle.book.specs.Books.{Entry, greatest, record_of, is_place_length}
-use Rattle.book.specs.declared.Record.{Record}
 use Rattle.ledger.specs.Reading.{Row, row_of, number_in, with_numbers, entry_in}
 use Rattle.ledger.specs.SoundLaws.{place_range}
-use Rattle.ledger.specs.Stages.{Ranked, uneven, unnumbered, unplaced, good}
+use Rattle.ledger.specs.Stages.{Ranked, unnumbered, unplaced, good}
 use Rattle.ledger_fields.specs.declared.Seen.{Seen}
 use Rattle.ledger_fields.specs.Fields.{unseen, seen_from}
 use Rattle.ledger_fields.specs.SeenLaws.{seen_few, seen_many, seen_place, numbered, no_number, seen_number}

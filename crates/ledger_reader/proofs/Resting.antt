@@ -1,6 +1,6 @@
 -- The records that are left from a place on, one by one: whether one of some numbers is among theirs, and whether no two have one number.
 -- Assumes nothing.
-use mathlib.Core.Path.{◌≡◌, refl, sym, ap, ap₂, subst, ◌∙◌}
+use mathlib.Core.Path.{◌≡◌, refl, sym, ap, ap₂, ◌∙◌}
 use mathlib.Core.Bool.{Bool, true, false, not, ◌&&◌, ◌||◌, true≢false, and-eq-true_iff}
 use mathlib.Core.List.{List, [], ◌∷◌, ◌++◌}
 use mathlib.Core.Option.{Option, none, some}
@@ -14,7 +14,7 @@ use Rattle.semantics.specs.ListLaws.{none_some, some_one}
 use Rattle.book.specs.Books.{Entry, record_of, is_place_length, is_in, once}
 use Rattle.book.specs.declared.Record.{Record}
 use Rattle.book.specs.SoundLaws.{in_snoc, eqb_sym}
-use Rattle.ledger.specs.Reading.{fresh, Lines, read_from, mapped, each, Row, row_of, entry_in, places_fit, numbers_of}
+use Rattle.ledger.specs.Reading.{mapped, each, Row, row_of, entry_in, places_fit, numbers_of}
 use Rattle.ledger.specs.Stages.{Ranked, uneven, unnumbered, unplaced, good}
 use Rattle.ledger_reader.specs.declared.Line.{Line}
 use Rattle.ledger_reader.specs.Lines as lines

@@ -2,7 +2,7 @@
 -- Assumes nothing.
 use mathlib.Core.Path.{◌≡◌, refl, sym, ap, subst, ◌∙◌}
 use mathlib.Core.Bool.{Bool, true, false, true≢false}
-use mathlib.Core.List.{List, [], ◌∷◌}
+use mathlib.Core.List.{List}
 use mathlib.Core.Option.{Option, none, some}
 use Prim.Native.Nat.{ℕ, ◌+◌, ◌-◌, ◌≤◌, ◌<◌}
 use native.Mathlib.Omega.{arith}
@@ -10,11 +10,10 @@ use lib.ListN.{length, drop}
 use lib.Dec.{ltb}
 use borrow.Author.Tests.{lt-ltb, le-ltb}
 use Rattle.book.specs.declared.Record.{Record}
-use Rattle.ledger.specs.Reading.{fresh, Lines, read_from, each, row_of}
+use Rattle.ledger.specs.Reading.{fresh, Lines, read_from}
 use Rattle.ledger.specs.Pieces.{is_there}
 use Rattle.ledger.specs.Stages.{Ranked, uneven, unnumbered, unplaced, good, Staged, counted, numbered, placed, passed, ranked_more, none_staged, lesser, lesser_assoc, lesser_least, lesser_most}
 use Rattle.ledger_reader.specs.declared.Line.{Line}
-use Rattle.ledger_reader.specs.declared.Tally.{Tally}
 use Rattle.ledger_reader.specs.Lines as lines
 use Rattle.ledger_reader.specs.Lines.{LineIs, LineAt, Tallied}
 

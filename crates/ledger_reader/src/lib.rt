@@ -1,5 +1,5 @@
 // The book read back from the buying office's text, by RFC 4180 (02, W11). The whole text is judged first, in the paper's order; only an accepted one is filled into the book. What touches the
-// slice of records is thin and walked by hand.
+// slice of records is thin.
 #![tactic(auto)]
 
 ghost use Rattle.std.specs.Prelude.{◌≡◌, true, ◌≤◌, ◌<◌, length, drop};

@@ -1,20 +1,19 @@
 -- What `write` tells is the definition's answer: a book that is not sound is not written, nor one whose text is longer than what is lent. By the two tests.
 -- Assumes nothing.
-use mathlib.Core.Path.{◌≡◌, refl, sym, ap, ◌∙◌}
+use mathlib.Core.Path.{◌≡◌, sym, ap, ◌∙◌}
 use mathlib.Core.Bool.{Bool, true, false, ◌&&◌, cond}
-use mathlib.Core.List.{List, []}
+use mathlib.Core.List.{List}
 use Prim.Native.Nat.{ℕ, ◌+◌, ◌≤◌}
 use native.Mathlib.Omega.{arith}
 use lib.ListN.{length}
 use lib.Dec.{leb}
 use borrow.Author.Tests.{leb-true}
 use Rattle.semantics.specs.ObjectOperators.{pasted}
-use Rattle.book.specs.Books.{room_of, is_sound}
+use Rattle.book.specs.Books.{is_sound}
 use Rattle.book.specs.SoundLaws.{each_sound}
 use Rattle.book.specs.declared.Record.{Record}
 use Rattle.ledger.specs.Ledger.{ledger_text, entries_of, Writing, malformed, too_short, written, written_in, writing}
 use Rattle.ledger_writer.specs.declared.Written.{Written}
-use Rattle.ledger_writer.specs.declared.Written.TheVariants.{BookMalformed, TooShort, Wrote}
 use Rattle.ledger_writer.specs.Emitting.{Emitted, answer_of, text_after, told, Writes}
 
 module _ (ys : List Record) where

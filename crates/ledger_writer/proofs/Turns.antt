@@ -1,6 +1,6 @@
 -- The text record by record: the text of one record more is the text so far and that record's line. So a turn of `emit` goes on from the text so far.
 -- Assumes nothing.
-use mathlib.Core.Path.{◌≡◌, refl, sym, ap, ap₂, ◌∙◌}
+use mathlib.Core.Path.{◌≡◌, refl, sym, ap, ◌∙◌}
 use mathlib.Core.Bool.{Bool, true, ◌&&◌, and-eq-true_iff}
 use mathlib.Core.List.{List, [], ◌∷◌, ◌++◌, map, map-append, append_assoc}
 use Prim.Native.Nat.{ℕ, zero, suc, ◌+◌, ◌-◌, ◌*◌, ◌≤◌, ◌<◌, ◌^◌}
@@ -9,7 +9,7 @@ use lib.ListN.{length, get_or, take, length-append}
 use lib.Seq.{take-suc}
 use lib.Dec.{leb}
 use Rattle.semantics.specs.Text.{textual, decimal}
-use Rattle.book.specs.Books.{Entry, entry_of, blank, greatest, room_of, is_place_length, are_in_range, in_range, is_sound}
+use Rattle.book.specs.Books.{Entry, entry_of, blank, greatest, is_place_length, are_in_range, in_range, is_sound}
 use Rattle.book.specs.SoundLaws.{room_within, sound_count, sound_each, at_sound}
 use Rattle.book.specs.declared.Record.{Record}
 use Rattle.ledger.specs.Ledger.{field, line, lines, header, ledger_text, entries_of}
@@ -49,6 +49,12 @@ take_short (suc n) (x ∷ l) = let h = take_short n l in omega (arith, h)
 line_short : (r : Record) → r.length ≤ 31 → length (line_of r) ≤ 88
 unfolding line_of entry_of
 line_short r h = let k = take_short r.length r.place in omega (arith, line_length (entry_of r) [] (omega (arith, h, k)))
+
+-- The text of the first i records is emitted.
+pub record Emitting (ys : List Record) (count : ℕ) (live : Bool) (old : List ℕ) (i at : ℕ) (new : List ℕ) : Type 0 where
+  pub inside : i ≤ count
+  pub emitted : Emitted live 0 (ledger_text (entries_of ys i)) old new at
+  pub same : length new ≡ length old
 
 module _ (ys : List Record) where
   -- The text of the first i records.
@@ -105,12 +111,6 @@ module _ (ys : List Record) where
     small i h = let k = short i h in let f = sound_count ys count sound in let g = (room_within (length ys)).1 in omega (arith, k, h, f, g)
 
     module _ (live : Bool) (old : List ℕ) (fits : live ≡ true → length (upto count) ≤ length old) where
-      -- The text of the first i records is emitted.
-      pub record Emitting (i at : ℕ) (new : List ℕ) : Type 0 where
-        pub inside : i ≤ count
-        pub emitted : Emitted live 0 (upto i) old new at
-        pub same : length new ≡ length old
-
       room_upto : (i : ℕ) → i ≤ count → Roomy live 0 (upto i) old
       room_upto i h =
           record {
@@ -122,14 +122,14 @@ module _ (ys : List Record) where
       unfolding entries_of
       begin_room = room_upto 0 (omega arith)
 
-      pub emitting_starts : {new : List ℕ} {at : ℕ} → Emitted live 0 (ledger_text []) old new at → length new ≡ length old → Emitting 0 at new
+      pub emitting_starts : {new : List ℕ} {at : ℕ} → Emitted live 0 (ledger_text []) old new at → length new ≡ length old → Emitting ys count live old 0 at new
       unfolding entries_of
       emitting_starts e k = record { inside = omega arith; emitted = e; same = k }
 
-      pub emitting_fits : (i at : ℕ) (new : List ℕ) → Emitting i at new → at < 2 ^ 64
+      pub emitting_fits : (i at : ℕ) (new : List ℕ) → Emitting ys count live old i at new → at < 2 ^ 64
       emitting_fits i at new e = let k = small i e.inside in let h = e.emitted.end in omega (arith, k, h)
 
-      module _ (i at : ℕ) (new : List ℕ) (e : Emitting i at new) (less : i < count) where
+      module _ (i at : ℕ) (new : List ℕ) (e : Emitting ys count live old i at new) (less : i < count) where
         pub turn_inside : i < length ys
         turn_inside = omega (arith, less, counted)
 
@@ -139,8 +139,8 @@ module _ (ys : List Record) where
         pub turn_room : Roomy live at (here i) new
         turn_room = room_rest (upto i) (here i) both e.emitted e.same
 
-        pub turn_next : {last : List ℕ} {r : ℕ} → Emitted live at (here i) new last r → length last ≡ length new → Emitting (i + 1) r last
+        pub turn_next : {last : List ℕ} {r : ℕ} → Emitted live at (here i) new last r → length last ≡ length new → Emitting ys count live old (i + 1) r last
         turn_next x k = record { inside = omega (arith, less); emitted = emits_as (sym (text_next i turn_inside)) (emits_then (upto i) (here i) both e.emitted x); same = k ∙ e.same }
 
-      pub emitting_ends : (i at : ℕ) (new : List ℕ) → Emitting i at new → count ≤ i → Emitted live 0 (upto count) old new at
+      pub emitting_ends : (i at : ℕ) (new : List ℕ) → Emitting ys count live old i at new → count ≤ i → Emitted live 0 (upto count) old new at
       emitting_ends i at new e h = let k : i ≡ count = omega (arith, h, e.inside) in emits_as (ap upto k) e.emitted

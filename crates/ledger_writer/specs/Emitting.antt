@@ -1,9 +1,9 @@
 -- What an emitter does: it writes a text where it is live, and else measures it. What `write` promises.
 -- Assumes nothing.
-use Rattle.std.specs.Prelude.{◌≡◌, Bool, true, false, ◌&&◌, cond, List, [], ℕ, ◌+◌, ◌≤◌, ◌<◌, ◌^◌, length}
+use Rattle.std.specs.Prelude.{◌≡◌, Bool, true, cond, List, [], ℕ, ◌+◌, ◌≤◌, ◌<◌, ◌^◌, length}
 use Rattle.semantics.specs.ObjectOperators.{pasted}
 use Rattle.ledger.specs.Ledger.{Writing, malformed, too_short, written, writing, line}
-use Rattle.book.specs.Books.{Entry, entry_of}
+use Rattle.book.specs.Books.{entry_of}
 use Rattle.book.specs.declared.Record.{Record}
 use Rattle.ledger_writer.specs.declared.Written.{Written}
 use Rattle.ledger_writer.specs.declared.Written.TheVariants.{BookMalformed, TooShort, Wrote}

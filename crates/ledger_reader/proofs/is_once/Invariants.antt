@@ -1,0 +1,12 @@
+-- `is_once` meets its contract. The loop's invariant: no number is twice in the text if none is among those that are left, and none of these is kept. The measure is what is left of the text.
+-- Assumes nothing.
+use Prim.Native.Nat.{◌-◌}
+use lib.ListN.{length}
+use Rattle.ledger_reader.proofs.Resting.{Alone}
+use Rattle.ledger_reader.proofs.is_once.Given as goal
+
+abbrev pub invariant-loop-kept : goal.invariant-loop-kept
+invariant-loop-kept l = Alone l.text l.start l.at l.kept l.n
+
+abbrev pub decreases-loop-kept : goal.decreases-loop-kept
+decreases-loop-kept l = length l.text - l.at
