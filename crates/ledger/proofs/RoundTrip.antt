@@ -8,7 +8,8 @@ use Rattle.semantics.specs.ListLaws.{All, cons}
 use Rattle.book.specs.Books.{Entry, IsEntry, is_place_length}
 use Rattle.ledger.specs.Ledger.{lines, header, ledger_text}
 use Rattle.ledger.specs.Reading.{accepted, after_break, after_header, mapped, each, Row, row_of, number_in, with_numbers, entry_in, places_fit, reading}
-use Rattle.ledger.specs.LineLaws.{fields_of, lines_read}
+use Rattle.ledger.specs.LineLaws.{fields_of}
+use Rattle.ledger.proofs.LineLaws.{lines_read}
 use Rattle.ledger.specs.AnswerLaws.{accepts}
 use Rattle.ledger.specs.DecimalLaws.{number_reads}
 use Rattle.ledger.specs.Sound.{Sound}

@@ -12,7 +12,7 @@ use Rattle.ledger.specs.Ledger.{ledger_text}
 use Rattle.ledger.specs.Reading.{accepted, mapped, each, Row, digits_on, limited, number_in, with_numbers, entry_in, places_fit, reading}
 use Rattle.ledger.specs.AnswerLaws.{accepts_back}
 use Rattle.ledger.specs.Sound.{Sound}
-use Rattle.ledger.specs.RoundTrip.{round}
+use Rattle.ledger.proofs.RoundTrip.{round}
 
 -- ---- what is there has a property
 
