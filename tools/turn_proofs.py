@@ -14,7 +14,7 @@ import subprocess
 import sys
 import tempfile
 
-NAME = r"[A-Za-z_+][\w'’₀]*(?:-[\w'’₀]+)*"
+NAME = r"[A-Za-z_+μ][\w'’₀]*(?:-+[\w'’₀]+)*"
 SIGNATURE = re.compile(r"^(?:(?:abbrev|unfoldable|pub) )*(" + NAME + r") :(?: |$)")
 OPENS = re.compile(r"^(?:module|data|record|infix|ruleset|use)\b")
 
@@ -253,6 +253,15 @@ def places(body, start="c"):
         body = body[: m.start()] + ("" if "\n" not in gap or body[: m.start()].endswith((" ", "\n")) else gap) + rest
 
 
+def own_requires(body, start):
+    """In a recursion what is required was a pair of the measure's value and of the function's own `requires`."""
+    paths = [r"\x01\d+\x02\.requires"] + [r"(?<![\w.'’-])" + re.escape(a) for a in re.findall(r"\blet (" + NAME + r") = \x01\d+\x02\.requires in\b", body)]
+    for p in paths:
+        body = re.sub(p + r"\.0(?![.\d])", start + ".decreases", body)
+        body = re.sub("(" + p + r")\.1(?!\d)", r"\1", body)
+    return body
+
+
 def steps(body, step_of, params, said, where, start="c", sigs=None, own=None, at=None):
     def one(m):
         depth, old, rest = int(m.group(1)), m.group(2), m.group(3) or ""
@@ -295,8 +304,12 @@ def steps(body, step_of, params, said, where, start="c", sigs=None, own=None, at
                 said.append(f"{where}: {start}.{name}{rest}: no parameter {k}")
         sig = signature_of(callee, sigs)
         a = re.match(r"\.new((?:\.1)*)\.0(?![.\d])", rest)
-        if a and sig and a.group(1).count("1") < len(sig.lent):
-            rest = ".new." + sig.lent[a.group(1).count("1")] + rest[a.end() :]
+        if a and sig:
+            # the older form counts all parameters
+            k, ps = a.group(1).count("1"), params.get(callee) or []
+            x = ps[k] if k < len(ps) and ps[k] in sig.lent else sig.lent[k] if k < len(sig.lent) else None
+            if x:
+                rest = ".new." + x + rest[a.end() :]
         if sig:
             rest = by_name(rest, "ensures", sig.ensures)
         elif decided:
@@ -459,6 +472,8 @@ def turn(crate, path, facts, said, sigs):
             start = args[1] if cycle else args[0]
             at = Where(facts, asked_at[new])
             body = places(body, start)
+            if cycle:
+                body = own_requires(body, start)
             body = aliases(body, sigs, own_sig, step_of, at)
             body = steps(body, step_of, params, said, f"{fn}: {new}", start, sigs, own_sig, at)
             m = re.match(r"([\w-]+?)-requires(?:-\d+)?$", name_of_goal)

@@ -1,17 +1,16 @@
 -- readonly on its operand: typecheck, and the mark else.
 -- Assumes nothing.
-use mathlib.Core.Path.{◌≡◌, refl, sym, ap, ◌∙◌}
-use mathlib.Core.List.{List, [], ◌∷◌}
+use mathlib.Core.Path.{refl, sym, ap, ◌∙◌}
+use mathlib.Core.List.{List}
 use Prim.Native.Nat.{ℕ, ◌≤◌, ◌<◌}
 use native.Mathlib.Omega.{arith}
-use lib.ListN.{length, get_or, drop}
+use lib.ListN.{get_or}
 use Rattle.semantics.specs.Text.{bytes}
-use Rattle.semantics.specs.Values.{Value, null, ok, ◌>>=◌, object_id}
-use Rattle.semantics.specs.Machine as Floo
+use Rattle.semantics.specs.Values.{Value, null, ok, ◌>>=◌}
 use Rattle.semantics.specs.Machine.{with_stack, with_read_only, push, protect}
 use Rattle.semantics.specs.Operators.{perform}
 use Rattle.semantics.specs.declared.Error.TheVariants.{StackUnderflow, TypeCheck}
-use Rattle.machine.specs.Rep.{Rep, MovesHeap}
+use Rattle.machine.specs.Rep.{MovesHeap}
 use Rattle.machine.specs.Room.{DoesHeap}
 use Rattle.machine.specs.declared.Machine.{Machine}
 use Rattle.machine.specs.declared.Did.TheVariants.{Ok, Fail}
@@ -19,7 +18,7 @@ use Rattle.machine.proofs.Outcomes.{stack_depth, fails_heap, moves_heap}
 use Rattle.elements.specs.Elements.{item_id, ItemTag, item_sealed}
 use Rattle.elements.proofs.Tags.{tag_object, tag_no_object}
 use Rattle.array_operators.specs.Items.{popped}
-use Rattle.array_operators.proofs.Named.{front1, sealing, readonly_under, readonly_on}
+use Rattle.array_operators.proofs.Named.{front1, readonly_under, readonly_on}
 
 module _ {m : Machine} {s c : List ℕ} where
   pub readonly_short : m.depth < 1 → DoesHeap (perform (bytes "readonly")) m s s c c (Fail StackUnderflow)

@@ -6,7 +6,7 @@ use Prim.Native.Nat.{ℕ, suc, ◌+◌, ◌-◌, ◌≤◌, ◌<◌}
 use native.Mathlib.Omega.{arith}
 use lib.ListN.{length, get_or, take, drop, set, length-append, length-drop, length-reverse}
 use lib.Seq.{drop-cons, set_at, set-set, set-get_or, get_or-set_same, append_snoc, length-take-le}
-use Rattle.semantics.specs.Values.{Value, null, array, Object, elements}
+use Rattle.semantics.specs.Values.{Value, null, Object, elements}
 use Rattle.semantics.specs.Machine as Floo
 use Rattle.semantics.specs.Machine.{with_store, object, elements_of, change}
 use Rattle.machine.specs.Rep.{Rep, MovesHeap}

@@ -10,7 +10,7 @@ use lib.ListN.{length, get_or, take, drop, set, length-append, length-reverse, l
 use lib.Seq.{take_all, set_split, drop_at, drop-drop, drop-set-lt, length-take-le}
 use lib.Dec.{leb}
 use Rattle.semantics.specs.Text.{bytes}
-use Rattle.semantics.specs.Values.{Value, null, array, elements, ok, fault, ◌>>=◌, check, array_id, object_id}
+use Rattle.semantics.specs.Values.{Value, null, elements, ok, fault, ◌>>=◌, check, array_id, object_id}
 use Rattle.semantics.specs.Machine as Floo
 use Rattle.semantics.specs.Machine.{with_stack, with_store, push, object, elements_of, change}
 use Rattle.semantics.specs.Operators.{perform}

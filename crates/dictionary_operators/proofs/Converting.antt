@@ -3,12 +3,10 @@
 use mathlib.Core.Path.{◌≡◌, refl, sym, ap, ◌∙◌, subst}
 use mathlib.Core.Bool.{Bool, false}
 use mathlib.Core.List.{List, ◌∷◌}
-use mathlib.Core.Logic.{⊎_elim}
 use Prim.Native.Nat.{ℕ, ◌+◌, ◌-◌, ◌*◌, ◌≤◌, ◌<◌}
 use native.Mathlib.Omega.{arith}
 use lib.Dec.{leb}
-use lib.ListN.{length, get_or, set, take, length-set}
-use lib.Seq.{length-take-le, get_or-take, get_or-set_same, get_or-set_other, ext_get_or}
+use lib.ListN.{length, get_or, set, take}
 use borrow.Author.Tests.{le-leb, lt-leb}
 use Rattle.semantics.specs.Sizes.{name_most, dictionary_words_most}
 use Rattle.semantics.specs.Text.{bytes, textual}
@@ -19,7 +17,6 @@ use Rattle.semantics.specs.Operators.{perform, find, table, ◌is◌}
 use Rattle.semantics.specs.TextOperators.{cvn}
 use Rattle.semantics.specs.Steps.{room_for}
 use Rattle.semantics.specs.declared.Error.TheVariants.{StackUnderflow, TypeCheck, LimitCheck}
-use Rattle.heap.proofs.Since.{lt_or_le}
 use Rattle.store.specs.Rep.{Stands, a_null, an_integer, a_boolean, a_mark, an_operator, a_literal, an_executable, a_string, an_array, a_procedure}
 use Rattle.machine.specs.Words.{item_tag}
 use Rattle.machine.specs.Rep.{Rep}
@@ -30,7 +27,7 @@ use Rattle.machine.specs.declared.Did.TheVariants.{Ok, Fail}
 use Rattle.machine.proofs.Copying.{word_of}
 use Rattle.machine.proofs.Operands.{pop1_some, pop1_under}
 use Rattle.machine.proofs.Outcomes.{stack_depth, first_item}
-use Rattle.elements.specs.Elements.{HasString, HasByte, SomewhereThat, ByteOf}
+use Rattle.elements.specs.Elements.{HasString, SomewhereThat}
 use Rattle.elements.proofs.Tags.{string_tagged}
 use Rattle.strings.specs.Strings.{HasBytes, CurrentSize, ReadsBytes}
 use Rattle.dictionary.specs.Names.{Finds, Adds}

@@ -10,7 +10,7 @@ use native.Mathlib.Omega.{arith}
 use lib.ListN.{length, get_or, set, get_elem?}
 use lib.Seq.{set-get_or}
 use Rattle.semantics.specs.Sizes.{dictionary_words_most}
-use Rattle.semantics.specs.Values.{Value, name, operator, null, array, elements}
+use Rattle.semantics.specs.Values.{Value, name, operator, null, elements}
 use Rattle.semantics.specs.Machine as Floo
 use Rattle.semantics.specs.Machine.{with_store, object, change, lookup}
 use Rattle.semantics.specs.ControlOperators.{bound, operator_or}

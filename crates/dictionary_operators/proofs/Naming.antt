@@ -19,7 +19,7 @@ use Rattle.store.specs.Rep.{Stands, a_null, an_integer, a_boolean, a_mark, an_op
 use Rattle.store.proofs.Standing.{is_literal}
 use Rattle.machine.specs.Words.{item_tag, item_payload, binding_tag}
 use Rattle.machine.specs.Places.{keys}
-use Rattle.machine.specs.Rep.{Rep, bound}
+use Rattle.machine.specs.Rep.{Rep}
 use Rattle.machine.specs.Moves.{dropped}
 use Rattle.machine.specs.declared.Machine.{Machine}
 use Rattle.machine.proofs.Copying.{word_of}

@@ -7,11 +7,10 @@ use lib.ListN.{length}
 use lib.Seq.{get_or-append_seam}
 use lib.Dec.{eqb, T_not}
 use Rattle.semantics.specs.Text.{bytes}
-use Rattle.semantics.specs.Values.{integer, string, elements, text, current}
+use Rattle.semantics.specs.Values.{string, elements, text, current}
 use Rattle.semantics.specs.Tokens.{Token, Lexeme, lexeme, lex}
 use Rattle.semantics.specs.Machine.{Machine, with_stack, with_store, push, object, bytes_of, make, made}
 use Rattle.semantics.specs.Printing.{shown, echoed_to, echoed}
-use Rattle.semantics.specs.Operators.{◌is◌}
 use Rattle.semantics.specs.ResultLaws.{choose, ok_one}
 use Rattle.semantics.specs.AsciiLaws.{Bytes}
 use Rattle.semantics.specs.EchoLaws.{quoted_text, integer_text}

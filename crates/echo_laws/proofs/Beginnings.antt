@@ -13,7 +13,8 @@ use Rattle.semantics.specs.NameLaws.{name_count_lem}
 use Rattle.semantics.specs.ResultLaws.{choose}
 use Rattle.semantics.specs.AsciiLaws.{Bytes}
 use Rattle.walk.proofs.RunsKeep.{initial_keeps, lending_keeps}
-use Rattle.echo_laws.specs.Ranges.{most, ranged, Sound}
+use Rattle.echo_laws.specs.Ranges.{most, ranged}
+use Rattle.echo_laws.proofs.Soundness.{Sound}
 
 pub initial_sound : (l : Limits) → name_count ≤ l.dictionary_slots → Sound l initial.machine
 unfolding initial

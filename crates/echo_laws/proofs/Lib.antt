@@ -7,3 +7,5 @@ pub mod Rooms
 pub mod RunEchoes
 pub mod Taking
 pub mod Worked
+pub mod Soundness
+pub mod Runs

@@ -12,7 +12,8 @@ use Rattle.semantics.specs.Machine.{Machine}
 use Rattle.semantics.specs.Steps.{Limits, State, Step, goes, fails, misreads, step, Ending, finished, stopped, failed, misread, out_of_fuel, Run, is_finished, finish, go_on, run}
 use Rattle.semantics.specs.ResultLaws.{choose}
 use Rattle.growth.proofs.StepGrowth.{run_log}
-use Rattle.echo_laws.specs.Runs.{Trial, state_of, machine_of, line_of, Echoing, next, GoesOn, stretch}
+use Rattle.echo_laws.specs.Runs.{line_of}
+use Rattle.echo_laws.proofs.Runs.{Trial, state_of, machine_of, Echoing, next, GoesOn, stretch}
 use Rattle.echo_laws.proofs.RunEchoes.{echo_adds}
 
 -- ---- the next state

@@ -13,8 +13,10 @@ use Rattle.walk.specs.Parts.{Good, a_word, Within, Stays}
 use Rattle.walk.proofs.Property.{parts_alone, object_good}
 use Rattle.walk.proofs.Operands.{current_bytes}
 use Rattle.walk.proofs.RunsKeep.{run_keeps}
-use Rattle.echo_laws.specs.Ranges.{ranged, Sound}
-use Rattle.echo_laws.specs.Runs.{Trial, machine_of, current_at}
+use Rattle.echo_laws.specs.Ranges.{ranged}
+use Rattle.echo_laws.proofs.Soundness.{Sound}
+use Rattle.echo_laws.specs.Runs.{current_at}
+use Rattle.echo_laws.proofs.Runs.{Trial, machine_of}
 
 stays_within : {l : Limits} {a b : Machine} → Stays l a b → Within l a → Within l b
 stays_within s w = record { dictionary = s.dictionary w.dictionary; exec = s.exec; stack = s.stack w.stack; log = s.log w.log }

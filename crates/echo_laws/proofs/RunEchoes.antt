@@ -14,7 +14,8 @@ use Rattle.semantics.specs.Held.{held_cells}
 use Rattle.semantics.specs.Steps.{State, goes}
 use Rattle.semantics.specs.EchoLaws.{quoted_text, integer_text}
 use Rattle.semantics.proofs.EchoLaws.{string_echoed, integer_echoed}
-use Rattle.echo_laws.specs.Runs.{Trial, state_of, machine_of, current_at, line_of, Echoing, Adds, left_of, PushesAlike, Pushes, Iff}
+use Rattle.echo_laws.specs.Runs.{current_at, line_of, Iff}
+use Rattle.echo_laws.proofs.Runs.{Trial, state_of, machine_of, Echoing, Adds, left_of, PushesAlike, Pushes}
 use Rattle.echo_laws.proofs.Ranging.{run_sound, string_bytes, top_bits}
 use Rattle.echo_laws.proofs.Alike.{strings_alike, integers_alike, current_current, pushed_current, pushed_echo}
 use Rattle.echo_laws.proofs.EchoSteps.{echo_step}

@@ -23,7 +23,8 @@ use Rattle.semantics.specs.Setup.{Lent, limits, settings}
 use Rattle.semantics.specs.ListLaws.{every, all_every, all_weaker}
 use Rattle.semantics.specs.AsciiLaws.{Bytes}
 use Rattle.echo_laws.specs.Ranges.{most, Admitted}
-use Rattle.echo_laws.specs.Runs.{Trial, machine_of, waiting, Echoing, Adds, PushesAlike}
+use Rattle.echo_laws.specs.Runs.{waiting}
+use Rattle.echo_laws.proofs.Runs.{Trial, machine_of, Echoing, Adds, PushesAlike}
 use Rattle.echo_laws.proofs.Beginnings.{initial_sound, lending_sound}
 use Rattle.echo_laws.proofs.RunEchoes.{echo_taken}
 

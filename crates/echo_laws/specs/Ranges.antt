@@ -4,10 +4,9 @@
 use Rattle.std.specs.Prelude.{List, ℕ, ◌^◌, ◌≤◌, ◌<◌, length}
 use Rattle.std.proofs.Common.{arith}
 use Rattle.semantics.specs.Sizes.{script_most}
-use Rattle.semantics.specs.Machine.{Machine}
 use Rattle.semantics.specs.Steps.{Limits}
 use Rattle.semantics.specs.AsciiLaws.{Bytes}
-use Rattle.walk.specs.Parts.{Parts, Everywhere, Within, any_references}
+use Rattle.walk.specs.Parts.{Parts, any_references}
 
 -- The most elements or bytes of an object: a string or a brace group of the script may have as many as the script has bytes.
 abbrev pub most : ℕ
@@ -34,11 +33,6 @@ ranged =
       };
       references = any_references;
     }
-
--- Numbers and bytes are in range, and all is within what is lent.
-pub record Sound (l : Limits) (m : Machine) : Type 0 where
-  pub parts : Everywhere ranged m
-  pub room : Within l m
 
 -- What is asked of script and room: a script of bytes, as every lent script is, and what setup admits of script and stack (01, Setup 1 and 4).
 pub record Admitted (l : Limits) (script : List ℕ) : Type 0 where

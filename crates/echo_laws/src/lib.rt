@@ -2,4 +2,3 @@
 // That echoed texts are read back is a law of the definition (EchoLaws of crates/semantics); the rest shows of every run what this rests on: its numbers and bytes
 // are in range, and it is within what is lent, by the walk over operators and steps (crates/walk).
 #![tactic(auto)]
-

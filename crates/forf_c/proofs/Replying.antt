@@ -2,14 +2,13 @@
 -- Assumes nothing.
 use mathlib.Core.Path.{◌≡◌, refl, sym, ap, ◌∙◌, subst}
 use mathlib.Core.List.{List}
-use mathlib.Core.Logic.{◌⊎◌}
 use Prim.Native.Nat.{ℕ, ◌+◌, ◌≤◌}
 use native.Mathlib.Omega.{arith}
-use denote.Enum.Declared.{tag_of}
+use Rattle.forf_semantics.specs.declared.Kind.{Kind}
 use Rattle.forf_semantics.specs.Setup as setup
 use Rattle.forf_token.specs.declared.Located.{Located}
 use Rattle.forf_token.specs.Reading.{LocatedAt, located_is}
-use Rattle.forf_token.specs.contracts.Located.{the_type}
+use Rattle.forf_token.specs.declared.Located.TheVariants.{At}
 use Rattle.forf_token.proofs.Readings.{without_token}
 use Rattle.forf_runner.specs.declared.Answer.{Answer}
 use Rattle.forf_c.specs.Reply.{reply_of, refusal_number, fault_number, token_reply_of}
@@ -29,14 +28,14 @@ abbrev empty : ℕ → ℕ → ℕ → TokenReply
 empty offset refused fault = record { refused = refused; fault = fault; kind = 0; next = offset; start = 0; size = 0 }
 
 pub replied_none : {script : List ℕ} {offset : ℕ} {r : Located} → LocatedAt script offset r
-    → (tag_of the_type r ≡ 0) ⊎ ((tag_of the_type r ≡ 1) ⊎ (tag_of the_type r ≡ 2))
+    → ((k : Kind) (n start size : ℕ) → r ≡ At k n start size → ⊥)
     → {a b : ℕ} {t : TokenReply} → a ≡ refusal_number r → b ≡ fault_number r → t ≡ record { refused = a; fault = b; kind = 0; next = offset; start = 0; size = 0 }
     → t ≡ token_reply_of offset (setup.reading script offset)
 replied_none {offset = offset} {r = r} h e {a} {b} x y s =
     s
     ∙ ap (λ (n : ℕ). empty offset n b) x
     ∙ ap (empty offset (refusal_number r)) y
-    ∙ without_token (tag_of the_type) (λ k n i m. refl) (λ l. empty offset (refusal_number l) (fault_number l) ≡ token_reply_of offset (located_is l)) refl refl refl r e
+    ∙ without_token (λ l. empty offset (refusal_number l) (fault_number l) ≡ token_reply_of offset (located_is l)) refl refl refl r e
     ∙ ap (token_reply_of offset) h.is
 
 -- A part of no bytes at the script's start is inside it.

@@ -9,7 +9,7 @@ use lib.Seq.{length-take-le}
 use Rattle.semantics.specs.Values.{ok, fault, ◌>>=◌}
 use Rattle.semantics.specs.ResultLaws.{ok_one, fault_ok}
 use Rattle.forf_semantics.specs.Tokens.{lexeme, lex}
-use Rattle.forf_semantics.specs.Items.{number, word, group, none, ◌then◌, count, skip, taken, token_item, take_token}
+use Rattle.forf_semantics.specs.Items.{number, word, group, ◌then◌, count, skip, taken, token_item, take_token}
 use Rattle.forf_semantics.specs.EndLaws.{group_end}
 use Rattle.forf_semantics.specs.BodyLaws.{body_at, Known}
 use Rattle.forf_semantics.proofs.BodyLaws.{body_number, body_word, body_group, body_close, body_end, body_fault, take_group, take_fault}
@@ -17,7 +17,7 @@ use Rattle.forf_semantics.proofs.TokenLaws.{skip_le}
 use Rattle.forf_semantics.specs.declared.Error.TheVariants.{SyntaxError}
 use Rattle.forf_token.specs.Lexing.{Lexes}
 use Rattle.forf_token.specs.declared.Token.TheVariants.{Integer, Word, OpenBrace, CloseBrace, End}
-use Rattle.forf_groups.specs.Reading.{ended_is, Held, Takes, Nothing, ReadAt}
+use Rattle.forf_groups.specs.Reading.{ended_is, Takes, Nothing, ReadAt}
 use Rattle.forf_groups.specs.declared.Ended.{Ended}
 use Rattle.forf_groups.specs.declared.Ended.TheVariants as ended
 use Rattle.forf_groups.specs.declared.Item as items

@@ -7,3 +7,4 @@ pub mod GroupLaws
 pub mod EndLaws
 pub mod BodyLaws
 pub mod PlaceLaws
+pub mod FaultLaws

@@ -1,13 +1,12 @@
 -- Tokens: what a brace, a parenthesis, a run and the end are to the definition's `lex`.
 -- Assumes nothing.
-use mathlib.Core.Path.{◌≡◌, refl, sym, ap, subst, ◌∙◌}
-use mathlib.Core.Bool.{Bool, true, false, not, cond}
-use mathlib.Core.List.{List, [], ◌∷◌}
+use mathlib.Core.Path.{◌≡◌, refl, sym, ap, ◌∙◌}
+use mathlib.Core.Bool.{Bool, true, false}
+use mathlib.Core.List.{List, ◌∷◌}
 use Prim.Native.Nat.{ℕ, suc, ◌+◌, ◌-◌, ◌≤◌, ◌<◌}
 use native.Mathlib.Omega.{arith}
 use lib.ListN.{length, take, drop, get_or, drop_of_length-le, length-drop}
 use lib.Seq.{drop-cons, length-take-le}
-use lib.Dec.{eqb}
 use borrow.Author.Tests.{le-leb, lt-leb, ne_eqb}
 use Rattle.semantics.specs.Sizes.{name_most, script_most}
 use Rattle.semantics.specs.Values.{ok, fault, ◌>>=◌, check}
@@ -19,7 +18,6 @@ use Rattle.forf_semantics.specs.Tokens as tokens
 use Rattle.forf_semantics.specs.declared.Error.TheVariants.{SyntaxError}
 use Rattle.forf_token.specs.Lexing.{read_number, Lexes, RunAt}
 use Rattle.forf_token.specs.declared.Token.TheVariants.{Integer, Word, OpenBrace, CloseBrace, End}
-use Rattle.forf_token.proofs.Counts.{run_go}
 
 -- ---- by the first byte
 

@@ -2,7 +2,6 @@
 -- Assumes nothing.
 use mathlib.Core.Path.{◌≡◌, refl, sym, ap, subst, ◌∙◌}
 use mathlib.Core.List.{List, []}
-use mathlib.Core.Logic.{◌⊎◌, inl, inr}
 use Prim.Native.Nat.{ℕ, ◌+◌, ◌-◌, ◌≤◌, ◌<◌}
 use native.Mathlib.Nat.{add-sub_cancel_left}
 use native.Mathlib.Omega.{arith}
@@ -18,7 +17,7 @@ use Rattle.forf_semantics.specs.Setup.{reading, kind_of, reading_of}
 use Rattle.forf_semantics.specs.Setup as setup
 use Rattle.forf_semantics.specs.declared.Error.TheVariants.{SyntaxError}
 use Rattle.forf_semantics.specs.declared.Kind.{Kind}
-use Rattle.forf_token.specs.Lexing.{token_of, Lexes}
+use Rattle.forf_token.specs.Lexing.{Lexes}
 use Rattle.forf_token.specs.Reading.{LocatedAt, Within, owned_by, answer_of, answer, located_is, part_of, refusal_of}
 use Rattle.forf_token.specs.declared.Token.{Token}
 use Rattle.forf_token.specs.declared.Token.TheVariants.{Integer, Word, OpenBrace, CloseBrace, End}
@@ -93,25 +92,21 @@ module _ {script : List ℕ} {offset : ℕ} {r : Located} (L : LocatedAt script 
       → take (start + size - start) (drop start script) ≡ part_of script (reading script offset)
   part_is {k} {n} {start} {size} e = rw (add-sub_cancel_left start size) (ap (part_of script) (ap located_is (sym e) ∙ L.is))
 
--- Where there is no token, the answer has the tag 0, 1 or 2.
-pub without_token : (tag : Located → ℕ) → ((k : Kind) (n start size : ℕ) → tag (At k n start size) ≡ 3)
-    → (P : Located → Type 0) → P TooLong → P PastEnd → P Faulty
-    → (r : Located) → (tag r ≡ 0) ⊎ ((tag r ≡ 1) ⊎ (tag r ≡ 2)) → P r
-without_token tag last P a b f TooLong e = a
-without_token tag last P a b f PastEnd e = b
-without_token tag last P a b f Faulty e = f
-without_token tag last P a b f (At k n start size) (inl e) = let z = last k n start size in absurd (omega arith)
-without_token tag last P a b f (At k n start size) (inr (inl e)) = let z = last k n start size in absurd (omega arith)
-without_token tag last P a b f (At k n start size) (inr (inr e)) = let z = last k n start size in absurd (omega arith)
+-- Where there is no token, the answer is a refusal or a fault.
+pub without_token : (P : Located → Type 0) → P TooLong → P PastEnd → P Faulty
+    → (r : Located) → ((k : Kind) (n start size : ℕ) → r ≡ At k n start size → ⊥) → P r
+without_token P a b f TooLong none = a
+without_token P a b f PastEnd none = b
+without_token P a b f Faulty none = f
+without_token P a b f (At k n start size) none = absurd (none k n start size refl)
 
-module _ (script : List ℕ) (offset : ℕ) (tag : Located → ℕ) (last : (k : Kind) (n start size : ℕ) → tag (At k n start size) ≡ 3)
-    (r : Located) (L : LocatedAt script offset r) (e : (tag r ≡ 0) ⊎ ((tag r ≡ 1) ⊎ (tag r ≡ 2))) where
+module _ (script : List ℕ) (offset : ℕ) (r : Located) (L : LocatedAt script offset r) (none : (k : Kind) (n start size : ℕ) → r ≡ At k n start size → ⊥) where
   -- There is no part, and what is answered is the refusal or the fault.
   pub part_none : [] ≡ part_of script (reading script offset)
-  part_none = without_token tag last (λ l. [] ≡ part_of script (located_is l)) refl refl refl r e ∙ ap (part_of script) L.is
+  part_none = without_token (λ l. [] ≡ part_of script (located_is l)) refl refl refl r none ∙ ap (part_of script) L.is
 
   pub told_none : {t : Reading} → t ≡ refusal_of r → answer_of offset t ≡ answer offset (reading script offset)
   told_none q =
       ap (answer_of offset) q
-      ∙ without_token tag last (λ l. answer_of offset (refusal_of l) ≡ answer offset (located_is l)) refl refl refl r e
+      ∙ without_token (λ l. answer_of offset (refusal_of l) ≡ answer offset (located_is l)) refl refl refl r none
       ∙ ap (answer offset) L.is

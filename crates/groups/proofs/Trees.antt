@@ -9,7 +9,7 @@ use native.Mathlib.Omega.{arith}
 use lib.ListN.{length, set, length-append}
 use lib.Seq.{set-append_seam}
 use Rattle.semantics.specs.Tokens.{Lexing, Token, lexeme}
-use Rattle.semantics.specs.Values.{Value, integer, name, string, array, Object, elements, cells, ◌>>=◌}
+use Rattle.semantics.specs.Values.{Value, integer, name, array, Object, elements, cells, ◌>>=◌}
 use Rattle.semantics.specs.Machine.{Machine, Slot, with_dictionary, with_store, with_read_only, make, made, change, protect, intern, slotted}
 use Rattle.semantics.specs.Held.{sum_of}
 use Rattle.semantics.specs.Groups.{Taken, taken, skip, Reader, opened, enclosed, closed, element, group}

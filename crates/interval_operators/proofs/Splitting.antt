@@ -22,7 +22,7 @@ use Rattle.machine.specs.Rep.{Rep}
 use Rattle.machine.specs.declared.Machine.{Machine}
 use Rattle.machine.proofs.Outcomes.{stack_depth}
 use Rattle.machine.proofs.Pops.{pop3_under}
-use Rattle.elements.specs.Elements.{tag_of, named, ItemTag}
+use Rattle.elements.specs.Elements.{tag_of, ItemTag}
 use Rattle.elements.proofs.Arrays.{array_item}
 use Rattle.elements.proofs.Strings.{string_item}
 

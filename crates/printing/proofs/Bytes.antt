@@ -13,7 +13,7 @@ use Rattle.semantics.specs.Printing.{escaped, string_byte}
 use Rattle.heap.specs.Word.{word}
 use Rattle.store.specs.Rep.{byte_of}
 use Rattle.text.specs.Writing.{Written, byte_text}
-use Rattle.text.proofs.Pasting.{nothing, first, last, one}
+use Rattle.text.proofs.Pasting.{nothing, first, last}
 use Rattle.text.proofs.Escapes.{length_quoted}
 use Rattle.machine.specs.Rep.{Rep, IsIn}
 use Rattle.machine.specs.declared.Machine.{Machine}

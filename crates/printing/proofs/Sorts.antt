@@ -9,7 +9,7 @@ use native.Mathlib.Omega.{arith}
 use lib.ListN.{length, set, get_elem?, length-append, length-set}
 use Rattle.semantics.specs.Text.{bytes}
 use Rattle.semantics.specs.Words.{signed, decimal_z}
-use Rattle.semantics.specs.Values.{Value, null, name, string, current}
+use Rattle.semantics.specs.Values.{Value, null, string, current}
 use Rattle.semantics.specs.Machine as Floo
 use Rattle.semantics.specs.Machine.{object, bytes_of}
 use Rattle.semantics.specs.Printing.{shown, escaped, name_byte, name_text, truth}

@@ -18,8 +18,10 @@ use Rattle.semantics.specs.Steps as steps
 use Rattle.semantics.specs.ObjectOperators.{pasted}
 use Rattle.semantics.specs.AsciiLaws.{Bytes}
 use Rattle.semantics.specs.Setup.{limits}
-use Rattle.echo_laws.specs.Ranges.{Sound, Admitted}
-use Rattle.echo_laws.specs.Runs.{Trial, machine_of, current_at, line_of, Echoing, next, GoesOn, stretch, left_of, Iff}
+use Rattle.echo_laws.specs.Ranges.{Admitted}
+use Rattle.echo_laws.proofs.Soundness.{Sound}
+use Rattle.echo_laws.specs.Runs.{current_at, line_of, Iff}
+use Rattle.echo_laws.proofs.Runs.{Trial, machine_of, Echoing, next, GoesOn, stretch, left_of}
 use Rattle.echo_laws.proofs.Beginnings.{initial_sound}
 use Rattle.echo_laws.proofs.RunEchoes.{echoes_alike, integer_echoes_alike, lines_alike, echo_taken, integer_taken_lem}
 use Rattle.echo_laws.proofs.LogLines.{next_machine, line_stands}

@@ -13,7 +13,7 @@ use Rattle.semantics.specs.Machine.{Slot}
 use Rattle.semantics.specs.Operators.{table}
 use Rattle.semantics.specs.Steps as Steps
 use Rattle.semantics.specs.Steps.{predefined, initial}
-use Rattle.semantics.specs.ListLaws.{nil, every, some_one, none_some}
+use Rattle.semantics.specs.ListLaws.{nil, some_one, none_some}
 use Rattle.semantics.specs.NameLaws.{name_count_lem, names_differ}
 use Rattle.heap.specs.Shape.{Empty, blank, cells}
 use Rattle.heap.specs.declared.Lists.{Lists}

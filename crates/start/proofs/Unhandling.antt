@@ -10,13 +10,11 @@ use lib.ListN.{length, get_or, set, length-set}
 use lib.Seq.{get_or-set_same, get_or-set_other}
 use Rattle.semantics.specs.Sizes.{error_count, name_words}
 use Rattle.semantics.specs.Values.{Value, null}
-use Rattle.semantics.specs.Machine.{Slot}
 use Rattle.semantics.specs.Errors.{error_names}
 use Rattle.semantics.specs.Steps.{unhandled}
 use Rattle.semantics.specs.ListLaws.{none_some}
 use Rattle.heap.proofs.Upds.{same?}
 use Rattle.machine.specs.Words.{handler_tag}
-use Rattle.semantics.specs.SlotLaws.{keys_of}
 use Rattle.machine.specs.Places.{binding_at}
 use Rattle.machine.specs.Rep as Words
 use Rattle.machine.specs.Rep.{Rows, row, Handled, nothing}

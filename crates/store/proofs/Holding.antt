@@ -13,7 +13,7 @@ use Rattle.semantics.specs.Machine.{Machine, object, elements_of, member}
 use Rattle.semantics.specs.Held
 use Rattle.semantics.specs.Held.{of_value, gather, of_object, held}
 use Rattle.semantics.proofs.HeldLaws as laws
-use Rattle.semantics.specs.HeldLaws.{◌∈◌}
+use Rattle.semantics.specs.HeldLaws.{◌∈◌, Named}
 use Rattle.semantics.proofs.HeldLaws.{or_cases, or_left, or_right}
 use Rattle.heap.specs.Shape.{Ghost, Shape, Counts}
 use Rattle.store.specs.Rep.{Names, by_string, by_array, object_at, Alive, Rep}
@@ -84,14 +84,14 @@ Roots μ roots = (i : ℕ) → (i ∈ Held.roots μ) ↔ ((r : ℕ) × Names (ro
 module _ {keys : List (List ℕ)} {n : ℕ} {ρ : ℕ → ℕ} {g : Ghost} {e p : ℕ} {m : List ℕ} {roots : ℕ → Value} (μ : Machine)
     (S : Shape g e m) (C : Counts g p 0 m) (R : Rep keys n ρ g m μ.store roots) (z : g.size 1 ≡ 0) (named : Roots μ roots) where
   pub alive_held : (i : ℕ) → Alive ρ g i → i ∈ held μ
-  unfolding laws.Named object
+  unfolding Named object
   alive_held = laws.held_largest μ (Alive ρ g) (record {
     made = λ i L. rw (← L.2) (R.id L.0 L.1);
     named = λ i L. ⊎_elim (λ x. inl ((named i).1 x)) (λ x. inr (x.0, x.2, names_object (object_at μ.store x.0) x.1 i x.3)) (live_supported S C R z i L);
   })
 
   pub held_alive : (i : ℕ) → i ∈ held μ → Alive ρ g i
-  unfolding laws.Named object
+  unfolding Named object
   held_alive = live_largest S C R z (λ i. i ∈ held μ)
       (λ i t. ⊎_elim (λ x. inl ((named i).0 x)) (λ x. let y = object_names (object_at μ.store x.0) i x.2 in inr (x.0, y.0, x.1, y.1)) ((laws.held_supported μ).named i t))
       (λ i t. (laws.held_supported μ).made i t)

@@ -6,7 +6,7 @@ use Prim.Native.Nat.{ℕ, ◌+◌, ◌-◌, ◌≤◌, ◌<◌}
 use native.Mathlib.Omega.{arith}
 use lib.ListN.{length, get_or, set}
 use lib.Seq.{set-get_or}
-use Rattle.semantics.specs.Values.{Value, null, string, Object, elements, text}
+use Rattle.semantics.specs.Values.{Value, null, Object, elements, text}
 use Rattle.semantics.specs.Machine as Floo
 use Rattle.semantics.specs.Machine.{with_store, object, bytes_of, change}
 use Rattle.store.proofs.Changes.{at_set}

@@ -7,7 +7,7 @@ use Prim.Native.Nat.{ℕ, suc, ◌+◌, ◌-◌, ◌/◌, ◌≤◌, ◌<◌}
 use native.Mathlib.Omega.{arith}
 use lib.ListN.{length, get_or, set, drop, length-append, length-drop}
 use lib.Seq.{drop-cons, append_snoc, set-append_seam, set-get_or}
-use Rattle.semantics.specs.Values.{string, Object, elements, text}
+use Rattle.semantics.specs.Values.{Object, elements, text}
 use Rattle.semantics.specs.Machine as Floo
 use Rattle.semantics.specs.Machine.{with_store, object, bytes_of, change}
 use Rattle.token.specs.Strings.{StringAt, Gives, Unescapes}

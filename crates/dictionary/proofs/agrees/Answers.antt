@@ -11,7 +11,7 @@ pub loop-i-init : goal.loop-i-init
 loop-i-init c = agree_begin c.if-dict-at.false
 
 pub returns-then-dict-at-2 : goal.returns-then-dict-at-2
-returns-then-dict-at-2 c = word_differs _ c.loop-i-test.true (c.shared_slice_known-in-loop-i-1.given _).fits (c.shared_slice_known-in-loop-i-2-1.given _).fits c.if-dict-at-2.true
+returns-then-dict-at-2 c = word_differs _ c.loop-i-test.true (c.type_inv.dict _).fits (c.type_inv.words _).fits c.if-dict-at-2.true
 
 pub loop-i-smaller : goal.loop-i-smaller
 loop-i-smaller c = omega (arith, c.loop-i-test.true)
