@@ -304,8 +304,12 @@ def steps(body, step_of, params, said, where, start="c", sigs=None, own=None, at
                 said.append(f"{where}: {start}.{name}{rest}: no parameter {k}")
         sig = signature_of(callee, sigs)
         a = re.match(r"\.new((?:\.1)*)\.0(?![.\d])", rest)
-        if a and sig and a.group(1).count("1") < len(sig.lent):
-            rest = ".new." + sig.lent[a.group(1).count("1")] + rest[a.end() :]
+        if a and sig:
+            # the older form counts all parameters
+            k, ps = a.group(1).count("1"), params.get(callee) or []
+            x = ps[k] if k < len(ps) and ps[k] in sig.lent else sig.lent[k] if k < len(sig.lent) else None
+            if x:
+                rest = ".new." + x + rest[a.end() :]
         if sig:
             rest = by_name(rest, "ensures", sig.ensures)
         elif decided:

@@ -76,13 +76,13 @@ module _ {m : Machine} {s e d c l : List ℕ} {μ : Floo.Machine} (R : Rep m s e
     unfolding resume silent object frame_dropped with_exec
     ended_handed z =
         ap (λ f. (resume f (frame_dropped μ)).command) is
-        ∙ rw (no_element (elements_of (object_at μ.store i)) j (omega (arith, (top_runs R k h i j is).left, z))) refl
+        ∙ rw (no_element (elements_of (object_at μ.store i)) j (omega (arith, (top_runs R k h i j is).left, z)), resume) refl
 
     element_handed : 1 ≤ frame_left e k → handed μ ≡ command_of (element μ.store i j)
     unfolding resume object frame_dropped with_exec
     element_handed left =
         ap (λ f. (resume f (frame_dropped μ)).command) is
-        ∙ rw (an_element (elements_of (object_at μ.store i)) j null (omega (arith, (top_runs R k h i j is).left, left))) refl
+        ∙ rw (an_element (elements_of (object_at μ.store i)) j null (omega (arith, (top_runs R k h i j is).left, left)), resume) refl
 
 -- ---- what is promised
 

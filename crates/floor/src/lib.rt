@@ -148,7 +148,7 @@ pub fn run_labelled(
 // What is refused before the run, in the paper's order.
 // Ruled out: the label judged before the book; a label of 513 bytes; a label without a slot of its own.
 fn check(script: &[u8], fuel: u32, label: &[u8], sound: bool, lent: Lent) -> Before
-    ensures { before_of result ≡ before (record { script = script.entry.now; fuel = fuel; label = label.now; lent = lent_of lent }) sound }
+    ensures { before_of result ≡ before (record { script = script.now; fuel = fuel; label = label.now; lent = lent_of lent }) sound }
 {
     let number = setup::refusal(script, fuel, lent);
     if 0 < number {

@@ -1,27 +1,23 @@
 -- The test of room, and what an answer of the code means: nothing fits less than what did, and only a push and a pending substack can be one too many.
 -- Assumes nothing.
 use mathlib.Core.Path.{◌≡◌, refl, sym, ap, subst, ◌∙◌}
-use mathlib.Core.List.{List, [], ◌∷◌, map}
-use Prim.Native.Nat.{ℕ, suc, ◌+◌, ◌-◌, ◌*◌, ◌/◌, ◌≤◌, ◌<◌}
+use mathlib.Core.List.{List, ◌∷◌}
+use Prim.Native.Nat.{ℕ, suc, ◌+◌, ◌/◌, ◌≤◌, ◌<◌}
 use native.Mathlib.Omega.{arith}
 use lib.ListN.{length, length-map}
-use lib.Dec.{leb}
 use borrow.Author.Tests.{le-leb, lt-leb}
 use Rattle.semantics.specs.Values.{ok, fault, ◌>>=◌, check}
 use Rattle.semantics.specs.ListLaws.{All, cons}
 use Rattle.forf_semantics.specs.Errors.{Result}
 use Rattle.forf_semantics.specs.Machine as Forf
-use Rattle.forf_semantics.specs.Operators.{Operator}
 use Rattle.forf_semantics.specs.Steps.{room_for}
-use Rattle.forf_semantics.specs.BodyLaws.{body_at, Known}
+use Rattle.forf_semantics.specs.BodyLaws.{body_at}
 use Rattle.forf_semantics.specs.declared.Error.{Error}
 use Rattle.forf_semantics.specs.declared.Error.TheVariants.{StackOverflow, ExecStackOverflow}
 use Rattle.forf_machine.specs.Slots.{Slot, slots, put_slot}
-use Rattle.forf_machine.specs.Rep.{value_as, value_of, frame_as, frame_of, SoundValue, SoundFrame, machine_from, machine_of, Rep, limits_of}
-use Rattle.forf_machine.specs.Does.{Does, Pushes, Pends}
+use Rattle.forf_machine.specs.Rep.{value_of, frame_as, frame_of, SoundValue, SoundFrame, machine_from, machine_of, Rep, limits_of}
 use Rattle.forf_machine.specs.declared.Machine.{Machine}
-use Rattle.forf_machine.specs.declared.Acted.TheVariants.{Went, Failed}
-use Rattle.forf_machine.proofs.Slotting.{length_slots, length_put, put_below, put_top}
+use Rattle.forf_machine.proofs.Slotting.{length_slots, length_put, put_top}
 
 -- ---- the test of room
 

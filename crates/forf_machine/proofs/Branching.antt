@@ -1,30 +1,30 @@
 -- The words on items of any kind, and the two that make a substack pending.
 -- Assumes nothing.
 use mathlib.Core.Path.{◌≡◌, refl, sym, ap, ap₂, subst, ◌∙◌}
-use mathlib.Core.Bool.{Bool, true, false, cond}
-use mathlib.Core.List.{List, [], ◌∷◌, map}
+use mathlib.Core.Bool.{cond}
+use mathlib.Core.List.{List, ◌∷◌}
 use Prim.Native.Nat.{ℕ, zero, suc, ◌+◌, ◌-◌, ◌*◌, ◌≤◌, ◌<◌}
 use native.Mathlib.Omega.{arith}
-use lib.ListN.{length, get_or, drop}
+use lib.ListN.{length, get_or}
 use lib.Dec.{eqb}
 use borrow.Author.Tests.{eq-eqb, ne_eqb}
 use Rattle.semantics.specs.Values.{ok, fault, ◌>>=◌}
-use Rattle.semantics.specs.ListLaws.{All, nil, cons}
+use Rattle.semantics.specs.ListLaws.{All, cons}
 use Rattle.forf_semantics.specs.Errors.{Result}
 use Rattle.forf_semantics.specs.Machine.{int, body, pop1, pop2, pop3, push, enter, pending, with_stack, with_exec}
 use Rattle.forf_semantics.specs.Machine as Forf
-use Rattle.forf_semantics.specs.Operators.{Operator, if', ifelse, pop, dup, exch}
+use Rattle.forf_semantics.specs.Operators.{if', ifelse, pop, dup, exch}
 use Rattle.forf_semantics.specs.Steps.{room_for}
-use Rattle.forf_semantics.specs.BodyLaws.{body_at, Known}
+use Rattle.forf_semantics.specs.BodyLaws.{body_at}
 use Rattle.forf_semantics.specs.declared.Error.TheVariants.{StackUnderflow, TypeCheck}
 use Rattle.forf_machine.specs.Slots.{Slot, slots, put_slot}
-use Rattle.forf_machine.specs.Rep.{value_of, frame_of, frame_as, SoundValue, machine_from, machine_of, Rep, limits_of}
-use Rattle.forf_machine.specs.Does.{Answer, Does, OnDepth, Pushes, Pends}
+use Rattle.forf_machine.specs.Rep.{value_of, SoundValue, machine_from, machine_of, Rep, limits_of}
+use Rattle.forf_machine.specs.Does.{Answer, Does, Pushes, Pends}
 use Rattle.forf_machine.specs.Operands.{int_of, offset_of}
 use Rattle.forf_machine.specs.declared.Machine.{Machine}
 use Rattle.forf_machine.specs.declared.Acted.{Acted}
 use Rattle.forf_machine.specs.declared.Acted.TheVariants.{Went, Failed}
-use Rattle.forf_machine.proofs.Slotting.{length_put, top_slot, top_slots, three_slots, put_below, put_top, put_last, all_tail, all_head}
+use Rattle.forf_machine.proofs.Slotting.{length_put, top_slot, top_slots, three_slots, put_top, put_last, all_tail, all_head}
 use Rattle.forf_machine.proofs.Answering.{failed, went}
 use Rattle.forf_machine.proofs.Operating.{int_is, body_is, int_yes, int_no, offset_yes, offset_no, lowered}
 

@@ -1,12 +1,12 @@
 -- The words on integers: the definition's operators of each number have their shapes, and the code's arithmetic is theirs.
 -- Assumes nothing.
-use mathlib.Core.Path.{◌≡◌, refl, sym, ap, subst, ◌∙◌}
+use mathlib.Core.Path.{◌≡◌, refl, sym, ap, ◌∙◌}
 use mathlib.Core.Bool.{Bool, true, false, not}
 use mathlib.Core.List.{List, [], ◌∷◌}
 use Prim.Native.Nat.{ℕ, zero, suc, ◌-◌, ◌≤◌, ◌<◌}
 use native.Mathlib.Omega.{arith}
 use lib.IntN.{ℤ, nat_abs, ◌+ℤ◌, ◌-ℤ◌, ◌*ℤ◌}
-use lib.ListN.{get_or, drop, get_or-eq_default}
+use lib.ListN.{drop, get_or-eq_default}
 use lib.Signed.{lt_z, le_z, quot_z, rem_z}
 use lib.Bits.{bit_and, bit_or, bit_xor}
 use lib.Dec.{eqb}
@@ -14,10 +14,9 @@ use borrow.Author.Tests.{ne_eqb, eqb-true, eqb-false}
 use mir.Syntax.{w32}
 use mir.Val.{Fits}
 use Rattle.semantics.specs.Words.{signed, word}
-use Rattle.semantics.specs.Values.{Attempt, ok, fault, ◌>>=◌, check}
+use Rattle.semantics.specs.Values.{ok, fault, ◌>>=◌, check}
 use Rattle.semantics.specs.ResultLaws.{ok_one, fault_ok}
 use Rattle.semantics.specs.NumberOperators as floo
-use Rattle.semantics.specs.declared.Error.{Error}
 use Rattle.semantics.specs.declared.Error.TheVariants as error
 use Rattle.word.specs.Answers.{quotient_of, divided_words}
 use Rattle.word.specs.declared.Quotient.{Quotient}
@@ -25,7 +24,7 @@ use Rattle.word.specs.declared.Quotient.TheVariants.{Value, ZeroDivisor}
 use Rattle.word.proofs.Division.{nonzero}
 use Rattle.forf_semantics.specs.Errors.{Result}
 use Rattle.forf_semantics.specs.Machine.{pop2, push, with_stack}
-use Rattle.forf_semantics.specs.Operators.{Operator, unary, binary, division, wrapping, absolute, inverted, flag, compared, left, right, ◌is◌, table}
+use Rattle.forf_semantics.specs.Operators.{binary, division, wrapping, absolute, inverted, flag, compared, left, right, ◌is◌, table}
 use Rattle.forf_semantics.specs.declared.Error.TheVariants.{UndefinedResult}
 use Rattle.forf_machine.specs.Slots.{Slot}
 use Rattle.forf_machine.specs.Rep.{value_of, value_as, machine_from}
@@ -145,18 +144,6 @@ unary_rest k a n m h = h ∙ unary_past k a n m
 pub binary_at : (k b a : ℕ) {q : Result ℕ} (n : ℕ) → k ≡ n → q ≡ binary_of n b a → q ≡ binary_of k b a
 binary_at k b a n e h = h ∙ ap (λ (i : ℕ). binary_of i b a) (sym e)
 
--- A number that is none of 0 to n - 1, as a `match` leaves it: the last test outermost.
-abbrev pub Past : ℕ → ℕ → Type 0
-Past zero k = Unit {0}
-Past (suc n) k = Past n k × (k ≡ n → ⊥)
-
-past_le : (n k : ℕ) → Past n k → n ≤ k
-past_le zero k p = omega arith
-past_le (suc n) k p =
-    let h = past_le n k p.0 in
-    let d = p.1 in
-    omega arith
-
-pub binary_rest : (k b a : ℕ) {q : Result ℕ} → Past 15 k → q ≡ gives (λ b a. flag (not (eqb b a))) b a → q ≡ binary_of k b a
+pub binary_rest : (k b a : ℕ) {q : Result ℕ} → 15 ≤ k → q ≡ gives (λ b a. flag (not (eqb b a))) b a → q ≡ binary_of k b a
 unfolding binary_of binaries
-binary_rest k b a p h = h ∙ ap (λ (f : ℕ → ℕ → Result ℕ). f b a) (sym (get_or-eq_default binaries (gives (λ b a. flag (not (eqb b a)))) {n = k} (past_le 15 k p)))
+binary_rest k b a p h = h ∙ ap (λ (f : ℕ → ℕ → Result ℕ). f b a) (sym (get_or-eq_default binaries (gives (λ b a. flag (not (eqb b a)))) {n = k} p))

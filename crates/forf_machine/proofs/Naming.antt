@@ -10,9 +10,8 @@ use native.Mathlib.Omega.{arith}
 use lib.ListN.{length, get_or, drop, drop_of_length-le, get_or-eq_default}
 use lib.Seq.{drop-cons}
 use lib.Dec.{eqb}
-use borrow.Author.Tests.{eq-eqb, ne_eqb, eqb-true, eqb-false}
-use Rattle.semantics.specs.Text.{same, bytes, textual}
-use Rattle.semantics.specs.Values.{fault}
+use borrow.Author.Tests.{ne_eqb, eqb-true, eqb-false}
+use Rattle.semantics.specs.Text.{same, textual}
 use Rattle.semantics.specs.SameLaws.{same_refl, same_equal}
 use Rattle.semantics.specs.ListLaws.{All, nil, cons, ◌&◌, all_reverse}
 use Rattle.forf_semantics.specs.Machine as Forf

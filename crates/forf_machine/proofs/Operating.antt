@@ -1,39 +1,35 @@
 -- The words on slots: what each gives of the machine that the slots stand for, and which slots the code leaves.
 -- Assumes nothing.
 use mathlib.Core.Path.{◌≡◌, refl, sym, ap, ap₂, subst, ◌∙◌}
-use mathlib.Core.Bool.{Bool, true, false, not, cond}
-use mathlib.Core.List.{List, [], ◌∷◌, map}
-use mathlib.Core.Logic.{◌⊎◌, inl, inr, ⊎_elim}
-use Prim.Native.Nat.{ℕ, zero, suc, ◌+◌, ◌-◌, ◌*◌, ◌/◌, ◌≤◌, ◌<◌}
+use mathlib.Core.Bool.{Bool, true, false}
+use mathlib.Core.List.{List, [], ◌∷◌}
+use mathlib.Core.Logic.{⊎_elim}
+use Prim.Native.Nat.{ℕ, zero, suc, ◌+◌, ◌-◌, ◌*◌, ◌≤◌, ◌<◌}
 use native.Mathlib.Nat.{eq-or-lt_of_le}
 use native.Mathlib.Omega.{arith}
 use lib.ListN.{length, get_or, set, drop, length-set}
 use lib.Dec.{eqb, ltb}
 use borrow.Author.Tests.{eq-eqb, ne_eqb, lt-ltb, le-ltb}
-use Rattle.semantics.specs.Values.{Attempt, ok, fault, ◌>>=◌, check}
+use Rattle.semantics.specs.Values.{ok, fault, ◌>>=◌, check}
 use Rattle.semantics.specs.ResultLaws.{fault_ok}
-use Rattle.semantics.specs.ListLaws.{All, nil, cons}
+use Rattle.semantics.specs.ListLaws.{All, cons}
 use Rattle.forf_semantics.specs.Errors.{Result}
-use Rattle.forf_semantics.specs.Items.{Items}
-use Rattle.forf_semantics.specs.Machine.{Value, integer, int, body, pop1, pop2, pop3, push, enter, pending, with_stack, with_exec, with_memory}
-use Rattle.forf_semantics.specs.Machine as Forf
-use Rattle.forf_semantics.specs.Operators.{Operator, unary, if', ifelse, pop, dup, exch, slot, mset, mget}
-use Rattle.forf_semantics.specs.Steps.{room_for}
-use Rattle.forf_semantics.specs.BodyLaws.{body_at, Known}
+use Rattle.forf_semantics.specs.Machine.{int, body, pop1, pop2, push, with_stack, with_memory}
+use Rattle.forf_semantics.specs.Operators.{Operator, unary, slot, mset, mget}
+use Rattle.forf_semantics.specs.BodyLaws.{body_at}
 use Rattle.forf_semantics.specs.declared.Error.{Error}
 use Rattle.forf_semantics.specs.declared.Error.TheVariants.{StackUnderflow, TypeCheck, RangeCheck}
 use Rattle.forf_machine.specs.Slots.{Slot, slots, put_slot}
-use Rattle.forf_machine.specs.Rep.{value_as, value_of, frame_of, SoundValue, SoundFrame, machine_from, machine_of, Rep, limits_of}
-use Rattle.forf_machine.specs.Does.{Answer, Does, OnDepth, OnStack, OnExec, OnMemory, Pushes, Pends}
+use Rattle.forf_machine.specs.Rep.{value_as, value_of, SoundValue, SoundFrame, machine_from, machine_of, Rep}
+use Rattle.forf_machine.specs.Does.{Does}
 use Rattle.forf_machine.specs.Operands.{int_as, int_of, offset_as, offset_of, one_int, two_ints, one_is, two_is}
 use Rattle.forf_machine.specs.declared.Machine.{Machine}
-use Rattle.forf_machine.specs.declared.Acted.{Acted}
 use Rattle.forf_machine.specs.declared.Acted.TheVariants.{Went, Failed}
 use Rattle.forf_machine.specs.declared.OneInt.{OneInt}
 use Rattle.forf_machine.specs.declared.OneInt.TheVariants as one
 use Rattle.forf_machine.specs.declared.TwoInts.{TwoInts}
 use Rattle.forf_machine.specs.declared.TwoInts.TheVariants as two
-use Rattle.forf_machine.proofs.Slotting.{length_slots, length_put, no_slots, top_slot, top_slots, three_slots, put_below, put_top, put_last, all_tail, all_head}
+use Rattle.forf_machine.proofs.Slotting.{length_put, no_slots, top_slot, top_slots, put_top, all_tail}
 use Rattle.forf_machine.proofs.Answering.{failed, went}
 
 -- ---- operands

@@ -1,13 +1,13 @@
 -- Slots: the topmost one, how many there are, and what a slot that is put does to them.
 -- Assumes nothing.
-use mathlib.Core.Path.{◌≡◌, refl, sym, ap, ap₂, subst, ◌∙◌}
+use mathlib.Core.Path.{◌≡◌, refl, ap, ap₂, ◌∙◌}
 use mathlib.Core.List.{List, [], ◌∷◌}
 use Prim.Native.Nat.{ℕ, zero, suc, ◌+◌, ◌-◌, ◌*◌, ◌≤◌, ◌<◌}
 use native.Mathlib.Omega.{arith}
 use native.Mathlib.Nat.{mul-le-mul_left, mul-suc}
 use lib.ListN.{length, get_or, set, length-set}
 use lib.Seq.{get_or-set_same, get_or-set_other}
-use Rattle.semantics.specs.ListLaws.{All, nil, cons}
+use Rattle.semantics.specs.ListLaws.{All, cons}
 use Rattle.forf_machine.specs.Slots.{Slot, slots, put_slot}
 
 pub length_slots : (w n : ℕ) (s : List ℕ) → length (slots w n s) ≡ n

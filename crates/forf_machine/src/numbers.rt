@@ -1,13 +1,13 @@
 // Words on integers, by their places in the definition's table: those that take one from 0 on, those that take two from +.
 ghost use Rattle.std.specs.Prelude.{◌≡◌};
-ghost use Rattle.forf_semantics.specs.Operators.{flag as flagOf};
+ghost use Rattle.forf_semantics.specs.Operators.{flag};
 ghost use Rattle.forf_machine.specs.Numbers.{unary_of, binary_of, quotient_is};
 
 use word::Quotient;
 
 // 1 if it is true, 0 if false.
 fn flag(t: bool) -> u32
-    ensures { result ≡ flagOf «t» }
+    ensures { result ≡ flag «t» }
 {
     if t { 1 } else { 0 }
 }

@@ -3,15 +3,13 @@
 use mathlib.Core.Path.{◌≡◌, refl, sym, ap, subst, ◌∙◌}
 use mathlib.Core.Bool.{true}
 use mathlib.Core.List.{List, [], ◌∷◌, ◌++◌, append_assoc}
-use Prim.Native.Nat.{ℕ, zero, suc, ◌+◌, ◌-◌, ◌*◌, ◌≤◌, ◌<◌}
+use Prim.Native.Nat.{ℕ, ◌+◌, ◌-◌, ◌*◌, ◌≤◌, ◌<◌}
 use native.Mathlib.Nat.{add-sub_cancel_left}
 use native.Mathlib.Numerals.{add-one}
 use native.Mathlib.Omega.{arith}
-use lib.ListN.{length, take, drop, get_or, set, length-drop, length-append}
+use lib.ListN.{length, take, drop, get_or, set, length-drop}
 use lib.Seq.{length-take-le}
-use lib.Dec.{eqb}
 use borrow.Author.Tests.{eq-eqb, ne_eqb}
-use Rattle.semantics.specs.Sizes.{name_most}
 use Rattle.semantics.specs.Text.{bytes, decimal}
 use Rattle.semantics.specs.TextLaws.{decimal_length}
 use Rattle.semantics.specs.Words.{signed, decimal_z}
@@ -24,7 +22,6 @@ use Rattle.text.proofs.Pasting.{nothing, then, last, respelt}
 use Rattle.text.proofs.NumberLines.{after_line}
 use Rattle.forf_semantics.specs.Errors.{error_text}
 use Rattle.forf_semantics.specs.Items.{count}
-use Rattle.forf_semantics.specs.Machine.{Value}
 use Rattle.forf_semantics.specs.BodyLaws.{body_at, Known}
 use Rattle.forf_semantics.specs.Outcome.{ending_lines, item}
 use Rattle.forf_semantics.specs.OutcomeLaws.{command_in}

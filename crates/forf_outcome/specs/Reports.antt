@@ -1,6 +1,6 @@
 -- The outcome's text by the machine's words, and what must be known of them to write it.
 -- Assumes nothing.
-use Rattle.std.specs.Prelude.{◌≡◌, List, [], ◌++◌, ℕ, zero, suc, ◌+◌, ◌*◌, ◌≤◌, ◌<◌, length, get_or}
+use Rattle.std.specs.Prelude.{List, [], ◌++◌, ℕ, zero, suc, ◌+◌, ◌*◌, ◌≤◌, length, get_or}
 use Rattle.semantics.specs.Sizes.{script_most, stack_width, head_room, item_room}
 use Rattle.semantics.specs.Text.{bytes, decimal}
 use Rattle.semantics.specs.Outcome.{line}

@@ -1,6 +1,6 @@
 -- Setup: the number by the lengths is the definition's verdict, and what is accepted has the bounds.
 -- Assumes nothing.
-use mathlib.Core.Path.{◌≡◌, refl, sym, ap, ap₂, subst, ◌∙◌}
+use mathlib.Core.Path.{◌≡◌, refl, sym, ap, subst, ◌∙◌}
 use mathlib.Core.Bool.{Bool, true, false, not, ◌&&◌, cond}
 use mathlib.Core.List.{List, ◌++◌}
 use Prim.Native.Nat.{ℕ, ◌+◌, ◌*◌, ◌/◌, ◌≤◌, ◌<◌}
@@ -8,16 +8,16 @@ use native.Mathlib.Omega.{arith}
 use lib.ListN.{length, take, drop}
 use lib.Seq.{length-take-le, drop-append_seam}
 use lib.Dec.{ltb, leb, eqb}
-use borrow.Author.Tests.{lt-ltb, le-ltb, ltb-false, leb-true, eq-eqb, ne_eqb, not-true, not-false}
-use Rattle.semantics.specs.Sizes.{script_most, fuel_most, stack_width, exec_width, stack_least, stack_most, exec_least, exec_most, head_room, item_room}
+use borrow.Author.Tests.{ltb-false, leb-true, eq-eqb, ne_eqb, not-false}
+use Rattle.semantics.specs.Sizes.{script_most, fuel_most, stack_least, stack_most, exec_least, exec_most, head_room, item_room}
 use Rattle.semantics.specs.Tokens.{within}
 use Rattle.semantics.specs.Setup.{is_too_long}
 use Rattle.text.specs.Writing.{Written}
 use Rattle.forf_semantics.specs.Outcome.{outcome as outcome_text}
 use Rattle.forf_semantics.specs.Steps.{Limits, run, initial}
-use Rattle.forf_semantics.specs.Setup.{Lent, Verdict, limits, verdict, refused, memory_slots, runs}
+use Rattle.forf_semantics.specs.Setup.{Verdict, limits, verdict, refused, memory_slots, runs}
 use Rattle.forf_machine.specs.Rep.{limits_of}
-use Rattle.forf_runner.specs.Promise.{lent_of, refusal_of, the_run, Untouched, RunIs, Runs, Ready, CarriesOut}
+use Rattle.forf_runner.specs.Promise.{lent_of, refusal_of, the_run, Runs, Ready, CarriesOut}
 use Rattle.forf_runner.specs.declared.Answer.TheVariants as answer
 use Rattle.forf_runner.specs.declared.Report.{Report}
 

@@ -1,22 +1,22 @@
 -- The outcome that is written from the machine's words is the definition's.
 -- Assumes nothing.
-use mathlib.Core.Path.{◌≡◌, refl, sym, ap, subst, ◌∙◌}
+use mathlib.Core.Path.{◌≡◌, refl, sym, ap, ◌∙◌}
 use mathlib.Core.List.{List, [], ◌∷◌, ◌++◌, map, reverse, reverse-cons, append_assoc, append-nil}
-use Prim.Native.Nat.{ℕ, zero, suc, ◌+◌, ◌*◌, ◌/◌, ◌≤◌}
+use Prim.Native.Nat.{ℕ, zero, suc, ◌+◌, ◌*◌}
 use native.Mathlib.Omega.{arith}
 use lib.ListN.{length, get_or, length-map}
-use Rattle.semantics.specs.Text.{bytes, decimal}
+use Rattle.semantics.specs.Text.{bytes}
 use Rattle.semantics.specs.Outcome.{line}
 use Rattle.text.specs.Writing.{Written}
 use Rattle.text.proofs.Pasting.{respelt}
 use Rattle.forf_semantics.specs.Machine.{Value}
-use Rattle.forf_semantics.specs.Outcome.{ending_lines, item, items, outcome}
-use Rattle.forf_semantics.specs.Steps.{Run, run, initial}
-use Rattle.forf_machine.specs.Slots.{Slot, slots}
-use Rattle.forf_machine.specs.Rep.{value_of, machine_from, machine_of, limits_of}
+use Rattle.forf_semantics.specs.Outcome.{item, items, outcome}
+use Rattle.forf_semantics.specs.Steps.{Run}
+use Rattle.forf_machine.specs.Slots.{slots}
+use Rattle.forf_machine.specs.Rep.{value_of, machine_from, machine_of}
 use Rattle.forf_machine.proofs.Slotting.{length_slots}
 use Rattle.forf_steps.specs.Stepping.{state_of}
-use Rattle.forf_steps.specs.Running.{Begun, ending_of, Ends}
+use Rattle.forf_steps.specs.Running.{ending_of, Ends}
 use Rattle.forf_steps.specs.declared.Ended.{Ended}
 use Rattle.forf_outcome.specs.Reports.{line_at, item_lines, outcome_of, Writing}
 use Rattle.forf_runner.specs.Promise.{Ready, CarriesOut}

@@ -1,6 +1,6 @@
 -- What `run` promises: a refusal by its number or name that changes no lent word or byte, or the definition's run, with its outcome and the memory that it leaves.
 -- Assumes nothing.
-use Rattle.std.specs.Prelude.{◌≡◌, not, cond, List, ℕ, ◌+◌, ◌*◌, ◌/◌, ◌≤◌, length, drop, ltb, eqb}
+use Rattle.std.specs.Prelude.{◌≡◌, not, cond, List, ℕ, ◌+◌, ◌*◌, ◌/◌, ◌≤◌, length, drop, ltb}
 use Rattle.semantics.specs.Sizes.{script_most, fuel_most, stack_width, exec_width, stack_least, stack_most, exec_least, exec_most, head_room, item_room}
 use Rattle.semantics.specs.Tokens.{within}
 use Rattle.text.specs.Writing.{Written}

@@ -2,9 +2,9 @@
 -- Assumes nothing.
 use mathlib.Core.Path.{◌≡◌, refl, sym, ap, subst, ◌∙◌}
 use mathlib.Core.List.{List}
-use Prim.Native.Nat.{ℕ, ◌+◌, ◌-◌, ◌≤◌}
+use Prim.Native.Nat.{ℕ, ◌+◌, ◌-◌}
 use native.Mathlib.Nat.{add-sub_cancel_left}
-use lib.ListN.{length, take, drop}
+use lib.ListN.{take, drop}
 use Rattle.semantics.specs.Values.{◌>>=◌}
 use Rattle.forf_semantics.specs.Errors.{Result}
 use Rattle.forf_semantics.specs.Machine as Forf
@@ -13,7 +13,7 @@ use Rattle.forf_semantics.specs.BodyLaws.{Known}
 use Rattle.forf_groups.specs.Reading.{Held}
 use Rattle.forf_groups.specs.declared.Item.{Item}
 use Rattle.forf_groups.specs.declared.Item.TheVariants.{Number, Word, Substack}
-use Rattle.forf_machine.specs.Rep.{value_as, value_of, machine_of, Rep, limits_of}
+use Rattle.forf_machine.specs.Rep.{value_as, value_of, machine_of, limits_of}
 use Rattle.forf_machine.specs.Does.{Answer, Does, Pushes}
 use Rattle.forf_machine.specs.Titles.{titles, place_in, action_at}
 use Rattle.forf_machine.specs.declared.Machine.{Machine}

@@ -1,24 +1,22 @@
 -- The loop over the steps: what is left of the fuel takes the definition from the state reached to where it comes from the start.
 -- Assumes nothing.
-use mathlib.Core.Path.{◌≡◌, refl, sym, ap, ap₂, subst, ◌∙◌}
+use mathlib.Core.Path.{◌≡◌, refl, sym, ap, subst, ◌∙◌}
 use mathlib.Core.Bool.{Bool, true, false, cond}
-use mathlib.Core.List.{List, [], ◌∷◌, map}
-use Prim.Native.Nat.{ℕ, zero, suc, ◌+◌, ◌-◌, ◌≤◌, ◌<◌}
+use mathlib.Core.List.{List, map}
+use Prim.Native.Nat.{ℕ, zero, suc, ◌+◌, ◌-◌, ◌≤◌}
 use native.Mathlib.Omega.{arith}
 use lib.ListN.{length}
 use lib.Dec.{eqb}
-use borrow.Author.Tests.{eq-eqb, ne_eqb}
+use borrow.Author.Tests.{ne_eqb}
 use Rattle.semantics.specs.Sizes.{script_most, fuel_most}
-use Rattle.semantics.specs.ListLaws.{All, nil}
-use Rattle.forf_semantics.specs.Items.{skip}
-use Rattle.forf_semantics.specs.Machine.{Frame}
+use Rattle.semantics.specs.ListLaws.{nil}
 use Rattle.forf_semantics.specs.Steps.{Limits, Step, goes, fails, step, finished, out_of_fuel, failed, Run, is_empty, is_finished, finish, go_on, run, initial}
 use Rattle.forf_semantics.specs.Steps as F
 use Rattle.forf_semantics.specs.declared.Error.{Error}
 use Rattle.forf_machine.specs.Slots.{slots}
-use Rattle.forf_machine.specs.Rep.{frame_of, machine_from, machine_of, Rep, limits_of}
-use Rattle.forf_steps.specs.Stepping.{state_of, is_done, Ready, Stands, StepIs, Steps, command_text}
-use Rattle.forf_steps.specs.Running.{Begun, ending_of, Ends}
+use Rattle.forf_machine.specs.Rep.{frame_of, machine_from, machine_of, limits_of}
+use Rattle.forf_steps.specs.Stepping.{state_of, is_done, Ready, Stands, Steps}
+use Rattle.forf_steps.specs.Running.{Begun, Ends}
 use Rattle.forf_steps.specs.declared.State.{State}
 use Rattle.forf_steps.specs.declared.Command.{Command}
 use Rattle.forf_steps.specs.declared.Stepped.{Stepped}

@@ -1,18 +1,17 @@
 -- A step of the code is the definition's: with no execution slot the script's token is taken, else the topmost slot acts.
 -- Assumes nothing.
 use mathlib.Core.Path.{◌≡◌, refl, sym, ap, ap₂, subst, ◌∙◌}
-use mathlib.Core.Bool.{Bool, true, false, cond, true≢false}
+use mathlib.Core.Bool.{Bool, true, false, true≢false}
 use mathlib.Core.List.{List, [], ◌∷◌, map}
-use Prim.Native.Nat.{ℕ, zero, suc, ◌+◌, ◌-◌, ◌*◌, ◌≤◌, ◌<◌}
+use Prim.Native.Nat.{ℕ, ◌+◌, ◌-◌, ◌*◌, ◌≤◌, ◌<◌}
 use native.Mathlib.Omega.{arith}
 use native.Mathlib.Numerals.{add-one}
 use lib.ListN.{length, get_or}
-use lib.Dec.{eqb}
 use borrow.Author.Tests.{eq-eqb, ne_eqb, eqb-true, eqb-false}
 use Rattle.semantics.specs.Values.{ok, fault, ◌>>=◌}
 use Rattle.semantics.specs.ListLaws.{All, cons}
 use Rattle.forf_semantics.specs.Errors.{Result}
-use Rattle.forf_semantics.specs.Items.{number, word, group, Items, ◌then◌, none, Taken, skip, taken, take_token}
+use Rattle.forf_semantics.specs.Items.{Items, none, Taken, skip, taken, take_token}
 use Rattle.forf_semantics.specs.Machine.{Frame, pending, running, enter, with_exec}
 use Rattle.forf_semantics.specs.Machine as Forf
 use Rattle.forf_semantics.specs.Steps.{Limits, Move, act, treat, silent, resume, room_for, Step, goes, fails, ended, moved, token_move, offset_after, step_on, step}
@@ -25,13 +24,11 @@ use Rattle.forf_groups.specs.declared.Item.{Item}
 use Rattle.forf_groups.specs.declared.Item.TheVariants as item
 use Rattle.forf_machine.specs.Slots.{Slot, slots, put_slot}
 use Rattle.forf_machine.specs.Rep.{frame_as, frame_of, SoundFrame, machine_from, machine_of, Rep, limits_of}
-use Rattle.forf_machine.specs.Does.{Answer}
 use Rattle.forf_machine.specs.declared.Machine.{Machine}
 use Rattle.forf_machine.specs.declared.Acted.TheVariants as acted
 use Rattle.forf_machine.proofs.Slotting.{no_slots, top_slot, put_last, length_put, all_head, all_tail}
 use Rattle.forf_machine.proofs.Answering.{went}
-use Rattle.forf_machine.proofs.Operating.{all_lower}
-use Rattle.forf_steps.specs.Stepping.{Acts, state_of, is_pending, place_of, moved_on, state_after, state_failed, without_item, command_of, command_text, HeldCommand, Ready, Stands, StepIs, Steps}
+use Rattle.forf_steps.specs.Stepping.{Acts, state_of, is_pending, place_of, moved_on, state_after, state_failed, without_item, command_of, command_text, HeldCommand, Ready, Steps}
 use Rattle.forf_steps.specs.declared.State.{State}
 use Rattle.forf_steps.specs.declared.Stepped.{Stepped}
 use Rattle.forf_steps.specs.declared.Stepped.TheVariants.{Went, Failed}

@@ -77,7 +77,8 @@ ghost use Rattle.heap.specs.Shape.{cells};
 ghost use Rattle.heap_counts.specs.Slots.{Slots, Found};
 
 use heap::Lists;
-use libc::{STDIN_FILENO, STDOUT_FILENO};
+use std::io;
+use std::io::Write;
 use steps::Step;
 
 mod steps;
@@ -98,14 +99,10 @@ enum Element {
     Nowhere,
 }
 
-fn say(words: &[u8]) {
-    io::write_all(STDOUT_FILENO, words);
-}
-
-fn say_number(n: u32) {
+fn say_number<W: Write>(out: &mut W, n: u32) -> io::Result<()> {
     let mut digits = [0u8; 10];
     let end = text::write_decimal(&mut digits, 0, n);
-    say(&digits[..end]);
+    out.write_all(&digits[..end])
 }
 
 // The cells on the free list, and those never used.
@@ -117,16 +114,16 @@ fn free_cells(s: Lists, slots: &[u32], m: &[u32]) -> u32
 }
 
 // `name` has a colon and a blank in front, where there is one.
-fn show(name: &[u8], s: Lists, slots: &[u32], m: &[u32])
+fn show<W: Write>(out: &mut W, name: &[u8], s: Lists, slots: &[u32], m: &[u32]) -> io::Result<()>
     requires { Slots s slots.now m.now }
 {
     if name.len() < 2 {
-        return;
+        return Ok(());
     }
-    say(&name[2..]);
-    say(b" ");
-    say_number(free_cells(s, slots, m));
-    say(b"\n");
+    out.write_all(&name[2..])?;
+    out.write_all(b" ")?;
+    say_number(out, free_cells(s, slots, m))?;
+    out.write_all(b"\n")
 }
 
 // A heap with no object, and slots that name nothing.
@@ -314,30 +311,50 @@ fn act(s: Lists, slots: &mut [u32; SLOTS], m: &mut [u32; WORDS], step: Step) -> 
     }
 }
 
+// What is before the colon is done.
 fn run_line(s: Lists, slots: &mut [u32; SLOTS], m: &mut [u32; WORDS], line: &[u8]) -> Lists
     requires { Slots s slots.old m.old }
     ensures { Slots result slots.new m.new }
 {
     let colon = steps::find(line, 0, b':');
-    let r = act(s, slots, m, steps::read(&line[..colon]));
-    show(&line[colon..], r, slots, m);
-    r
+    act(s, slots, m, steps::read(&line[..colon]))
 }
 
-fn run_lines(script: &[u8], slots: &mut [u32; SLOTS], m: &mut [u32; WORDS]) {
+// What is after it is said, with the free cells.
+fn show_line<W: Write>(
+    out: &mut W,
+    line: &[u8],
+    s: Lists,
+    slots: &[u32],
+    m: &[u32],
+) -> io::Result<()>
+    requires { Slots s slots.now m.now }
+{
+    let colon = steps::find(line, 0, b':');
+    show(out, &line[colon..], s, slots, m)
+}
+
+fn run_lines<W: Write>(
+    out: &mut W,
+    script: &[u8],
+    slots: &mut [u32; SLOTS],
+    m: &mut [u32; WORDS],
+) -> io::Result<()> {
     let mut s = clear(slots, m);
     let mut at = 0;
     while at < script.len() {
         let end = steps::find(script, at, b'\n');
         s = run_line(s, slots, m, &script[at..end]);
+        show_line(out, &script[at..end], s, slots, m)?;
         at = end + 1;
     }
+    Ok(())
 }
 
-fn main() {
+fn main(rt: HostRuntime) -> io::Result<()> {
     let mut script = [0u8; SCRIPT];
     let mut slots = [0u32; SLOTS];
     let mut m = [0u32; WORDS];
-    let n = io::read_full(STDIN_FILENO, &mut script);
-    run_lines(&script[..n], &mut slots, &mut m);
+    let n = input::read_full(&mut rt.stdin(), &mut script)?;
+    run_lines(&mut rt.stdout(), &script[..n], &mut slots, &mut m)
 }

@@ -7,8 +7,6 @@ pub mod LineLaws
 pub mod AnswerLaws
 pub mod DecimalLaws
 pub mod Sound
-pub mod RoundTrip
-pub mod SoundLaws
 pub mod BookLaws
 pub mod Pieces
 pub mod Fronts

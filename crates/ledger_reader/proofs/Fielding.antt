@@ -12,7 +12,8 @@ use Rattle.book.specs.declared.Record.{Record}
 use Rattle.ledger.specs.Reading.{fresh, begins, Lines, read_from, each, row_of}
 use Rattle.ledger.specs.Pieces as pieces
 use Rattle.ledger.specs.Pieces.{Close, piece_from, Moves, piece_moves}
-use Rattle.ledger.specs.Fronts.{is_over, is_comma, Front, gone, goes, stops, front}
+use Rattle.ledger.specs.Fronts.{is_over, is_comma, Front, gone, goes, stops}
+use Rattle.ledger.proofs.Fronts.{front}
 use Rattle.ledger.specs.Stages.{Ranked, each_not}
 use Rattle.ledger_fields.specs.declared.Mode.{Mode}
 use Rattle.ledger_fields.specs.declared.Mode.TheVariants.{Fresh, Begins}

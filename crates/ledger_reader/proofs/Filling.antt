@@ -10,7 +10,7 @@ use Rattle.book.specs.Books.{Entry, record_of, room_of}
 use Rattle.book.specs.SoundLaws.{room_within}
 use Rattle.book.specs.declared.Record.{Record}
 use Rattle.ledger.specs.Reading.{reading, replaced}
-use Rattle.ledger.specs.SoundLaws.{accepted_sound}
+use Rattle.ledger.proofs.SoundLaws.{accepted_sound}
 use Rattle.ledger_reader.specs.declared.Judged.{Judged}
 use Rattle.ledger_reader.specs.declared.Reading.{Reading}
 use Rattle.ledger_reader.specs.Lines.{RestAt, PutAt, Fills, full, fills}

@@ -11,7 +11,7 @@ use lib.Dec.{leb}
 use borrow.Author.Tests.{le-leb, lt-leb, leb-true, leb-false}
 use Rattle.book.specs.Books.{Entry, greatest, record_of, is_place_length}
 use Rattle.ledger.specs.Reading.{Row, row_of, number_in, with_numbers, entry_in}
-use Rattle.ledger.specs.SoundLaws.{place_range}
+use Rattle.ledger.proofs.SoundLaws.{place_range}
 use Rattle.ledger.specs.Stages.{Ranked, unnumbered, unplaced, good}
 use Rattle.ledger_fields.specs.declared.Seen.{Seen}
 use Rattle.ledger_fields.specs.Fields.{unseen, seen_from}

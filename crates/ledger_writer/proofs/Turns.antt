@@ -13,8 +13,8 @@ use Rattle.book.specs.Books.{Entry, entry_of, blank, greatest, is_place_length, 
 use Rattle.book.specs.SoundLaws.{room_within, sound_count, sound_each, at_sound}
 use Rattle.book.specs.declared.Record.{Record}
 use Rattle.ledger.specs.Ledger.{field, line, lines, header, ledger_text, entries_of}
-use Rattle.ledger.specs.SoundLaws.{place_range}
-use Rattle.ledger.specs.BookLaws.{line_length}
+use Rattle.ledger.proofs.SoundLaws.{place_range}
+use Rattle.ledger.proofs.BookLaws.{line_length}
 use Rattle.ledger_writer.specs.Emitting.{Emitted, Roomy, line_of}
 use Rattle.ledger_writer.proofs.Emits.{room_of_lem, room_rest, emits_as, emits_then}
 use Rattle.ledger_writer.proofs.Places.{field_rest}

@@ -4,49 +4,47 @@
 
 ghost use Rattle.std.specs.Prelude.{◌≤◌};
 
-use libc::{STDIN_FILENO, STDOUT_FILENO};
 use semantics::{Fault, Kind};
+use std::io;
+use std::io::{Read, Write};
 use token::Reading;
 
-fn say(words: &[u8]) {
-    io::write_all(STDOUT_FILENO, words);
-}
-
-fn say_number(n: usize) {
+fn say_number<W: Write>(out: &mut W, n: usize) -> io::Result<()> {
     if n <= 0xFFFF_FFFF {
         let mut digits = [0u8; 10];
         let end = text::write_decimal(&mut digits, 0, n as u32);
-        say(&digits[..end]);
+        return out.write_all(&digits[..end]);
     }
+    Ok(())
 }
 
-fn say_kind(kind: Kind) {
+fn say_kind<W: Write>(out: &mut W, kind: Kind) -> io::Result<()> {
     match kind {
-        Kind::Integer => say(b"kind=integer next="),
-        Kind::String => say(b"kind=string next="),
-        Kind::LiteralName => say(b"kind=literalname next="),
-        Kind::ExecutableName => say(b"kind=executablename next="),
-        Kind::OpenBrace => say(b"kind=openbrace next="),
-        Kind::CloseBrace => say(b"kind=closebrace next="),
-        Kind::End => say(b"kind=end next="),
+        Kind::Integer => out.write_all(b"kind=integer next="),
+        Kind::String => out.write_all(b"kind=string next="),
+        Kind::LiteralName => out.write_all(b"kind=literalname next="),
+        Kind::ExecutableName => out.write_all(b"kind=executablename next="),
+        Kind::OpenBrace => out.write_all(b"kind=openbrace next="),
+        Kind::CloseBrace => out.write_all(b"kind=closebrace next="),
+        Kind::End => out.write_all(b"kind=end next="),
     }
 }
 
 // A fault of these words, with the offset of the first byte that could not be accepted.
-fn say_place(words: &[u8], place: u32) {
-    say(words);
-    say_number(place as usize);
-    say(b"\n");
+fn say_place<W: Write>(out: &mut W, words: &[u8], place: u32) -> io::Result<()> {
+    out.write_all(words)?;
+    say_number(out, place as usize)?;
+    out.write_all(b"\n")
 }
 
-fn say_fault(fault: Fault) {
+fn say_fault<W: Write>(out: &mut W, fault: Fault) -> io::Result<()> {
     match fault {
-        Fault::BadNumber(place) => say_place(b"badnumber ", place),
-        Fault::BadEscape(place) => say_place(b"badescape ", place),
-        Fault::OpenString(place) => say_place(b"openstring ", place),
-        Fault::BadBrace(place) => say_place(b"badbrace ", place),
-        Fault::BadByte(place) => say_place(b"badbyte ", place),
-        Fault::OverLimit => say(b"limitcheck\n"),
+        Fault::BadNumber(place) => say_place(out, b"badnumber ", place),
+        Fault::BadEscape(place) => say_place(out, b"badescape ", place),
+        Fault::OpenString(place) => say_place(out, b"openstring ", place),
+        Fault::BadBrace(place) => say_place(out, b"badbrace ", place),
+        Fault::BadByte(place) => say_place(out, b"badbyte ", place),
+        Fault::OverLimit => out.write_all(b"limitcheck\n"),
     }
 }
 
@@ -65,47 +63,47 @@ enum Place {
 }
 
 // One line: the token from `offset` on.
-fn say_token(script: &[u8], offset: usize) -> Place {
+fn say_token<W: Write>(out: &mut W, script: &[u8], offset: usize) -> io::Result<Place> {
     match token::read(script, offset) {
         Reading::TooLong => {
-            say(b"refused=1\n");
-            Place::Done
+            out.write_all(b"refused=1\n")?;
+            Ok(Place::Done)
         }
         Reading::PastEnd => {
-            say(b"refused=10\n");
-            Place::Done
+            out.write_all(b"refused=10\n")?;
+            Ok(Place::Done)
         }
         Reading::Faulty(fault) => {
-            say_fault(fault);
-            Place::Done
+            say_fault(out, fault)?;
+            Ok(Place::Done)
         }
         Reading::Read(kind, next) => {
-            say_kind(kind);
-            say_number(next);
-            say(b" part=");
-            say(token::part(script, offset));
-            say(b"\n");
+            say_kind(out, kind)?;
+            say_number(out, next)?;
+            out.write_all(b" part=")?;
+            out.write_all(token::part(script, offset))?;
+            out.write_all(b"\n")?;
             if is_end(kind) {
-                return Place::Done;
+                return Ok(Place::Done);
             }
-            Place::At(next)
+            Ok(Place::At(next))
         }
     }
 }
 
 // A token has a byte at least, so no list is longer than its script and the end.
-fn list(script: &[u8]) {
-    say(b"script ");
-    say_number(script.len());
-    say(b"\n");
+fn list<W: Write>(out: &mut W, script: &[u8]) -> io::Result<()> {
+    out.write_all(b"script ")?;
+    say_number(out, script.len())?;
+    out.write_all(b"\n")?;
     let mut offset = 0;
     let mut left = script.len();
     loop {
-        let Place::At(next) = say_token(script, offset) else {
-            return;
+        let Place::At(next) = say_token(out, script, offset)? else {
+            return Ok(());
         };
         if left == 0 {
-            return;
+            return Ok(());
         }
         left -= 1;
         offset = next;
@@ -124,36 +122,37 @@ fn length_of(head: [u8; 4]) -> usize {
 }
 
 // A script of so many bytes, if there are so many.
-fn list_read(script: &mut [u8]) -> bool {
-    if io::read_full(STDIN_FILENO, script) < script.len() {
-        return false;
+fn list_read<R: Read, W: Write>(from: &mut R, out: &mut W, script: &mut [u8]) -> io::Result<bool> {
+    if input::read_full(from, script)? < script.len() {
+        return Ok(false);
     }
-    list(script);
-    true
+    list(out, script)?;
+    Ok(true)
 }
 
 // The next script, if there is one.
-fn list_next(space: &mut [u8]) -> bool {
+fn list_next<R: Read, W: Write>(from: &mut R, out: &mut W, space: &mut [u8]) -> io::Result<bool> {
     let mut head = [0u8; 4];
-    if io::read_full(STDIN_FILENO, &mut head) < 4 {
-        return false;
+    if input::read_full(from, &mut head)? < 4 {
+        return Ok(false);
     }
     let length = length_of(head);
     if space.len() < length {
-        return false;
+        return Ok(false);
     }
-    list_read(&mut space[..length])
+    list_read(from, out, &mut space[..length])
 }
 
 // Nothing says that the input ends, so the turns are counted.
-fn list_all(space: &mut [u8]) {
+fn list_all<R: Read, W: Write>(from: &mut R, out: &mut W, space: &mut [u8]) -> io::Result<()> {
     let mut left: u32 = 100000;
-    while 0 < left && list_next(space) {
+    while 0 < left && list_next(from, out, space)? {
         left -= 1;
     }
+    Ok(())
 }
 
-fn main() {
-    let mut space = io::large_buffer();
-    list_all(&mut space);
+fn main(rt: HostRuntime) -> io::Result<()> {
+    let mut space = [0u8; 65536];
+    list_all(&mut rt.stdin(), &mut rt.stdout(), &mut space)
 }
