@@ -29,4 +29,4 @@ returns-in-10 c = stack_named _ _ c.in-10.is refl c.rem.ensures
 
 pub returns-in_default : goal.returns-in_default
 unfolding titles table ◌is◌
-returns-in_default c = stack_named 11 _ (omega (arith, c.in_default.in_default-own.rest, c.requires.0, c.requires.1)) refl c.abs.ensures
+returns-in_default c = stack_named 11 _ (omega arith) refl c.abs.ensures

@@ -29,4 +29,4 @@ returns-in-40 c = heap_named _ _ c.in-40.is refl c.get.ensures
 
 pub returns-in_default : goal.returns-in_default
 unfolding titles table ◌is◌
-returns-in_default c = heap_named 41 _ (omega (arith, c.in_default.in_default-own.rest, c.requires.0, c.requires.1)) refl c.put.ensures
+returns-in_default c = heap_named 41 _ (omega arith) refl c.put.ensures

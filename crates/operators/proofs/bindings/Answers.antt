@@ -17,4 +17,4 @@ returns-in-25 c = dictionary_named _ _ c.in-25.is refl c.load.ensures
 
 pub returns-in_default : goal.returns-in_default
 unfolding titles table ◌is◌
-returns-in_default c = dictionary_named 26 _ (omega (arith, c.in_default.in_default-own.rest, c.requires.0, c.requires.1)) refl c.bind.ensures
+returns-in_default c = dictionary_named 26 _ (omega arith) refl c.bind.ensures

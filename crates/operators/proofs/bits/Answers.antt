@@ -29,4 +29,4 @@ returns-in-16 c = stack_named _ _ c.in-16.is refl c.bit_or.ensures
 
 pub returns-in_default : goal.returns-in_default
 unfolding titles table ◌is◌
-returns-in_default c = stack_named 17 _ (omega (arith, c.in_default.in_default-own.rest, c.requires.0, c.requires.1)) refl c.bit_xor.ensures
+returns-in_default c = stack_named 17 _ (omega arith) refl c.bit_xor.ensures

@@ -30,4 +30,4 @@ returns-in-31 c = frames_named _ _ c.in-31.is refl (slots_frames _ c.repeat_.ens
 
 pub returns-in_default : goal.returns-in_default
 unfolding titles table ◌is◌
-returns-in_default c = frames_named 32 _ (omega (arith, c.in_default.in_default-own.rest, c.requires.0, c.requires.1)) refl (slots_frames _ c.for_.ensures _)
+returns-in_default c = frames_named 32 _ (omega arith) refl (slots_frames _ c.for_.ensures _)

@@ -21,4 +21,4 @@ returns-in-22 c = stack_named _ _ c.in-22.is refl c.gt.ensures
 
 pub returns-in_default : goal.returns-in_default
 unfolding titles table ◌is◌
-returns-in_default c = stack_named 23 _ (omega (arith, c.in_default.in_default-own.rest, c.requires.0, c.requires.1)) refl c.ge.ensures
+returns-in_default c = stack_named 23 _ (omega arith) refl c.ge.ensures

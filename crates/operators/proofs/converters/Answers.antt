@@ -21,4 +21,4 @@ returns-in-49 c = dictionary_named _ _ c.in-49.is refl (stack_dictionary _ c.cvl
 
 pub returns-in_default : goal.returns-in_default
 unfolding titles table ◌is◌
-returns-in_default c = dictionary_named 50 _ (omega (arith, c.in_default.in_default-own.rest, c.requires.0, c.requires.1)) refl c.cvn.ensures
+returns-in_default c = dictionary_named 50 _ (omega arith) refl c.cvn.ensures

@@ -17,4 +17,4 @@ returns-in-34 c = cells_named _ _ c.in-34.is refl c.continue_.ensures
 
 pub returns-in_default : goal.returns-in_default
 unfolding titles table ◌is◌
-returns-in_default c = cells_named 35 _ (omega (arith, c.in_default.in_default-own.rest, c.requires.0, c.requires.1)) refl (state_cells _ c.stop.ensures _ _)
+returns-in_default c = cells_named 35 _ (omega arith) refl (state_cells _ c.stop.ensures _ _)

@@ -18,4 +18,4 @@ returns-in-55 c = dictionary_named _ _ c.in-55.is refl c.errorname.ensures
 pub returns-in_default : goal.returns-in_default
 unfolding titles table ◌is◌
 returns-in_default c = let pre = c.requires in
-    dictionary_named 56 _ (omega (arith, c.in_default.in_default-own.rest, pre.0, pre.1)) refl c.command.ensures
+    dictionary_named 56 _ (omega arith) refl c.command.ensures

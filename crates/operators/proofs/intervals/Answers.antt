@@ -25,4 +25,4 @@ returns-in-45 c = heap_named _ _ c.in-45.is refl c.astore.ensures
 
 pub returns-in_default : goal.returns-in_default
 unfolding titles table ◌is◌
-returns-in_default c = heap_named 46 _ (omega (arith, c.in_default.in_default-own.rest, c.requires.0, c.requires.1)) refl c.string.ensures
+returns-in_default c = heap_named 46 _ (omega arith) refl c.string.ensures

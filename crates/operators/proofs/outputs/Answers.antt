@@ -17,4 +17,4 @@ returns-in-52 c = log_named _ _ c.in-52.is refl c.echostack.ensures
 
 pub returns-in_default : goal.returns-in_default
 unfolding titles table ◌is◌
-returns-in_default c = log_named 53 _ (omega (arith, c.in_default.in_default-own.rest, c.requires.0, c.requires.1)) refl (c.print.ensures _)
+returns-in_default c = log_named 53 _ (omega arith) refl (c.print.ensures _)

@@ -29,4 +29,4 @@ returns-in-4 c = heap_named _ _ c.in-4.is refl c.copy.ensures
 
 pub returns-in_default : goal.returns-in_default
 unfolding titles table ◌is◌
-returns-in_default c = heap_named 5 _ (omega (arith, c.in_default.in_default-own.rest, c.requires.0)) refl c.roll.ensures
+returns-in_default c = heap_named 5 _ (omega arith) refl c.roll.ensures
