@@ -6,9 +6,6 @@ use native.Mathlib.Omega.{arith}
 use Rattle.store.specs.Rep.{byte_of, with_byte}
 use Rattle.store.proofs.Bytes.{with_fits, four}
 
-pub unit_some : (j : ℕ) → j < 4 → 0 < 2 ^ (8 * j)
-unit_some = four (λ j. 0 < 2 ^ (8 * j)) (omega arith) (omega arith) (omega arith) (omega arith)
-
 byte_low : (w j : ℕ) → j < 4 → byte_of w j * 2 ^ (8 * j) ≤ w
 byte_low w = four (λ j. byte_of w j * 2 ^ (8 * j) ≤ w) (omega arith) (omega arith) (omega arith) (omega arith)
 

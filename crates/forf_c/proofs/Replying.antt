@@ -12,7 +12,6 @@ use Rattle.forf_token.specs.declared.Located.TheVariants.{At}
 use Rattle.forf_token.proofs.Readings.{without_token}
 use Rattle.forf_runner.specs.declared.Answer.{Answer}
 use Rattle.forf_c.specs.Reply.{reply_of, refusal_number, fault_number, token_reply_of}
-use Rattle.forf_c.specs.declared.Reply.{Reply}
 use Rattle.forf_c.specs.declared.TokenReply.{TokenReply}
 
 pub reply_as : {a b : Answer} → a ≡ b → reply_of b ≡ reply_of a

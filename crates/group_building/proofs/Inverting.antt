@@ -3,13 +3,13 @@
 use mathlib.Core.Path.{◌≡◌, refl, sym, ap, ◌∙◌, subst}
 use mathlib.Core.Bool.{true, false, false≢true}
 use mathlib.Core.List.{List, []}
-use Prim.Native.Nat.{ℕ, suc, ◌+◌, ◌-◌, ◌≤◌, ◌<◌}
+use Prim.Native.Nat.{ℕ, suc, ◌+◌, ◌≤◌, ◌<◌}
 use native.Mathlib.Omega.{arith}
 use lib.ListN.{length, take, drop}
 use Rattle.semantics.specs.Tokens.{Lexing, Token, Lexeme, lex, lexeme}
 use Rattle.semantics.specs.Values.{ok, fault}
 use Rattle.semantics.specs.Machine as Floo
-use Rattle.semantics.specs.Groups.{Taken, taken, skip, group}
+use Rattle.semantics.specs.Groups.{Taken, taken, skip}
 use Rattle.semantics.specs.declared.Fault.{Fault}
 use Rattle.token.specs.Lexing.{Lexes, LexedAt, TokenAt}
 use Rattle.token.specs.declared.Lexed.{Lexed}

@@ -9,7 +9,6 @@ use native.Mathlib.Omega.{arith}
 use lib.ListN.{length, get_elem?, take, drop, replicate, length-replicate, length-take}
 use Rattle.semantics.specs.Sizes.{name_most}
 use Rattle.semantics.specs.Tokens.{Token}
-use Rattle.semantics.specs.Text.{same}
 use Rattle.semantics.specs.Values.{integer, name, string, text, Object, cells}
 use Rattle.semantics.specs.Machine as Floo
 use Rattle.semantics.specs.Machine.{with_read_only, object, bytes_of, made, protect}

@@ -3,7 +3,7 @@
 use Rattle.std.specs.Prelude.{◌≡◌, Bool, true, false, List, ℕ, suc, ◌+◌, ◌-◌, ◌≤◌, ◌<◌, length, take, drop}
 use Rattle.semantics.specs.Sizes.{name_most, script_most}
 use Rattle.semantics.specs.Tokens.{Token}
-use Rattle.semantics.specs.Values.{integer, null, name, string, array, cells}
+use Rattle.semantics.specs.Values.{integer, null, name, cells}
 use Rattle.semantics.specs.Machine as Floo
 use Rattle.semantics.specs.Machine.{elements_of, made}
 use Rattle.semantics.specs.Groups.{skip}

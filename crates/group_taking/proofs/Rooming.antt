@@ -10,7 +10,7 @@ use Rattle.semantics.specs.Values.{Object, fault, array, elements, cells}
 use Rattle.semantics.specs.Machine as Floo
 use Rattle.semantics.specs.Machine.{with_stack, with_store, with_dictionary, with_read_only, push, make, made, change, protect}
 use Rattle.semantics.specs.Sizes.{script_most}
-use Rattle.semantics.specs.Groups.{taken, group, opened}
+use Rattle.semantics.specs.Groups.{taken, opened}
 use Rattle.semantics.specs.Held.{sum_of}
 use Rattle.semantics.specs.declared.Fault.{Fault}
 use Rattle.semantics.specs.declared.Error.{Error}

@@ -4,7 +4,7 @@ use mathlib.Core.Path.{◌≡◌, refl, sym, ap, ◌∙◌, subst}
 use mathlib.Core.List.{List, [], ◌∷◌, ◌++◌}
 use mathlib.Core.Option.{Option, none, some}
 use mathlib.Core.Bool.{true}
-use Prim.Native.Nat.{ℕ, suc, ◌+◌, ◌-◌, ◌*◌, ◌/◌, ◌≤◌, ◌<◌}
+use Prim.Native.Nat.{ℕ, ◌+◌, ◌-◌, ◌*◌, ◌/◌, ◌≤◌, ◌<◌}
 use native.Mathlib.Omega.{arith}
 use native.Mathlib.Numerals.{add-one}
 use lib.Dec.{T, ltb, ltb→lt}
@@ -29,10 +29,9 @@ use Rattle.machine.specs.Rep as Words
 use Rattle.machine.specs.Rep.{Rep, Noted, nothing}
 use Rattle.machine.specs.declared.Machine.{Machine}
 use Rattle.machine.proofs.Rooms.{dictionary_fits}
-use Rattle.dictionary.specs.Names.{slot_of, Finds, Adds}
+use Rattle.dictionary.specs.Names.{Finds, Adds}
 use Rattle.dictionary.proofs.Dictionaries.{absent}
-use Rattle.dictionary.proofs.Interning.{found_key, new_slot, new_key}
-use Rattle.dictionary.proofs.Rebinding.{slot_size}
+use Rattle.dictionary.proofs.Interning.{new_slot, new_key}
 use Rattle.handover.specs.Handover.{Stored, KnowsName, KnowsSlot, Knows, NamesSomewhere, MayKnow}
 use Rattle.handover.specs.declared.Known.{Known}
 

@@ -1,17 +1,17 @@
 -- What failed counts as taken, by the kind of the topmost slot; and whether a slot is free then.
 -- Assumes nothing.
 use mathlib.Core.Path.{◌≡◌, refl, sym, ap, ◌∙◌, subst}
-use mathlib.Core.Bool.{Bool, true, false, cond}
+use mathlib.Core.Bool.{true}
 use mathlib.Core.List.{List, [], ◌∷◌}
 use mathlib.Core.Logic.{⊎_elim}
-use Prim.Native.Nat.{ℕ, suc, ◌+◌, ◌-◌, ◌*◌, ◌/◌, ◌^◌, ◌≤◌, ◌<◌}
+use Prim.Native.Nat.{ℕ, suc, ◌+◌, ◌-◌, ◌*◌, ◌/◌, ◌≤◌, ◌<◌}
 use native.Mathlib.Omega.{arith}
 use borrow.Author.Tests.{le-leb, lt-leb}
 use lib.Dec.{leb}
 use lib.IntN.{◌+ℤ◌}
 use lib.ListN.{length, get_or, drop, length-drop}
 use Rattle.semantics.specs.Words.{signed}
-use Rattle.semantics.specs.Values.{Value, Object, null, Result, ok, fault, ◌>>=◌}
+use Rattle.semantics.specs.Values.{Value, Object, null, ok, fault, ◌>>=◌}
 use Rattle.semantics.specs.Machine as Floo
 use Rattle.semantics.specs.Machine.{Frame, pending, running, looping, repeating, counting, with_exec}
 use Rattle.semantics.specs.Steps.{passed, following, room_for}
@@ -21,7 +21,7 @@ use Rattle.heap.proofs.Since.{lt_or_le}
 use Rattle.machine.specs.Words.{frame_kind, frame_left, frame_next, frame_increment, frame_final}
 use Rattle.machine.specs.Rep.{Rep, FrameIs, a_pending, a_running, a_looping, a_repeating, a_counting, a_past, Frames, bottom, frame}
 use Rattle.machine.specs.declared.Machine.{Machine}
-use Rattle.machine.specs.FrameMoves.{top_frame, top_value, frame_dropped, MovesFrames}
+use Rattle.machine.specs.FrameMoves.{frame_dropped, MovesFrames}
 use Rattle.machine.specs.Room.{lent, fitted}
 use Rattle.machine.proofs.Rooms.{frames_length, stack_fits, exec_fits, dictionary_fits, log_fits, room_passes}
 use Rattle.machine.proofs.Tops.{slot}

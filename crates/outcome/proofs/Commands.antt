@@ -34,7 +34,7 @@ use Rattle.ending.specs.declared.Ending.TheVariants.{Finished, Stopped, OutOfFue
 use Rattle.machine.specs.Places.{keys}
 use Rattle.machine.specs.Rep.{Rep, IsIn}
 use Rattle.machine.specs.declared.Machine.{Machine}
-use Rattle.outcome.specs.Reports.{Known, EndingRoom, WritesEnding, FailureRoom, WritesFailure, CommandRoom, WritesCommand, WritesWhere}
+use Rattle.outcome.specs.Reports.{EndingRoom, WritesEnding, FailureRoom, WritesFailure, CommandRoom, WritesCommand, WritesWhere}
 
 -- ---- a name by its slot
 

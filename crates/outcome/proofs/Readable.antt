@@ -10,7 +10,6 @@ use native.Mathlib.Nat.{mod-lt}
 use lib.ListN.{length, get_or, get_elem?}
 use Rattle.semantics.specs.Values.{Value}
 use Rattle.semantics.specs.Machine as Floo
-use Rattle.semantics.specs.Steps as Steps
 use Rattle.semantics.specs.Outcome.{outcome}
 use Rattle.semantics.specs.ListLaws.{All, nil, cons, all_take, all_drop, an_element}
 use Rattle.semantics.specs.AsciiLaws.{Ascii, Bytes, Plain, PlainEnding, name_ascii, outcome_ascii}

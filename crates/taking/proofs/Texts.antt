@@ -7,7 +7,6 @@ use native.Mathlib.Omega.{arith}
 use lib.ListN.{length, replicate, length-replicate}
 use Rattle.semantics.specs.Sizes.{stack_words_most}
 use Rattle.semantics.specs.Values.{string, null, text, ◌>>=◌, cells}
-use Rattle.semantics.specs.Machine as Floo
 use Rattle.semantics.specs.Machine.{with_stack, with_store, push, object, bytes_of, make, made}
 use Rattle.semantics.specs.Held.{sum_of}
 use Rattle.semantics.specs.declared.Error.TheVariants.{StackOverflow, VmError}

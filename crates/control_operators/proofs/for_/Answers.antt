@@ -21,7 +21,13 @@ pub returns-then-stack-k-ne-TAG_INTEGER : goal.returns-then-stack-k-ne-TAG_INTEG
 returns-then-stack-k-ne-TAG_INTEGER c = slots_fault (λ d cs l μ R. for_type3 R (c.args.m.depth - 4) (c.args.m.depth - 3) (c.args.m.depth - 2) (omega (arith, c.if-m-lt4.false)) (omega (arith, c.if-m-lt4.false)) (omega (arith, c.if-m-lt4.false)) c.if-stack-i-ne-TAG_INTEGER.false c.if-stack-j-ne-TAG_INTEGER.false c.if-stack-k-ne-TAG_INTEGER.true)
 
 pub returns-then-exec-m : goal.returns-then-exec-m
-returns-then-exec-m c = into_full (λ d cs l μ R. for_into R (c.args.m.depth - 4) (c.args.m.depth - 3) (c.args.m.depth - 2) (omega (arith, c.if-m-lt4.false)) (omega (arith, c.if-m-lt4.false)) (omega (arith, c.if-m-lt4.false)) c.if-stack-i-ne-TAG_INTEGER.false c.if-stack-j-ne-TAG_INTEGER.false c.if-stack-k-ne-TAG_INTEGER.false (c.type_inv.stack (2 * (c.args.m.depth - 3) + 1)).fits (c.type_inv.stack (2 * (c.args.m.depth - 2) + 1)).fits) c.if-exec-m.true
+returns-then-exec-m c = into_full (λ d cs l μ R. for_into R (c.args.m.depth - 4) (c.args.m.depth - 3) (c.args.m.depth - 2) (omega (arith, c.if-m-lt4.false))
+    (omega (arith, c.if-m-lt4.false)) (omega (arith, c.if-m-lt4.false)) c.if-stack-i-ne-TAG_INTEGER.false c.if-stack-j-ne-TAG_INTEGER.false
+    c.if-stack-k-ne-TAG_INTEGER.false (c.type_inv.stack (2 * (c.args.m.depth - 3) + 1)).fits (c.type_inv.stack (2 * (c.args.m.depth - 2) + 1)).fits)
+    c.if-exec-m.true
 
 pub returns : goal.returns
-returns c = into_done (λ d cs l μ R. for_into R (c.args.m.depth - 4) (c.args.m.depth - 3) (c.args.m.depth - 2) (omega (arith, c.if-m-lt4.false)) (omega (arith, c.if-m-lt4.false)) (omega (arith, c.if-m-lt4.false)) c.if-stack-i-ne-TAG_INTEGER.false c.if-stack-j-ne-TAG_INTEGER.false c.if-stack-k-ne-TAG_INTEGER.false (c.type_inv.stack (2 * (c.args.m.depth - 3) + 1)).fits (c.type_inv.stack (2 * (c.args.m.depth - 2) + 1)).fits) a_for c.enter_loop-r.ensures.enters c.forget.ensures (cons integer_nameless (cons integer_nameless (cons integer_nameless nil))) c.enter_loop-r.auto.exec
+returns c = into_done (λ d cs l μ R. for_into R (c.args.m.depth - 4) (c.args.m.depth - 3) (c.args.m.depth - 2) (omega (arith, c.if-m-lt4.false))
+    (omega (arith, c.if-m-lt4.false)) (omega (arith, c.if-m-lt4.false)) c.if-stack-i-ne-TAG_INTEGER.false c.if-stack-j-ne-TAG_INTEGER.false
+    c.if-stack-k-ne-TAG_INTEGER.false (c.type_inv.stack (2 * (c.args.m.depth - 3) + 1)).fits (c.type_inv.stack (2 * (c.args.m.depth - 2) + 1)).fits) a_for
+    c.enter_loop-r.ensures.enters c.forget.ensures (cons integer_nameless (cons integer_nameless (cons integer_nameless nil))) c.enter_loop-r.auto.exec

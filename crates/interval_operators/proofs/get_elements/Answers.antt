@@ -22,7 +22,10 @@ pub new_array-made-requires : goal.new_array-made-requires
 new_array-made-requires c = (omega (arith, c.requires.0), omega (arith, c.if-free_cells-n.false, c.free_cells.ensures), plain_count c.requires.5 c.requires.6)
 
 pub copy_elements-copied-requires : goal.copy_elements-copied-requires
-copy_elements-copied-requires c = let deep = c.new_array-made.ensures.depth_value in record { places = (omega (arith, c.requires.0, deep), omega (arith, c.requires.0, deep), omega (arith, c.requires.0, deep), (λ q. omega (arith, q)), (λ q. omega (arith, q))); copies = (inl (omega arith), copies_new_array c.requires.0 c.requires.5 c.if-size_of-start.false c.requires.6 c.requires.3 c.requires.4 c.size_of.ensures c.new_array-made.ensures.moves_heap) }
+copy_elements-copied-requires c = let deep = c.new_array-made.ensures.depth_value in record {
+  places = (omega (arith, c.requires.0, deep), omega (arith, c.requires.0, deep), omega (arith, c.requires.0, deep), (λ q. omega (arith, q)), (λ q. omega (arith, q)));
+  copies = (inl (omega arith), copies_new_array c.requires.0 c.requires.5 c.if-size_of-start.false c.requires.6 c.requires.3 c.requires.4 c.size_of.ensures c.new_array-made.ensures.moves_heap);
+}
 
 pub retag-tagged-requires : goal.retag-tagged-requires
 retag-tagged-requires c = let W = elsewhere c.copy_elements-copied.ensures.moves_heap (elsewhere c.new_array-made.ensures.moves_heap c.requires.6) in
@@ -39,4 +42,6 @@ pub shape_of-cells : goal.shape_of-cells
 shape_of-cells c = c.leave_result.auto.cells ∙ c.copy_elements-copied.auto.cells ∙ c.new_array-made.auto.cells
 
 pub returns : goal.returns
-returns c = get_elements_done c.requires.0 c.requires.1 c.requires.2 c.requires.5 c.requires.3 c.requires.4 c.size_of.ensures c.if-size_of-start.false c.free_cells.ensures c.if-free_cells-n.false c.new_array-made.ensures.moves_heap c.copy_elements-copied.ensures.moves_heap c.retag-tagged.ensures.moves_stack c.leave_result.ensures (c.leave_result.auto.stack ∙ c.retag-tagged.auto.stack ∙ c.copy_elements-copied.auto.stack ∙ c.new_array-made.auto.stack)
+returns c = get_elements_done c.requires.0 c.requires.1 c.requires.2 c.requires.5 c.requires.3 c.requires.4 c.size_of.ensures c.if-size_of-start.false
+    c.free_cells.ensures c.if-free_cells-n.false c.new_array-made.ensures.moves_heap c.copy_elements-copied.ensures.moves_heap c.retag-tagged.ensures.moves_stack
+    c.leave_result.ensures (c.leave_result.auto.stack ∙ c.retag-tagged.auto.stack ∙ c.copy_elements-copied.auto.stack ∙ c.new_array-made.auto.stack)

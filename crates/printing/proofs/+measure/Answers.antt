@@ -73,7 +73,15 @@ pub loop-i-smaller : goal.loop-i-smaller
 loop-i-smaller t c = omega (arith, c.loop-i-test.true)
 
 pub loop-i-preserved : goal.loop-i-preserved
-loop-i-preserved t c = (omega (arith, c.if-left-k.false, c.loop-i.invariant.0), omega (arith, c.loop-i-test.true), found_after _ _ _ _ _ c.loop-i.invariant.2 c.next-c.ensures, summed_again c.if-tag-lt-TAG_ARRAY.false c.if-depth-eq0.false c.loop-i.invariant.3 c.loop-i.invariant.0 (omega (arith, c.loop-i-test.true, c.size-n.ensures)) _ c.loop-i.invariant.2 c.get-t.ensures c.get-p.ensures c.measure-k.ensures c.if-left-k.false)
+loop-i-preserved t c = (
+  omega (arith, c.if-left-k.false, c.loop-i.invariant.0),
+  omega (arith, c.loop-i-test.true),
+  found_after _ _ _ _ _
+      c.loop-i.invariant.2 c.next-c.ensures,
+  summed_again c.if-tag-lt-TAG_ARRAY.false c.if-depth-eq0.false c.loop-i.invariant.3 c.loop-i.invariant.0
+      (omega (arith, c.loop-i-test.true, c.size-n.ensures)) _ c.loop-i.invariant.2 c.get-t.ensures c.get-p.ensures c.measure-k.ensures
+      c.if-left-k.false,
+)
 
 pub returns : goal.returns
 returns t c = summed_ends c.if-tag-lt-TAG_ARRAY.false c.if-depth-eq0.false c.loop-i.invariant.3 c.loop-i.invariant.0 (omega (arith, c.loop-i-test.false, c.size-n.ensures)) (omega (arith, c.size-n.ensures, c.if-n-eq0.false)) (omega (arith, c.loop-i.invariant.1, c.size-n.ensures))

@@ -77,7 +77,15 @@ pub bounds-log-next : goal.bounds-log-next
 bounds-log-next t c = after_fits c.if-tag-lt-TAG_ARRAY.false c.requires c.if-depth-eq0.false (omega (arith, c.size-n.ensures, c.if-n-eq0.false)) (length-set c.args.log.now c.args.at c.opening.result) c.loop-i.invariant.2 (omega (arith, c.loop-i-test.true, c.size-n.ensures)) _ c.loop-i.invariant.1 c.get-t.ensures c.get-p.ensures c.write-next.ensures c.write-next.auto.log
 
 pub overflow_add-next-in-loop-i : goal.overflow_add-next-in-loop-i
-overflow_add-next-in-loop-i t c = omega (arith, after_fits c.if-tag-lt-TAG_ARRAY.false c.requires c.if-depth-eq0.false (omega (arith, c.size-n.ensures, c.if-n-eq0.false)) (length-set c.args.log.now c.args.at c.opening.result) c.loop-i.invariant.2 (omega (arith, c.loop-i-test.true, c.size-n.ensures)) _ c.loop-i.invariant.1 c.get-t.ensures c.get-p.ensures c.write-next.ensures c.write-next.auto.log, c.write-next.auto.log, c.loop-i.invariant.2.long, length-set c.args.log.now c.args.at c.opening.result)
+overflow_add-next-in-loop-i t c = omega (
+  arith,
+  after_fits c.if-tag-lt-TAG_ARRAY.false c.requires c.if-depth-eq0.false (omega (arith, c.size-n.ensures, c.if-n-eq0.false))
+      (length-set c.args.log.now c.args.at c.opening.result) c.loop-i.invariant.2 (omega (arith, c.loop-i-test.true, c.size-n.ensures)) _
+      c.loop-i.invariant.1 c.get-t.ensures c.get-p.ensures c.write-next.ensures c.write-next.auto.log,
+  c.write-next.auto.log,
+  c.loop-i.invariant.2.long,
+  length-set c.args.log.now c.args.at c.opening.result,
+)
 
 pub next-c-requires : goal.next-c-requires
 next-c-requires t c = element_room c.if-tag-lt-TAG_ARRAY.false c.requires.known c.loop-i.i (omega (arith, c.loop-i-test.true, c.size-n.ensures)) _ c.loop-i.invariant.1
@@ -86,7 +94,14 @@ pub loop-i-smaller : goal.loop-i-smaller
 loop-i-smaller t c = omega (arith, c.loop-i-test.true)
 
 pub loop-i-preserved : goal.loop-i-preserved
-loop-i-preserved t c = (omega (arith, c.loop-i-test.true), found_after _ _ _ _ _ c.loop-i.invariant.1 c.next-c.ensures, listed_again c.if-tag-lt-TAG_ARRAY.false c.requires c.if-depth-eq0.false (omega (arith, c.size-n.ensures, c.if-n-eq0.false)) (length-set c.args.log.now c.args.at c.opening.result) c.loop-i.invariant.2 (omega (arith, c.loop-i-test.true, c.size-n.ensures)) _ c.loop-i.invariant.1 c.get-t.ensures c.get-p.ensures c.write-next.ensures c.write-next.auto.log c.size-n.ensures c.byte_after.ensures)
+loop-i-preserved t c = (
+  omega (arith, c.loop-i-test.true),
+  found_after _ _ _ _ _ c.loop-i.invariant.1 c.next-c.ensures,
+  listed_again
+      c.if-tag-lt-TAG_ARRAY.false c.requires c.if-depth-eq0.false (omega (arith, c.size-n.ensures, c.if-n-eq0.false)) (length-set c.args.log.now c.args.at c.opening.result)
+      c.loop-i.invariant.2 (omega (arith, c.loop-i-test.true, c.size-n.ensures)) _ c.loop-i.invariant.1 c.get-t.ensures c.get-p.ensures
+      c.write-next.ensures c.write-next.auto.log c.size-n.ensures c.byte_after.ensures,
+)
 
 pub shape_of-log : goal.shape_of-log
 shape_of-log t c = c.loop-i.invariant.2.long ∙ length-set c.args.log.now c.args.at c.opening.result
