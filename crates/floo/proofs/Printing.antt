@@ -34,7 +34,7 @@ read_pasted : (t l : List ℕ) → take (length t) (pasted 0 t l) ≡ t
 unfolding pasted
 read_pasted t l = take_at (take 0 l ++ t) (drop (0 + length t) l) (length t) refl
 
-read_back : {t l l' : List ℕ} {n : ℕ} → Written 0 t l l' n → take n l' ≡ t
+pub read_back : {t l l' : List ℕ} {n : ℕ} → Written 0 t l l' n → take n l' ≡ t
 read_back {t} {l} w = rw (w.end, w.bytes, zero-add) (read_pasted t l)
 
 -- ---- the definition's text
