@@ -7,8 +7,8 @@ use mathlib.Core.List.{List, [], ◌++◌}
 use Prim.Native.Nat.{ℕ, zero, suc, ◌-◌}
 use lib.ListN.{length, drop, get_or}
 use lib.Dec.{leb, eqb}
-use Rattle.semantics.specs.Values.{name, Object, elements, Result, ok, ◌>>=◌, check, cells}
-use Rattle.semantics.specs.Machine.{Machine, running, object}
+use Rattle.semantics.specs.Values.{Object, elements, Result, ok, ◌>>=◌, check, cells}
+use Rattle.semantics.specs.Machine.{Machine, object}
 use Rattle.semantics.specs.Held.{of_object, gather, roots, named_by, among, prune, pruned, below, held, sum_of, held_cells}
 use Rattle.semantics.specs.Steps.{Limits, new_cells, cells_for, room_for}
 use Rattle.semantics.specs.declared.Error.TheVariants.{LimitCheck, ExecStackOverflow, StackOverflow, VmError, IoError}

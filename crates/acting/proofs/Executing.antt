@@ -9,21 +9,21 @@ use Prim.Native.Nat.{ℕ, suc, ◌-◌, ◌/◌, ◌≤◌, ◌<◌}
 use native.Mathlib.Omega.{arith}
 use lib.ListN.{length, get_elem?}
 use Rattle.semantics.specs.Sizes.{operator_count}
-use Rattle.semantics.specs.Values.{Value, operator, name, Object, Result, null}
+use Rattle.semantics.specs.Values.{Value, operator, name, Result, null}
 use Rattle.semantics.specs.Machine as Floo
 use Rattle.semantics.specs.Machine.{Frame, pending, running, with_exec, elements_of, object}
 use Rattle.semantics.specs.Held.{of_value}
-use Rattle.semantics.specs.Operators.{perform, ◌is◌}
+use Rattle.semantics.specs.Operators.{perform}
 use Rattle.semantics.specs.Steps.{resume, execute, treat, is_procedure}
 use Rattle.semantics.specs.declared.Error.{Error}
 use Rattle.semantics.specs.ListLaws.{an_element, get_d_known}
 use Rattle.heap.specs.Word.{word}
-use Rattle.heap.specs.Shape.{Ghost, cells}
+use Rattle.heap.specs.Shape.{cells}
 use Rattle.store.specs.Rep.{titles, element, object_at}
 use Rattle.store.proofs.Standing.{is_operator, is_executable}
 use Rattle.machine.specs.Words.{frame_kind, frame_tag, frame_payload, frame_cell, frame_left}
 use Rattle.machine.specs.Places.{keys}
-use Rattle.machine.specs.Rep.{Rep, IsIn, Answer, FrameIs, a_pending, a_running, a_looping, a_repeating, a_counting, a_past}
+use Rattle.machine.specs.Rep.{Rep, IsIn, Answer}
 use Rattle.machine.specs.Room.{lent, fitted}
 use Rattle.machine.specs.declared.Machine.{Machine}
 use Rattle.machine.specs.declared.Did.{Did}

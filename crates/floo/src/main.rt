@@ -1,18 +1,22 @@
 // The program: a script on standard input is run with the sizes of the scope paper. Printed are its log and then its outcome, or the number of the refusal.
-// What is printed is proved; that the bytes are those of standard input and go to standard output is not, since no contract can say it.
+// What is written of what is read is proved, for any reader and writer; that the bytes are those of standard input and go to standard output is not, since no contract can say it.
 #![tactic(auto)]
 
+ghost use Rattle.std.specs.Prelude.{◌+◌, IfSome, OnOk, take};
+ghost use Rattle.std.specs.Io.KnownBytes.{Appends};
+ghost use Rattle.semantics.specs.Sizes.{script_most};
 ghost use Rattle.semantics.specs.Setup.{printed};
 ghost use Rattle.text.specs.Writing.{Written};
 ghost use Rattle.floo.specs.Sizes.{fuel, sizes};
 ghost use Rattle.floo.specs.Telling.{Within, told};
 
-use libc::{STDIN_FILENO, STDOUT_FILENO};
 use runner::Answer;
 use semantics::{
     CELL_WIDTH, DICTIONARY_MOST, DICTIONARY_WIDTH, EXEC_MOST, EXEC_WIDTH, FUEL_MOST, HEAD_ROOM,
     ITEM_ROOM, SCRIPT_MOST, STACK_MOST, STACK_WIDTH,
 };
+use std::io;
+use std::io::{Read, Write};
 
 // The longest script and one byte more, so that a longer one is refused and not cut.
 const SCRIPT: usize = SCRIPT_MOST + 1;
@@ -33,12 +37,20 @@ const OUTCOME: usize = HEAD_ROOM + ITEM_ROOM * STACK_MOST;
 // A log and an outcome.
 const PAGE: usize = LOG + OUTCOME;
 
-fn main() {
+fn main(rt: HostRuntime) -> io::Result<()> {
+    run_script(&mut rt.stdin(), &mut rt.stdout())
+}
+
+// The bytes of the reader are a script, and what is printed of it goes to the writer.
+// Ruled out: a script that is cut to what may be run; a byte before or after what is printed.
+fn run_script<R: Read, W: Write>(from: &mut R, to: &mut W) -> io::Result<()>
+    ensures { OnOk result (IfSome (R.remaining from.old) (λ xs. Appends (W.contents to.old) (W.contents to.new) (printed (take (script_most + 1) xs) fuel sizes))) }
+{
     let mut space = [0u8; SCRIPT];
-    let n = io::read_full(STDIN_FILENO, &mut space);
+    let n = input::read_full(from, &mut space)?;
     let mut page = [0u8; PAGE];
     let end = write_page(&space[..n], &mut page);
-    io::write_all(STDOUT_FILENO, &page[..end]);
+    to.write_all(&page[..end])
 }
 
 // What is printed of a script.

@@ -4,7 +4,7 @@ use mathlib.Core.Path.{◌≡◌, refl, sym, ap, ◌∙◌, subst}
 use mathlib.Core.List.{List, ◌++◌}
 use Prim.Native.Nat.{ℕ, ◌+◌, ◌*◌, ◌≤◌}
 use lib.ListN.{length, take, drop, replicate, length-append}
-use lib.Seq.{take_at, length-take-le}
+use lib.Seq.{take_at}
 use native.Mathlib.Nat.{zero-add}
 use native.Mathlib.Omega.{arith}
 use Rattle.semantics.specs.Sizes.{fuel_most, stack_most, head_room, item_room}
@@ -13,12 +13,10 @@ use Rattle.semantics.specs.Outcome.{line}
 use Rattle.semantics.specs.ObjectOperators.{pasted}
 use Rattle.text.specs.Writing.{Written}
 use Rattle.text.proofs.Pasting.{respelt}
-use Rattle.forf_semantics.specs.Outcome.{outcome}
-use Rattle.forf_semantics.specs.Setup.{Lent, verdict, refused, memory_slots, runs, printed}
+use Rattle.forf_semantics.specs.Setup.{Lent, verdict, refused, memory_slots, printed}
 use Rattle.forf_runner.specs.Promise.{Runs, AnswerIs, lent_of, the_run}
 use Rattle.forf_runner.specs.declared.Answer.{Answer}
 use Rattle.forf_runner.specs.declared.Answer.TheVariants.{Refused, MemorySlots, Ran}
-use Rattle.forf_runner.specs.declared.Report.{Report}
 use Rattle.forf.specs.Telling.{sizes, printed_text, told, Within}
 
 length_within : (t l : List ℕ) → length t ≤ length (pasted 0 t l)
@@ -32,7 +30,7 @@ read_pasted : (t l : List ℕ) → take (length t) (pasted 0 t l) ≡ t
 unfolding pasted
 read_pasted t l = take_at (take 0 l ++ t) (drop (0 + length t) l) (length t) refl
 
-read_back : {t l l' : List ℕ} {n : ℕ} → Written 0 t l l' n → take n l' ≡ t
+pub read_back : {t l l' : List ℕ} {n : ℕ} → Written 0 t l l' n → take n l' ≡ t
 read_back {t} {l} w = rw (w.end, w.bytes, zero-add) (read_pasted t l)
 
 -- ---- the definition's text

@@ -2,15 +2,16 @@
 // bytes, the lowest first (fuel; the words of stack, execution stack, dictionary and cells; the bytes of log, outcome and script), and then the script.
 #![tactic(auto)]
 
-ghost use Rattle.std.specs.Prelude.{◌≤◌, ◌<◌};
+ghost use Rattle.std.specs.Prelude.{◌≤◌, ◌<◌, IfOk};
 ghost use Rattle.run_list.specs.Heads.{Fits, Within};
 
-use libc::{STDIN_FILENO, STDOUT_FILENO};
 use runner::Answer;
 use semantics::{
     CELL_WIDTH, CELLS_MOST, DICTIONARY_MOST, DICTIONARY_WIDTH, EXEC_MOST, EXEC_WIDTH, HEAD_ROOM,
     ITEM_ROOM, LOG_MOST, SCRIPT_MOST, STACK_MOST, STACK_WIDTH,
 };
+use std::io;
+use std::io::{Read, Write};
 
 // One more than setup accepts of each, where a case asks for that.
 const SCRIPT: usize = SCRIPT_MOST + 1;
@@ -26,10 +27,6 @@ const CELLS: usize = CELL_WIDTH * (CELLS_MOST + 1);
 const LOG: usize = LOG_MOST + 1;
 
 const OUTCOME: usize = HEAD_ROOM + ITEM_ROOM * STACK_MOST;
-
-fn say(bytes: &[u8]) {
-    io::write_all(STDOUT_FILENO, bytes);
-}
 
 fn wide(b: u8) -> u32
     ensures { result ≤ 255 }
@@ -74,48 +71,57 @@ struct Head {
     script: usize,
 }
 
-fn read_head() -> Head
-    ensures { Fits result }
+fn read_head<R: Read>(from: &mut R) -> io::Result<Head>
+    ensures { IfOk result Fits }
 {
     let mut head = [0u8; 32];
-    let got = io::read_full(STDIN_FILENO, &mut head);
+    let got = input::read_full(from, &mut head)?;
+    Ok(head_of(&head, got))
+}
+
+// What the bytes say, of which so many were there.
+fn head_of(head: &[u8; 32], got: usize) -> Head
+    ensures { Fits result }
+{
     Head {
         more: 32 <= got,
-        fuel: number(&head, 0),
-        stack: size(&head, 1, STACK),
-        exec: size(&head, 2, EXECUTION),
-        dict: size(&head, 3, DICTIONARY),
-        cells: size(&head, 4, CELLS),
-        log: size(&head, 5, LOG),
-        outcome: size(&head, 6, OUTCOME),
-        script: size(&head, 7, SCRIPT),
+        fuel: number(head, 0),
+        stack: size(head, 1, STACK),
+        exec: size(head, 2, EXECUTION),
+        dict: size(head, 3, DICTIONARY),
+        cells: size(head, 4, CELLS),
+        log: size(head, 5, LOG),
+        outcome: size(head, 6, OUTCOME),
+        script: size(head, 7, SCRIPT),
     }
 }
 
-fn say_refusal(refusal: u32) {
-    say(b"refused=");
-    io::print_decimal(STDOUT_FILENO, refusal as u64);
-    say(b"\n");
+fn say_refusal<W: Write>(to: &mut W, refusal: u32) -> io::Result<()> {
+    let mut line = [0u8; 32];
+    let end = text::write_number(&mut line, 0, b"refused", refusal);
+    to.write_all(&line[..end])
 }
 
-fn say_start(text: &[u8], n: usize) {
+fn say_start<W: Write>(to: &mut W, text: &[u8], n: usize) -> io::Result<()> {
     if n <= text.len() {
-        say(&text[..n]);
+        return to.write_all(&text[..n]);
     }
+    Ok(())
 }
 
-fn say_answer(answer: Answer, log: &[u8], outcome: &[u8]) {
+fn say_answer<W: Write>(to: &mut W, answer: Answer, log: &[u8], outcome: &[u8]) -> io::Result<()> {
     match answer {
-        Answer::Refused(refusal) => say_refusal(refusal),
+        Answer::Refused(refusal) => say_refusal(to, refusal)?,
         Answer::Ran(report) => {
-            say_start(log, report.log);
-            say_start(outcome, report.outcome);
+            say_start(to, log, report.log)?;
+            say_start(to, outcome, report.outcome)?;
         }
     }
-    say(b"----\n");
+    to.write_all(b"----\n")
 }
 
-fn run_case(
+fn run_case<W: Write>(
+    to: &mut W,
     script: &[u8],
     head: Head,
     stack: &mut [u32],
@@ -124,7 +130,7 @@ fn run_case(
     cells: &mut [u32],
     log: &mut [u8],
     outcome: &mut [u8],
-)
+) -> io::Result<()>
     requires { Within head stack.old exec.old dict.old cells.old log.old outcome.old }
 {
     let a = head.stack;
@@ -143,11 +149,11 @@ fn run_case(
         &mut log[..e],
         &mut outcome[..f],
     );
-    say_answer(answer, log, outcome);
+    say_answer(to, answer, log, outcome)
 }
 
 // What lies in the buffers before a run is of no account, so they are full.
-fn run_full(script: &[u8], head: Head)
+fn run_full<W: Write>(to: &mut W, script: &[u8], head: Head) -> io::Result<()>
     requires { Fits head }
 {
     let mut stack = [0xFFFF_FFFFu32; STACK];
@@ -157,6 +163,7 @@ fn run_full(script: &[u8], head: Head)
     let mut log = [0xFFu8; LOG];
     let mut outcome = [0xFFu8; OUTCOME];
     run_case(
+        to,
         script,
         head,
         &mut stack,
@@ -165,42 +172,48 @@ fn run_full(script: &[u8], head: Head)
         &mut cells,
         &mut log,
         &mut outcome,
-    );
+    )
 }
 
 // A script of so many bytes, if there are so many.
-fn run_read(script: &mut [u8], head: Head) -> bool
+fn run_read<R: Read, W: Write>(
+    from: &mut R,
+    to: &mut W,
+    script: &mut [u8],
+    head: Head,
+) -> io::Result<bool>
     requires { Fits head }
 {
-    if io::read_full(STDIN_FILENO, script) < script.len() {
-        return false;
+    if input::read_full(from, script)? < script.len() {
+        return Ok(false);
     }
-    run_full(script, head);
-    true
+    run_full(to, script, head)?;
+    Ok(true)
 }
 
 // The next case, if there is one.
-fn run_next(script: &mut [u8]) -> bool {
-    let head = read_head();
+fn run_next<R: Read, W: Write>(from: &mut R, to: &mut W, script: &mut [u8]) -> io::Result<bool> {
+    let head = read_head(from)?;
     let n = head.script;
     if !head.more {
-        return false;
+        return Ok(false);
     }
     if script.len() < n {
-        return false;
+        return Ok(false);
     }
-    run_read(&mut script[..n], head)
+    run_read(from, to, &mut script[..n], head)
 }
 
 // Nothing says that the input ends, so the turns are counted.
-fn run_all(script: &mut [u8]) {
+fn run_all<R: Read, W: Write>(from: &mut R, to: &mut W, script: &mut [u8]) -> io::Result<()> {
     let mut left: u32 = 100_000;
-    while 0 < left && run_next(script) {
+    while 0 < left && run_next(from, to, script)? {
         left -= 1;
     }
+    Ok(())
 }
 
-fn main() {
+fn main(rt: HostRuntime) -> io::Result<()> {
     let mut script = [0u8; SCRIPT];
-    run_all(&mut script);
+    run_all(&mut rt.stdin(), &mut rt.stdout(), &mut script)
 }

@@ -6,16 +6,15 @@ use mathlib.Core.List.{List, [], ◌∷◌, ◌++◌}
 use Prim.Native.Nat.{ℕ, suc, ◌+◌, ◌-◌, ◌≤◌, ◌<◌}
 use native.Mathlib.Omega.{arith}
 use lib.ListN.{length, drop}
-use Rattle.semantics.specs.Sizes.{script_most, fuel_most}
+use Rattle.semantics.specs.Sizes.{script_most}
 use Rattle.semantics.specs.Machine as Floo
 use Rattle.semantics.specs.Steps as steps
 use Rattle.semantics.specs.Steps.{run, finish, is_finished}
-use Rattle.semantics.proofs.RunLaws as laws
+use Rattle.semantics.specs.RunLaws.{Stepped as SteppedBy}
 use Rattle.semantics.specs.RunLaws.{went}
 use Rattle.semantics.proofs.RunLaws.{step_stepped}
 use Rattle.semantics.specs.declared.Error.{Error}
 use Rattle.semantics.specs.declared.Fault.{Fault}
-use Rattle.heap.specs.Shape.{cells}
 use Rattle.ending.specs.Endings.{ending_of, IsEnding, after_of}
 use Rattle.ending.specs.declared.Command.{Command}
 use Rattle.ending.specs.declared.Ending.{Ending}
@@ -39,7 +38,7 @@ use Rattle.step.proofs.Moving.{settled, may_hand}
 use Rattle.step.specs.declared.State.{State}
 use Rattle.step.specs.declared.Stepped.{Stepped}
 use Rattle.step.specs.declared.Stepped.TheVariants.{Goes, Fails, Misreads}
-use Rattle.run_loop.specs.History.{Moment, moment, limits_of, left_by, Leads, Chain, start, then, Exactly, Begun, EndsFrom, Ends}
+use Rattle.run_loop.specs.History.{Moment, moment, left_by, Leads, start, then, Exactly, Begun, EndsFrom, Ends}
 use Rattle.run_loop.specs.Halting.{RunningFrom, Running, Fell, HaltsAs, MayHalt, Halts}
 
 -- ---- one moment
@@ -280,9 +279,9 @@ module _ {script : List ℕ} {fuel : ℕ} {st₀ : State} {s₀ e₀ d₀ c₀ l
             }
 
         counted : τ.steps ≡ suc st.steps
-        counted = by (subst (laws.Stepped (state_of st G.machine)) goes_is (step_stepped (lent s₀ e₀ d₀ c₀ l₀) script (state_of st G.machine)))
+        counted = by (subst (SteppedBy (state_of st G.machine)) goes_is (step_stepped (lent s₀ e₀ d₀ c₀ l₀) script (state_of st G.machine)))
           where
-            by : laws.Stepped (state_of st G.machine) (steps.goes (state_of τ new)) → τ.steps ≡ suc st.steps
+            by : SteppedBy (state_of st G.machine) (steps.goes (state_of τ new)) → τ.steps ≡ suc st.steps
             by (went h) = h
 
         from_on : τ.machine.stopped ≡ false → RunningFrom script fuel μ₀ (moment st₀ s₀ e₀ d₀ c₀ l₀) (moment τ s' e' d' c' l') (left - 1)

@@ -1,14 +1,13 @@
 -- The start, the steps and the outcome, one after another, are the definition's run.
 -- Assumes nothing.
 use mathlib.Core.Path.{◌≡◌, refl, sym, ap, ◌∙◌, subst}
-use mathlib.Core.List.{List, [], ◌++◌}
-use Prim.Native.Nat.{ℕ, ◌+◌, ◌-◌, ◌*◌, ◌/◌, ◌≤◌}
+use mathlib.Core.List.{List, ◌++◌}
+use Prim.Native.Nat.{ℕ, ◌+◌, ◌*◌, ◌/◌, ◌≤◌}
 use native.Mathlib.Omega.{arith}
 use lib.ListN.{length, get_or, take, drop, length-drop, take-append-drop}
 use lib.Seq.{length-take-le, get_or-drop, ext_get_or}
 use Rattle.semantics.specs.Sizes.{head_room, item_room}
 use Rattle.semantics.specs.Machine as Floo
-use Rattle.semantics.specs.Steps as steps
 use Rattle.semantics.specs.Steps.{Limits, Run, run, start_of, initial}
 use Rattle.semantics.specs.NameLaws.{name_count_lem}
 use Rattle.semantics.specs.Outcome.{outcome}

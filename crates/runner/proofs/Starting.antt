@@ -1,6 +1,6 @@
 -- What a run from the start of a script has for its first moment: nothing is used yet but the slots of the predefined names, so all else is as it was lent.
 -- Assumes nothing.
-use mathlib.Core.Path.{◌≡◌, refl, ◌∙◌, subst}
+use mathlib.Core.Path.{◌≡◌, subst}
 use mathlib.Core.List.{List}
 use Prim.Native.Nat.{ℕ, ◌*◌}
 use lib.ListN.{drop}

@@ -37,7 +37,7 @@ use Rattle.handover.specs.Handover.{left_of, Passable, handed_over, HandedAs, Ma
 use Rattle.handover.specs.declared.Handed.{Handed}
 use Rattle.handover.specs.declared.Handed.TheVariants as handed
 use Rattle.step.specs.Stepping.{state_of, SteppedAs, TriedAs, LogLeft, Steps, Tries, ended_by, handed_by}
-use Rattle.step.specs.declared.Stepped.TheVariants.{Goes, Fails}
+use Rattle.step.specs.declared.Stepped.TheVariants.{Fails}
 use Rattle.step.specs.declared.State.{State}
 
 -- What is left of a token that could not be read.

@@ -6,7 +6,7 @@ use mathlib.Core.List.{List, []}
 use Prim.Native.Nat.{ℕ, ◌+◌, ◌-◌, ◌≤◌}
 use native.Mathlib.Omega.{arith}
 use lib.ListN.{length, take, drop}
-use Rattle.semantics.specs.Values.{Value, Result, ok, fault, ◌>>=◌, array, Object}
+use Rattle.semantics.specs.Values.{Result, ok, fault, ◌>>=◌, array}
 use Rattle.semantics.specs.Tokens.{Lexing, Token, lex, lexeme}
 use Rattle.semantics.specs.Machine as Floo
 use Rattle.semantics.specs.Machine.{Frame, push, made}
@@ -15,14 +15,12 @@ use Rattle.semantics.specs.Steps as steps
 use Rattle.semantics.specs.Steps.{room_for, unmoved, moved, command_of, is_procedure, treat, token_move, token_step}
 use Rattle.semantics.specs.declared.Fault.{Fault}
 use Rattle.semantics.specs.declared.Fault.TheVariants.{BadBrace}
-use Rattle.heap.specs.Shape.{Ghost}
 use Rattle.ending.specs.Endings.{command_text, IsCommand, after_of}
 use Rattle.ending.specs.declared.Command.{Command}
 use Rattle.ending.specs.declared.Command.TheVariants as command
 use Rattle.machine.specs.Places.{keys}
-use Rattle.machine.specs.Rep.{Rep, Answer, Frames, bottom, frame}
+use Rattle.machine.specs.Rep.{Rep, Answer}
 use Rattle.machine.specs.Room.{lent, fitted, DoesStack}
-use Rattle.machine.specs.declared.Machine.{Machine}
 use Rattle.machine.specs.declared.Did.{Did}
 use Rattle.machine.specs.declared.Did.TheVariants as did
 use Rattle.token.specs.declared.Token as scanned
