@@ -5,9 +5,7 @@ use Prim.Native.Nat.{ℕ}
 use Rattle.floor.specs.declared.Scanned.{Scanned}
 use Rattle.floor_c.specs.Reply.{reply_of, answer_number, refused_number, place_number}
 use Rattle.floor_c.specs.declared.Reply.{Reply}
-use borrow.Author.Rules.{rules}
-use Rattle.floor_c.proofs.reply_of.Statement.{statement}
-use Rattle.floor_c.proofs.reply_of.Tie as tie
+use Rattle.floor_c.proofs.reply_of.Goals as goal
 
 abbrev replied : Scanned → ℕ → ℕ → ℕ → Reply
 replied x a b c =
@@ -24,17 +22,5 @@ replied x a b c =
 replied_so : (x : Scanned) {a b c : ℕ} → a ≡ answer_number x.answer → b ≡ refused_number x.answer → c ≡ place_number x.answer → replied x a b c ≡ reply_of x
 replied_so x p q s = λ i. replied x (p i) (q i) (s i)
 
-answer-number-requires : tie.Need-answer-number-requires
-answer-number-requires c κs = search rules
-
-refused-number-requires : tie.Need-refused-number-requires
-refused-number-requires c κs = search rules
-
-place-number-requires : tie.Need-place-number-requires
-place-number-requires c κs = search rules
-
-returns : tie.Need-returns
-returns c = replied_so c.before.before.before.before.args.scanned c.before.before.answer-number.ensures c.before.refused-number.ensures c.place-number.ensures
-
-pub reply-of-spec : {M : Type 1} → statement M
-reply-of-spec = tie.close (tie.spec answer-number-requires refused-number-requires place-number-requires returns)
+pub returns : goal.returns
+returns c = replied_so c.args.scanned c.answer_number.ensures c.refused_number.ensures c.place_number.ensures
