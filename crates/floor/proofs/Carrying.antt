@@ -3,7 +3,6 @@
 use mathlib.Core.Path.{◌≡◌, refl, sym, ap, ◌∙◌, subst}
 use mathlib.Core.Bool.{Bool, true, false, not}
 use mathlib.Core.List.{List}
-use mathlib.Core.Option.{none}
 use Prim.Native.Nat.{ℕ}
 use lib.ListN.{length}
 use borrow.Author.Tests.{not-true, not-false}
@@ -20,8 +19,8 @@ use Rattle.runner.specs.declared.Proceeded.{Proceeded}
 use Rattle.lending.specs.Lending.{Carries}
 use Rattle.book.specs.Books.{blank}
 use Rattle.book.specs.declared.Record.{Record}
-use Rattle.floor.specs.Floor.{labelled, run_of, entry_from, is_final}
-use Rattle.floor.specs.Promise.{asked, is_finished, read_of, ReadsEntry, Left, CarriesLabel}
+use Rattle.floor.specs.Floor.{labelled, run_of, is_final}
+use Rattle.floor.specs.Promise.{asked, is_finished, ReadsEntry, Left, CarriesLabel}
 use Rattle.floor.specs.declared.Answer.TheVariants.{NotFinished, BadStack}
 use Rattle.floor.specs.declared.Ran.{Ran}
 use Rattle.floor.specs.declared.Read.{Read}

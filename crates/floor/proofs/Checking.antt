@@ -9,7 +9,7 @@ use native.Mathlib.Omega.{arith}
 use lib.ListN.{length}
 use borrow.Author.Tests.{lt-ltb, le-ltb}
 use Rattle.semantics.specs.Sizes.{name_count}
-use Rattle.semantics.specs.Values.{text, cells}
+use Rattle.semantics.specs.Values.{cells}
 use Rattle.semantics.specs.Setup.{limits, refusal}
 use Rattle.floor.specs.Floor.{Asked, label_most, before}
 use Rattle.floor.specs.declared.Answer.TheVariants.{Refused, BookMalformed, LabelTooLong, NoSlot, NoCells}

@@ -1,19 +1,18 @@
 -- The run with the label, with what is lent: nothing is changed where it is refused, and where it is made the words of whole slots are enough for it.
 -- Assumes nothing.
-use mathlib.Core.Path.{◌≡◌, refl, sym, ap, ◌∙◌, subst}
+use mathlib.Core.Path.{◌≡◌, refl, sym, ap, subst}
 use mathlib.Core.Bool.{Bool, true, false, not, cond}
 use mathlib.Core.List.{List, ◌++◌}
 use mathlib.Core.Option.{Option, none, some}
-use Prim.Native.Nat.{ℕ, ◌+◌, ◌*◌, ◌/◌, ◌≤◌, ◌<◌}
+use Prim.Native.Nat.{ℕ, ◌+◌, ◌*◌, ◌/◌, ◌≤◌}
 use native.Mathlib.Omega.{arith}
 use lib.ListN.{length}
 use lib.Seq.{length-take-le}
-use lib.Dec.{T, ltb}
+use lib.Dec.{ltb}
 use borrow.Author.Tests.{ltb-false, not-false}
 use Rattle.semantics.specs.Sizes.{name_count}
 use Rattle.semantics.specs.Text.{bytes, textual, same}
-use Rattle.semantics.specs.Values.{text, cells}
-use Rattle.semantics.specs.Machine.{Slot}
+use Rattle.semantics.specs.Values.{cells}
 use Rattle.semantics.specs.Operators.{table, ◌is◌}
 use Rattle.semantics.specs.Steps.{Limits, Run, run, slot, predefined, initial}
 use Rattle.semantics.specs.Setup.{limits, refusal}
@@ -23,10 +22,8 @@ use Rattle.runner.specs.Promise.{lent_of, whole, past}
 use Rattle.runner.proofs.Answering.{ready, room_same, whole_run}
 use Rattle.lending.specs.Lending as lending
 use Rattle.floor.specs.Floor.{Asked, label_most, before, labelled, run_of}
-use Rattle.floor.specs.Promise.{asked, Nothing, RunOrNone, before_of, Left, CarriesLabel, LeftOrNone, Labelled}
+use Rattle.floor.specs.Promise.{asked, Nothing, RunOrNone, Left, CarriesLabel, LeftOrNone, Labelled}
 use Rattle.floor.specs.declared.Answer.{Answer}
-use Rattle.floor.specs.declared.Before.{Before}
-use Rattle.floor.specs.declared.Before.TheVariants.{Go, Stop}
 use Rattle.floor.specs.declared.Ran.{Ran}
 
 -- ---- refused

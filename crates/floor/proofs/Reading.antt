@@ -23,7 +23,7 @@ use Rattle.elements.proofs.Tags.{item_tag_lem, string_of}
 use Rattle.strings.specs.Strings.{CurrentSize, ReadsBytes, HasBytes}
 use Rattle.strings.proofs.Prefixes.{current_few}
 use Rattle.strings.proofs.Reading.{read_all}
-use Rattle.book.specs.Books.{Entry, greatest, is_place_length, record_of}
+use Rattle.book.specs.Books.{greatest, is_place_length, record_of}
 use Rattle.floor.specs.Floor.{number_in, place_in, entry_with, entry_from}
 use Rattle.floor.specs.Promise.{read_of, ReadsEntry}
 use Rattle.floor.specs.declared.Read.{Read}

@@ -2,25 +2,24 @@
 -- words together stand for the start.
 -- Assumes nothing.
 use mathlib.Core.Path.{◌≡◌, refl, sym, ap, ◌∙◌}
-use mathlib.Core.List.{List, [], ◌∷◌, ◌++◌}
-use Prim.Native.Nat.{ℕ, suc, ◌+◌, ◌*◌, ◌/◌, ◌≤◌, ◌<◌}
+use mathlib.Core.List.{List, ◌++◌}
+use Prim.Native.Nat.{ℕ, ◌+◌, ◌*◌, ◌≤◌}
 use native.Mathlib.Omega.{arith}
-use lib.ListN.{length, get_or, take, drop, length-set, length-append, length-drop, drop_of_length-le, get_or-append}
+use lib.ListN.{length, take, drop, length-set, drop_of_length-le, get_or-append}
 use lib.Seq.{length-take-le, get_or-take, drop_at, length_front}
 use Rattle.semantics.specs.Sizes.{name_count, name_words, stack_words_most}
-use Rattle.semantics.specs.Values.{Value, string, text}
+use Rattle.semantics.specs.Values.{Value, string}
 use Rattle.semantics.specs.Machine as Floo
 use Rattle.semantics.specs.Machine.{Slot, with_dictionary, with_store, make, made, assign, slotted}
 use Rattle.semantics.specs.Held.{held_cells, held, sum_of, pruned, prune, below}
-use Rattle.semantics.specs.Steps.{predefined, initial, lending}
+use Rattle.semantics.specs.Steps.{initial, lending}
 use Rattle.semantics.specs.NameLaws.{name_count_lem}
 use Rattle.store.proofs.Rooming.{lists_room}
 use Rattle.machine.specs.Rep.{Rep, Items, bottom, item}
 use Rattle.machine.specs.declared.Machine.{Machine}
 use Rattle.machine.proofs.Items.{items_length}
 use Rattle.machine.proofs.Rooted.{rooted}
-use Rattle.elements.specs.Elements.{free_cells}
-use Rattle.dictionary.specs.Names.{slot_of, Kept}
+use Rattle.dictionary.specs.Names.{slot_of}
 use Rattle.dictionary.proofs.Adding.{kept_rep}
 use Rattle.semantics.specs.SlotLaws.{assign_sits}
 use Rattle.dictionary.proofs.Lookups.{found, slotted_missing, slotted_has}
@@ -30,7 +29,7 @@ use Rattle.runner.specs.Promise as runner
 use Rattle.runner.specs.Promise.{MayProceed, Proceeds}
 use Rattle.runner.specs.declared.Proceeded.{Proceeded}
 use Rattle.runner.proofs.Carrying.{begun, starts, carried, ends_so, same_from}
-use Rattle.lending.specs.Lending.{MayLend, Lends, lent_start, Ready, Carries}
+use Rattle.lending.specs.Lending.{MayLend, Lends, Ready, Carries}
 use Rattle.lending.proofs.Making.{assign_slotted}
 
 -- ---- on words

@@ -5,15 +5,16 @@ use Rattle.store.specs.Rep.{titles}
 use Rattle.semantics.specs.Operators.{table, ◌is◌}
 use native.Mathlib.Omega.{arith}
 use mathlib.Core.Path.{refl}
+use borrow.Author.Rules.{rules}
 use Rattle.operators.proofs.endings.Goals as goal
 
 pub returns-in-33 : goal.returns-in-33
 unfolding titles table ◌is◌
-returns-in-33 c = cells_named _ _ c.in-33.is refl c.exit.ensures
+returns-in-33 c = cells_named _ _ c.in-33.is refl (search rules)
 
 pub returns-in-34 : goal.returns-in-34
 unfolding titles table ◌is◌
-returns-in-34 c = cells_named _ _ c.in-34.is refl c.continue_.ensures
+returns-in-34 c = cells_named _ _ c.in-34.is refl (search rules)
 
 pub returns-in_default : goal.returns-in_default
 unfolding titles table ◌is◌
