@@ -1,11 +1,11 @@
--- The start of a buffer is lent and comes back with its length: the buffer keeps its own.
--- Assumes nothing.
-use Prim.Native.Nat.{ℕ, ◌≤◌}
-use mathlib.Core.Path.{◌≡◌}
-use mathlib.Core.List.{List, ◌++◌}
-use lib.ListN.{length, take, drop, length-append, length-drop}
-use lib.Seq.{length-take-le}
-use native.Mathlib.Omega.{arith}
+-- What was written from a buffer's start lies within the buffer.
+use Rattle.std.proofs.Common.{◌≤◌, ◌+◌, ℕ, List, ◌++◌, length, take, drop, length-append, ap, arith}
+use Rattle.semantics.specs.ObjectOperators.{pasted}
+use Rattle.text.specs.Writing.{Written}
 
-pub given_back : (n : ℕ) (l p : List ℕ) → n ≤ length l → length p ≡ length (take n l) → length (p ++ drop n l) ≡ length l
-given_back n l p h e = omega (arith, e, h, length-append p (drop n l), length-drop n l, length-take-le n l h)
+length_within : (t l : List ℕ) → length t ≤ length (pasted 0 t l)
+unfolding pasted
+length_within t l = omega (arith, length-append (take 0 l ++ t) (drop (0 + length t) l), length-append (take 0 l) t)
+
+pub within : {t l l' : List ℕ} {n : ℕ} → Written 0 t l l' n → n ≤ length l'
+within {t} {l} w = omega (arith, w.end, ap (λ (x : List ℕ). length x) w.bytes, length_within t l)
