@@ -8,8 +8,8 @@ use native.Mathlib.Omega.{arith}
 use lib.ListN.{length, set}
 use Rattle.book.specs.Books.{room_of, place_of}
 use Rattle.book.specs.Fates.{fate_in, is_replacing, is_adding, book_with, book_after, count_after, Enters}
-use Rattle.book.specs.SoundLaws.{room_within}
-use Rattle.book.specs.BookLaws.{replaces_fate, adds_fate}
+use Rattle.book.proofs.SoundLaws.{room_within}
+use Rattle.book.proofs.BookLaws.{replaces_fate, adds_fate}
 use Rattle.book.specs.declared.Record.{Record}
 use Rattle.book.specs.declared.Entered.{Entered}
 use Rattle.book.specs.declared.Fate.{Fate}

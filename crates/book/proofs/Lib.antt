@@ -1,2 +1,5 @@
 mod Finding
 mod Entering
+pub mod SearchLaws
+pub mod SoundLaws
+pub mod BookLaws

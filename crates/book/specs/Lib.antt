@@ -1,6 +1,5 @@
 pub mod Books
 pub mod Fates
 pub mod SearchLaws
-pub mod SoundLaws
 pub mod BookLaws
 pub mod Examples

@@ -15,7 +15,8 @@ use Rattle.semantics.specs.Steps.{Run}
 use Rattle.semantics.specs.Setup.{limits, refusal}
 use Rattle.book.specs.Books.{Entry, IsEntry, greatest, is_place_length, is_sound, record_of, place_of, said}
 use Rattle.book.specs.Fates.{fate_in, Accepted, replaces, adds}
-use Rattle.book.specs.BookLaws.{book_then, count_then, sound_after, order_free}
+use Rattle.book.specs.BookLaws.{book_then, count_then}
+use Rattle.book.proofs.BookLaws.{sound_after, order_free}
 use Rattle.book.specs.declared.Record.{Record}
 use Rattle.book.specs.declared.Fate.{Fate}
 use Rattle.book.specs.declared.Fate.TheVariants as fate

@@ -9,7 +9,7 @@ use lib.ListN.{length}
 use lib.Dec.{T}
 use Rattle.book.specs.Books.{Entry, room_of, is_sound, record_of, place_of}
 use Rattle.book.specs.Fates.{fate_in, book_after, count_after, Enters}
-use Rattle.book.specs.SoundLaws.{sound_count}
+use Rattle.book.proofs.SoundLaws.{sound_count}
 use Rattle.book.specs.declared.Record.{Record}
 use Rattle.book.specs.declared.Entered.{Entered}
 use Rattle.book.specs.declared.Fate.{Fate}

@@ -13,8 +13,9 @@ use Rattle.semantics.specs.TextLaws.{decimal_length}
 use Rattle.semantics.specs.ResultLaws.{choose_cond}
 use Rattle.semantics.specs.ListLaws.{All, nil, cons, all_take}
 use Rattle.book.specs.Books.{Entry, IsEntry, greatest, entry_of, record_of, room_of, is_place_length, are_in_range, in_range, all_in_range, once, is_sound}
-use Rattle.book.specs.SoundLaws.{room_within, sound_count}
-use Rattle.book.specs.BookLaws.{record_entry, entry_range}
+use Rattle.book.proofs.SoundLaws.{room_within, sound_count}
+use Rattle.book.proofs.BookLaws.{record_entry}
+use Rattle.book.proofs.BookLaws.{entry_range}
 use Rattle.book.specs.declared.Record.{Record}
 use Rattle.ledger.specs.Ledger.{needs_quotes, doubled, in_quotes, field, line, lines, header, ledger_text, entries_of, Writing, malformed, too_short, written, written_in, writing}
 use Rattle.ledger.specs.Reading.{accepted, numbers_of, reading, replaced}

@@ -7,7 +7,7 @@ use native.Mathlib.Omega.{arith}
 use lib.ListN.{length, take, drop, set, length-set, take-append-drop}
 use lib.Seq.{take-suc-set, drop-set-lt}
 use Rattle.book.specs.Books.{Entry, record_of, room_of}
-use Rattle.book.specs.SoundLaws.{room_within}
+use Rattle.book.proofs.SoundLaws.{room_within}
 use Rattle.book.specs.declared.Record.{Record}
 use Rattle.ledger.specs.Reading.{reading, replaced}
 use Rattle.ledger.proofs.SoundLaws.{accepted_sound}

@@ -13,7 +13,7 @@ use borrow.Author.Tests.{eq-eqb, ne_eqb}
 use Rattle.semantics.specs.ListLaws.{none_some, some_one}
 use Rattle.book.specs.Books.{Entry, record_of, is_place_length, is_in, once}
 use Rattle.book.specs.declared.Record.{Record}
-use Rattle.book.specs.SoundLaws.{in_snoc, eqb_sym}
+use Rattle.book.proofs.SoundLaws.{in_snoc, eqb_sym}
 use Rattle.ledger.specs.Reading.{mapped, each, Row, row_of, entry_in, places_fit, numbers_of}
 use Rattle.ledger.specs.Stages.{Ranked, uneven, unnumbered, unplaced, good}
 use Rattle.ledger_reader.specs.declared.Line.{Line}

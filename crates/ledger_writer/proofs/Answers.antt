@@ -10,7 +10,7 @@ use lib.Dec.{leb}
 use borrow.Author.Tests.{leb-true}
 use Rattle.semantics.specs.ObjectOperators.{pasted}
 use Rattle.book.specs.Books.{is_sound}
-use Rattle.book.specs.SoundLaws.{each_sound}
+use Rattle.book.proofs.SoundLaws.{each_sound}
 use Rattle.book.specs.declared.Record.{Record}
 use Rattle.ledger.specs.Ledger.{ledger_text, entries_of, Writing, malformed, too_short, written, written_in, writing}
 use Rattle.ledger_writer.specs.declared.Written.{Written}

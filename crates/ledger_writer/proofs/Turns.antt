@@ -10,7 +10,7 @@ use lib.Seq.{take-suc}
 use lib.Dec.{leb}
 use Rattle.semantics.specs.Text.{textual, decimal}
 use Rattle.book.specs.Books.{Entry, entry_of, blank, greatest, is_place_length, are_in_range, in_range, is_sound}
-use Rattle.book.specs.SoundLaws.{room_within, sound_count, sound_each, at_sound}
+use Rattle.book.proofs.SoundLaws.{room_within, sound_count, sound_each, at_sound}
 use Rattle.book.specs.declared.Record.{Record}
 use Rattle.ledger.specs.Ledger.{field, line, lines, header, ledger_text, entries_of}
 use Rattle.ledger.proofs.SoundLaws.{place_range}

@@ -1,6 +1,6 @@
 -- `is_sound` meets its contract: a count past the room, a place that is not sound, or every place is (SoundLaws).
 use Rattle.std.proofs.Common.{◌∙◌, sym, arith, length}
-use Rattle.book.specs.SoundLaws.{room_within, each_sound, past_room, one_bad}
+use Rattle.book.proofs.SoundLaws.{room_within, each_sound, past_room, one_bad}
 use Rattle.book.proofs.is_sound.Goals as goal
 
 pub returns-then-room_of-count : goal.returns-then-room_of-count

@@ -1,7 +1,7 @@
 -- Every record before the place is sound.
 use Rattle.std.proofs.Common.{◌-◌, ◌≡◌, true, ◌≤◌, ◌<◌, ℕ, length}
 use Rattle.book.specs.Books.{room_of}
-use Rattle.book.specs.SoundLaws.{sound_at}
+use Rattle.book.proofs.SoundLaws.{sound_at}
 use Rattle.book.proofs.is_sound.Given as goal
 
 abbrev pub invariant-loop-i : goal.invariant-loop-i

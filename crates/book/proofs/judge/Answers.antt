@@ -1,6 +1,6 @@
 -- `judge` meets its contract: what was found, and its stored time, give the fate.
 use Rattle.std.proofs.Common.{◌≡◌, ◌∙◌, refl, ap, arith, length, get_or, ltb, cond, ℕ, Bool, true, false, List}
-use Rattle.book.specs.SoundLaws.{room_within}
+use Rattle.book.proofs.SoundLaws.{room_within}
 use Rattle.book.specs.Books.{blank, room_of, place_of, found_from}
 use Rattle.book.specs.Fates.{fate_of, fate_in}
 use Rattle.book.specs.declared.Record.{Record}

@@ -10,7 +10,8 @@ use Rattle.std.proofs.Math.ListN.{get_or-map}
 use Rattle.std.proofs.Math.Dec.{nleb→lt}
 use Rattle.std.proofs.lemmas.Bool.{lt-leb, eqb-false}
 use Rattle.book.specs.Books.{blank, room_of, in_range, all_in_range, is_in, once, is_sound, place_of}
-use Rattle.book.specs.SearchLaws.{number_at, Place, place_finds, place_is}
+use Rattle.book.specs.SearchLaws.{number_at, Place}
+use Rattle.book.proofs.SearchLaws.{place_finds, place_is}
 use Rattle.book.specs.declared.Record.{Record}
 
 -- ---- the room
