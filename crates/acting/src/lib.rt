@@ -30,6 +30,8 @@ enum Next {
 
 // The topmost slot acts.
 // Ruled out: a slot that acts twice; an operator's operands gone where it fails.
+// In the loop of steps a call of its own would cost more than most operators.
+#[inline(always)]
 pub fn act(
     m: Machine,
     stack: &mut [u32],

@@ -33,6 +33,8 @@ pub enum Stepped {
 impl State {
     // The topmost execution slot acts.
     // Ruled out: a failing step that is not counted; the offset moved.
+    // The loop of steps calls it at each step.
+    #[inline(always)]
     pub fn resume(
         self,
         stack: &mut [u32],
