@@ -4,5 +4,5 @@
 set -euo pipefail
 cd "$(dirname "${BASH_SOURCE[0]}")/.."
 embed/libraries.sh
-rt check floo
+rt run floo > /dev/null
 exec cargo run --quiet --release --manifest-path bench/Cargo.toml -- "$@"

@@ -190,7 +190,7 @@ fn start() -> io::Result<f64> {
     let path = program("start");
     let own = timing::seconds(|| {
         let script = fs::File::open(&path).expect("the script is there");
-        process(Command::new(root().join("target/bin/floo")).stdin(script));
+        process(Command::new(root().join("crates/floo/out/floo")).stdin(script));
     });
     let other = timing::seconds(|| {
         process(ghostscript::batch().args(["-c", "/#FLOO { } def", "-f"]).arg(&path));
