@@ -1,4 +1,4 @@
-/* The proved runner for Forf, the language of the shelf displays. The library is libforf_c.a, which `rt staticlib forf_c` builds in target/staticlib; link it
+/* The proved runner for Forf, the language of the shelf displays. The library is libforf_c.a, which embed/libraries.sh builds in target/staticlib; link it
    with `cc program.c libforf_c.a`. The functions never allocate and keep nothing: the memory of 32 integers is the caller's, and kept between runs by lending it again. */
 #ifndef FORF_H
 #define FORF_H
