@@ -46,7 +46,7 @@ pub slice_bounds-carry_out-end-8 : goal.slice_bounds-carry_out-end-8
 slice_bounds-carry_out-end-8 c = sym (length-take-le _ c.args.cells.now (omega arith))
 
 pub carry_out-report-requires : goal.carry_out-report-requires
-carry_out-report-requires c = ready c.args.script.now c.args.fuel c.args.stack.now c.args.exec.now c.args.dict.now c.args.cells.now c.args.log.now c.args.outcome.now c.refusal-number.ensures (λ l. omega (arith, c.if-number-gt0.false, l))
+carry_out-report-requires c = ready c.args.script.now c.args.fuel c.args.stack.now c.args.exec.now c.args.dict.now c.args.cells.now c.args.log.now c.args.outcome.now c.refusal-number.ensures (λ l. omega (arith, l))
 
 pub shape_of-log : goal.shape_of-log
 shape_of-log c = c.carry_out-report.auto.log
@@ -55,4 +55,4 @@ pub shape_of-outcome : goal.shape_of-outcome
 shape_of-outcome c = c.carry_out-report.auto.outcome
 
 pub returns : goal.returns
-returns c = answered c.args.script.now c.args.fuel c.args.stack.now c.args.exec.now c.args.dict.now c.args.cells.now c.args.log.now c.args.outcome.now c.refusal-number.ensures (λ l. omega (arith, c.if-number-gt0.false, l)) c.carry_out-report.auto.stack c.carry_out-report.auto.exec c.carry_out-report.auto.dict c.carry_out-report.auto.cells c.carry_out-report.ensures
+returns c = answered c.args.script.now c.args.fuel c.args.stack.now c.args.exec.now c.args.dict.now c.args.cells.now c.args.log.now c.args.outcome.now c.refusal-number.ensures (λ l. omega (arith, l)) c.carry_out-report.auto.stack c.carry_out-report.auto.exec c.carry_out-report.auto.dict c.carry_out-report.auto.cells c.carry_out-report.ensures

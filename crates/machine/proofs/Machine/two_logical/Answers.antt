@@ -3,7 +3,6 @@
 use Rattle.machine.proofs.Logicals.{connective_under, connective_apart, connective_neither, two_truths}
 use Rattle.machine.proofs.Operands.{two_got}
 use Prim.Native.Nat.{◌-◌}
-use mathlib.Core.Path.{◌∙◌}
 use native.Mathlib.Omega.{arith}
 use borrow.Author.Rules.{rules}
 use Rattle.machine.proofs.Machine.two_logical.Goals as goal
@@ -15,10 +14,10 @@ pub returns-then-stack-j : goal.returns-then-stack-j
 returns-then-stack-j c = record { fetches_two_logical = record { says = λ e d k l μ R. connective_apart R _ _ (omega (arith, c.if-n-lt2.false)) (omega (arith, c.if-n-lt2.false)) c.if-stack-j.true }; result_bound = search rules }
 
 pub returns-then-tag-eq-TAG_INTEGER : goal.returns-then-tag-eq-TAG_INTEGER
-returns-then-tag-eq-TAG_INTEGER c = record { fetches_two_logical = record { says = λ e d k l μ R. two_got R _ _ (omega (arith, c.if-n-lt2.false)) (omega (arith, c.if-n-lt2.false)) c.if-tag-eq-TAG_INTEGER.true (c.if-stack-j.false ∙ c.if-tag-eq-TAG_INTEGER.true) }; result_bound = omega (arith, c.if-n-lt2.false) }
+returns-then-tag-eq-TAG_INTEGER c = record { fetches_two_logical = record { says = λ e d k l μ R. two_got R _ _ (omega (arith, c.if-n-lt2.false)) (omega (arith, c.if-n-lt2.false)) c.if-tag-eq-TAG_INTEGER.true (omega arith) }; result_bound = omega (arith, c.if-n-lt2.false) }
 
 pub returns-then-tag-eq-TAG_BOOLEAN : goal.returns-then-tag-eq-TAG_BOOLEAN
-returns-then-tag-eq-TAG_BOOLEAN c = record { fetches_two_logical = record { says = λ e d k l μ R. two_truths R _ _ (omega (arith, c.if-n-lt2.false)) (omega (arith, c.if-n-lt2.false)) c.if-tag-eq-TAG_BOOLEAN.true (c.if-stack-j.false ∙ c.if-tag-eq-TAG_BOOLEAN.true) }; result_bound = omega (arith, c.if-n-lt2.false) }
+returns-then-tag-eq-TAG_BOOLEAN c = record { fetches_two_logical = record { says = λ e d k l μ R. two_truths R _ _ (omega (arith, c.if-n-lt2.false)) (omega (arith, c.if-n-lt2.false)) c.if-tag-eq-TAG_BOOLEAN.true (omega arith) }; result_bound = omega (arith, c.if-n-lt2.false) }
 
 pub returns : goal.returns
 returns c = record { fetches_two_logical = record { says = λ e d k l μ R. connective_neither R _ (c.args.self.depth - 1) (omega (arith, c.if-n-lt2.false)) (omega (arith, c.if-n-lt2.false)) c.if-tag-eq-TAG_INTEGER.false c.if-tag-eq-TAG_BOOLEAN.false }; result_bound = search rules }
