@@ -4,5 +4,5 @@
 set -euo pipefail
 cd "$(dirname "${BASH_SOURCE[0]}")/.."
 embed/libraries.sh
-rt run floo > /dev/null
+(cd crates/floo && rt run > /dev/null)
 exec cargo run --quiet --release --manifest-path bench/Cargo.toml -- "$@"
