@@ -15,9 +15,8 @@ ghost use Rattle.acting.specs.Nexts.{NextIs, Infrequent};
 
 use frames::{LOOP, PENDING, REPEAT, RUNNING};
 use machine::{
-    Did, FRAME_CELL, FRAME_LEFT, FRAME_PAYLOAD, FRAME_TAG, Machine, TAG_EXECUTABLE, TAG_OPERATOR,
-    TAG_PROCEDURE,
-};
+    FRAME_CELL, FRAME_LEFT, FRAME_PAYLOAD, FRAME_TAG, Machine, TAG_EXECUTABLE, TAG_OPERATOR,
+    TAG_PROCEDURE};
 use operators::RARE;
 use semantics::EXEC_WIDTH;
 
@@ -39,7 +38,7 @@ pub fn act(
     dict: &mut [u32],
     cells: &mut [u32],
     log: &mut [u8],
-) -> Did
+) -> Result<Machine, Error>
     requires { (1 ≤ m.frames) × Everywhere m stack.old exec.old dict.old cells.old log.old }
     ensures { DoesAll resumed m stack.old stack.new exec.old exec.new dict.old dict.new cells.old cells.new log.old log.new result }
 {
@@ -50,11 +49,11 @@ pub fn act(
     match next_frequent(m, exec, cells) {
         Next::Frequent(number, after) => {
             match operators::frequent(number, after, stack, exec, dict, cells) {
-                Did::Ok(r) => Did::Ok(r),
+                Ok(r) => Ok(r),
                 // a procedure that has moved on is put back
-                Did::Fail(e) => {
+                Err(e) => {
                     frames::reset_top(m, exec, kind, c, left);
-                    Did::Fail(e)
+                    Err(e)
                 }
             }
         }
@@ -124,7 +123,7 @@ fn other(
     dict: &mut [u32],
     cells: &mut [u32],
     log: &mut [u8],
-) -> Did
+) -> Result<Machine, Error>
     requires { (1 ≤ m.frames) × Infrequent m exec.old cells.old × Everywhere m stack.old exec.old dict.old cells.old log.old }
     ensures { DoesAll resumed m stack.old stack.new exec.old exec.new dict.old dict.new cells.old cells.new log.old log.new result }
 {
@@ -147,7 +146,7 @@ fn pending(
     dict: &mut [u32],
     cells: &mut [u32],
     log: &mut [u8],
-) -> Did
+) -> Result<Machine, Error>
     requires { (1 ≤ m.frames) × (frame_kind exec.old (m.frames - 1) ≡ 0) × Infrequent m exec.old cells.old × Everywhere m stack.old exec.old dict.old cells.old log.old }
     ensures { DoesAll resumed m stack.old stack.new exec.old exec.new dict.old dict.new cells.old cells.new log.old log.new result }
 {
@@ -168,7 +167,7 @@ fn pending(
 }
 
 // The pending name's binding takes its place.
-fn name_pending(m: Machine, exec: &mut [u32], dict: &[u32], cells: &mut [u32]) -> Did
+fn name_pending(m: Machine, exec: &mut [u32], dict: &[u32], cells: &mut [u32]) -> Result<Machine, Error>
     requires { (1 ≤ m.frames) × (frame_kind exec.old (m.frames - 1) ≡ 0) × (frame_tag exec.old (m.frames - 1) ≡ 6) × Bindings m exec.old dict.now cells.old }
     ensures { DoesBinding resumed m exec.old exec.new dict.now cells.old cells.new result }
 {
@@ -186,7 +185,7 @@ fn running(
     dict: &mut [u32],
     cells: &mut [u32],
     log: &mut [u8],
-) -> Did
+) -> Result<Machine, Error>
     requires { (1 ≤ m.frames) × (frame_kind exec.old (m.frames - 1) ≡ 1) × Infrequent m exec.old cells.old × Everywhere m stack.old exec.old dict.old cells.old log.old }
     ensures { DoesAll resumed m stack.old stack.new exec.old exec.new dict.old dict.new cells.old cells.new log.old log.new result }
 {
@@ -214,7 +213,7 @@ fn perform_element(
     dict: &mut [u32],
     cells: &mut [u32],
     log: &mut [u8],
-) -> Did
+) -> Result<Machine, Error>
     requires { (1 ≤ m.frames) × (frame_kind exec.old (m.frames - 1) ≡ 1) × (1 ≤ frame_left exec.old (m.frames - 1)) × (word cells.old (frame_cell exec.old (m.frames - 1)) 0 ≡ 4) × (42 ≤ word cells.old (frame_cell exec.old (m.frames - 1)) 1) × Everywhere m stack.old exec.old dict.old cells.old log.old }
     ensures { DoesAll resumed m stack.old stack.new exec.old exec.new dict.old dict.new cells.old cells.new log.old log.new result }
 {
@@ -226,16 +225,16 @@ fn perform_element(
     // lent on is a copy, so that the compiler can keep m itself in registers
     let whole = m;
     match operators::rare(number, whole, stack, exec, dict, cells, log) {
-        Did::Ok(r) => Did::Ok(r),
-        Did::Fail(e) => {
+        Ok(r) => Ok(r),
+        Err(e) => {
             frames::reset_top(m, exec, RUNNING, c, left);
-            Did::Fail(e)
+            Err(e)
         }
     }
 }
 
 // The same of an executable name.
-fn name_element(m: Machine, exec: &mut [u32], dict: &[u32], cells: &mut [u32]) -> Did
+fn name_element(m: Machine, exec: &mut [u32], dict: &[u32], cells: &mut [u32]) -> Result<Machine, Error>
     requires { (1 ≤ m.frames) × (frame_kind exec.old (m.frames - 1) ≡ 1) × (1 ≤ frame_left exec.old (m.frames - 1)) × (word cells.old (frame_cell exec.old (m.frames - 1)) 0 ≡ 6) × Bindings m exec.old dict.now cells.old }
     ensures { DoesBinding resumed m exec.old exec.new dict.now cells.old cells.new result }
 {
@@ -245,16 +244,16 @@ fn name_element(m: Machine, exec: &mut [u32], dict: &[u32], cells: &mut [u32]) -
     let slot = heap::get(cells, c, 1);
     frames::advance(m, exec, cells);
     match taking::take_name(m, exec, dict, cells, slot as usize) {
-        Did::Ok(r) => Did::Ok(r),
-        Did::Fail(e) => {
+        Ok(r) => Ok(r),
+        Err(e) => {
             frames::reset_top(m, exec, RUNNING, c, left);
-            Did::Fail(e)
+            Err(e)
         }
     }
 }
 
 // A loop turns.
-fn looping(m: Machine, stack: &mut [u32], exec: &mut [u32], cells: &mut [u32]) -> Did
+fn looping(m: Machine, stack: &mut [u32], exec: &mut [u32], cells: &mut [u32]) -> Result<Machine, Error>
     requires { (1 ≤ m.frames) × (2 ≤ frame_kind exec.old (m.frames - 1)) × SomewhereAll m stack.old exec.old cells.old }
     ensures { DoesFrames resumed m stack.old stack.new exec.old exec.new cells.old cells.new result }
 {

@@ -1,5 +1,6 @@
 -- ]: the search for the topmost mark is the definition's, and the array that takes the mark's place holds the items above it, the lowest first.
 -- Assumes nothing.
+use Rattle.std.specs.Prelude.{Ok, Err}
 use mathlib.Core.Path.{◌≡◌, refl, sym, ap, ◌∙◌, subst}
 use mathlib.Core.Bool.{true, false}
 use mathlib.Core.List.{List, [], ◌∷◌, ◌++◌, reverse, reverse-cons, append-nil}
@@ -19,7 +20,6 @@ use Rattle.semantics.specs.declared.Error.TheVariants.{UnmatchedMark, VmError}
 use Rattle.machine.specs.Rep.{Rep, Somewhere, MovesHeap}
 use Rattle.machine.specs.Room.{DoesHeap}
 use Rattle.machine.specs.declared.Machine.{Machine}
-use Rattle.machine.specs.declared.Did.TheVariants.{Ok, Fail}
 use Rattle.machine.proofs.Outcomes.{stack_depth, fails_heap, then_heap}
 use Rattle.elements.specs.Elements.{named, item_id, free_cells, HasPlain, SomewhereThat, ItemTag, array_made}
 use Rattle.elements.proofs.Vacancy.{makes_heap, full_heap, push_makes}
@@ -88,7 +88,7 @@ above_long : (n : ℕ) (μ : Floo.Machine) → n < length μ.stack → length (a
 above_long n μ h = length-reverse (take n μ.stack) ∙ length-take-le n μ.stack (omega arith)
 
 module _ {m : Machine} {s c : List ℕ} {n : ℕ} (M : MarkAbove m s n) where
-  pub close_unmatched : m.depth ≤ n → DoesHeap (perform (bytes "]")) m s s c c (Fail UnmatchedMark)
+  pub close_unmatched : m.depth ≤ n → DoesHeap (perform (bytes "]")) m s s c c (Err UnmatchedMark)
   unfolding ◌>>=◌
   close_unmatched h =
       fails_heap (λ e d l μ R.
@@ -104,7 +104,7 @@ module _ {m : Machine} {s c : List ℕ} {n : ℕ} (M : MarkAbove m s n) where
         ∙ ap (λ r. r >>= λ p. ok (push_new (array false) (elements p.0) (with_stack p.1 μ))) (found [] μ.stack n (omega (arith, h, stack_depth R)) t.0 (t.1 h))
         ∙ ap (λ (z : List Value). ok (push_new (array false) (elements z) (with_stack (drop (suc n) μ.stack) μ))) (append-nil (above n μ))
 
-    pub close_full : free_cells m c < n + 1 → DoesHeap (perform (bytes "]")) m s s c c (Fail VmError)
+    pub close_full : free_cells m c < n + 1 → DoesHeap (perform (bytes "]")) m s s c c (Err VmError)
     unfolding sum_of cells push_new push with_stack with_store make
     close_full many =
         full_heap (λ e d l μ R.

@@ -13,8 +13,7 @@ ghost use Rattle.array_operators.specs.Items.{FetchesLength, longest, ItemInt, I
 ghost use Rattle.array_operators.specs.Items.{HasFirst, MarkAbove, popped, spread_out, items_put};
 
 use machine::{
-    Did, ITEM_PAYLOAD, Machine, OneInt, TAG_ARRAY, TAG_INTEGER, TAG_MARK, TAG_NULL, TAG_STRING,
-};
+    ITEM_PAYLOAD, Machine, TAG_ARRAY, TAG_INTEGER, TAG_MARK, TAG_NULL, TAG_STRING};
 use semantics::{Error, STACK_WIDTH};
 use word::SIGN;
 
@@ -22,71 +21,71 @@ use word::SIGN;
 const LONGEST: u32 = 32767;
 
 // Ruled out: limitcheck for a negative length, and an array that takes as many cells as it has elements.
-pub fn array(m: Machine, stack: &mut [u32], cells: &mut [u32]) -> Did
+pub fn array(m: Machine, stack: &mut [u32], cells: &mut [u32]) -> Result<Machine, Error>
     requires { Somewhere m stack.old cells.old }
     ensures { DoesHeap (perform (bytes "array")) m stack.old stack.new cells.old cells.new result }
 {
     match new_length(m, stack) {
-        OneInt::Bad(e) => Did::Fail(e),
-        OneInt::Got(n) => {
+        Err(e) => Err(e),
+        Ok(n) => {
             if elements::free_cells(m, cells) < n + 1 {
-                return Did::Fail(Error::VmError);
+                return Err(Error::VmError);
             }
-            Did::Ok(elements::new_array(m, stack, cells, 0, n))
+            Ok(elements::new_array(m, stack, cells, 0, n))
         }
     }
 }
 
 // Ruled out: VMerror for the cells of as many elements, and a string without its header.
-pub fn string(m: Machine, stack: &mut [u32], cells: &mut [u32]) -> Did
+pub fn string(m: Machine, stack: &mut [u32], cells: &mut [u32]) -> Result<Machine, Error>
     requires { Somewhere m stack.old cells.old }
     ensures { DoesHeap (perform (bytes "string")) m stack.old stack.new cells.old cells.new result }
 {
     match new_length(m, stack) {
-        OneInt::Bad(e) => Did::Fail(e),
-        OneInt::Got(n) => {
+        Err(e) => Err(e),
+        Ok(n) => {
             if elements::free_cells(m, cells) < (n + 7) / 8 + 1 {
-                return Did::Fail(Error::VmError);
+                return Err(Error::VmError);
             }
-            Did::Ok(elements::new_string(m, stack, cells, 0, n))
+            Ok(elements::new_string(m, stack, cells, 0, n))
         }
     }
 }
 
 // Ruled out: the maximum of a string, and stackoverflow on a full stack.
-pub fn length(m: Machine, stack: &mut [u32], cells: &mut [u32]) -> Did
+pub fn length(m: Machine, stack: &mut [u32], cells: &mut [u32]) -> Result<Machine, Error>
     requires { Somewhere m stack.old cells.old }
     ensures { DoesHeap (perform (bytes "length")) m stack.old stack.new cells.old cells.new result }
 {
     if m.depth < 1 {
-        return Did::Fail(Error::StackUnderflow);
+        return Err(Error::StackUnderflow);
     }
     let tag = elements::tag_of(m, stack, 0);
     if tag < TAG_STRING {
-        return Did::Fail(Error::TypeCheck);
+        return Err(Error::TypeCheck);
     }
     let n = length_of(m, stack, cells, 0, tag);
     let left = m.drop(stack, cells);
-    Did::Ok(left.push_scalar(stack, TAG_INTEGER, n))
+    Ok(left.push_scalar(stack, TAG_INTEGER, n))
 }
 
 // Ruled out: rangecheck for a negative index of something that is no array or string, and an operand that is gone where the index is too large.
-pub fn get(m: Machine, stack: &mut [u32], cells: &mut [u32]) -> Did
+pub fn get(m: Machine, stack: &mut [u32], cells: &mut [u32]) -> Result<Machine, Error>
     requires { Somewhere m stack.old cells.old }
     ensures { DoesHeap (perform (bytes "get")) m stack.old stack.new cells.old cells.new result }
 {
     if m.depth < 2 {
-        return Did::Fail(Error::StackUnderflow);
+        return Err(Error::StackUnderflow);
     }
     let tag = elements::tag_of(m, stack, 1);
     if tag < TAG_STRING {
-        return Did::Fail(Error::TypeCheck);
+        return Err(Error::TypeCheck);
     }
     match integer_at(m, stack, 0) {
-        OneInt::Bad(e) => Did::Fail(e),
-        OneInt::Got(n) => {
+        Err(e) => Err(e),
+        Ok(n) => {
             if SIGN <= n {
-                return Did::Fail(Error::RangeCheck);
+                return Err(Error::RangeCheck);
             }
             if tag == TAG_STRING {
                 return get_from_string(m, stack, cells, n);
@@ -97,20 +96,20 @@ pub fn get(m: Machine, stack: &mut [u32], cells: &mut [u32]) -> Did
 }
 
 // Ruled out: a byte over 255 that is cut, rangecheck for the index of a string where what is put is no integer, and rangecheck where the target is read only.
-pub fn put(m: Machine, stack: &mut [u32], cells: &mut [u32]) -> Did
+pub fn put(m: Machine, stack: &mut [u32], cells: &mut [u32]) -> Result<Machine, Error>
     requires { Somewhere m stack.old cells.old }
     ensures { DoesHeap (perform (bytes "put")) m stack.old stack.new cells.old cells.new result }
 {
     if m.depth < 3 {
-        return Did::Fail(Error::StackUnderflow);
+        return Err(Error::StackUnderflow);
     }
     let tag = elements::tag_of(m, stack, 2);
     if tag < TAG_STRING {
-        return Did::Fail(Error::TypeCheck);
+        return Err(Error::TypeCheck);
     }
     match integer_at(m, stack, 1) {
-        OneInt::Bad(e) => Did::Fail(e),
-        OneInt::Got(n) => {
+        Err(e) => Err(e),
+        Ok(n) => {
             if tag == TAG_STRING {
                 return put_in_string(m, stack, cells, n);
             }
@@ -120,111 +119,111 @@ pub fn put(m: Machine, stack: &mut [u32], cells: &mut [u32]) -> Did
 }
 
 // Ruled out: elements in the other order, and stackoverflow where they just fit.
-pub fn aload(m: Machine, stack: &mut [u32], cells: &mut [u32]) -> Did
+pub fn aload(m: Machine, stack: &mut [u32], cells: &mut [u32]) -> Result<Machine, Error>
     requires { Somewhere m stack.old cells.old }
     ensures { DoesHeap (perform (bytes "aload")) m stack.old stack.new cells.old cells.new result }
 {
     if m.depth < 1 {
-        return Did::Fail(Error::StackUnderflow);
+        return Err(Error::StackUnderflow);
     }
     if elements::tag_of(m, stack, 0) < TAG_ARRAY {
-        return Did::Fail(Error::TypeCheck);
+        return Err(Error::TypeCheck);
     }
     let n = elements::size_of(m, stack, cells, 0) as usize;
     if stack.len() / 2 - m.depth < n {
-        return Did::Fail(Error::StackOverflow);
+        return Err(Error::StackOverflow);
     }
-    Did::Ok(spread(m, stack, cells, n))
+    Ok(spread(m, stack, cells, n))
 }
 
 // The array may be among the items: all are put before any goes. Ruled out: elements in the other order, the array itself counted among the items, and
 // stackunderflow where it is read only.
-pub fn astore(m: Machine, stack: &mut [u32], cells: &mut [u32]) -> Did
+pub fn astore(m: Machine, stack: &mut [u32], cells: &mut [u32]) -> Result<Machine, Error>
     requires { Somewhere m stack.old cells.old }
     ensures { DoesHeap (perform (bytes "astore")) m stack.old stack.new cells.old cells.new result }
 {
     if m.depth < 1 {
-        return Did::Fail(Error::StackUnderflow);
+        return Err(Error::StackUnderflow);
     }
     if elements::tag_of(m, stack, 0) < TAG_ARRAY {
-        return Did::Fail(Error::TypeCheck);
+        return Err(Error::TypeCheck);
     }
     if elements::is_sealed(m, stack, cells, 0) {
-        return Did::Fail(Error::InvalidAccess);
+        return Err(Error::InvalidAccess);
     }
     let n = elements::size_of(m, stack, cells, 0) as usize;
     if m.depth - 1 < n {
-        return Did::Fail(Error::StackUnderflow);
+        return Err(Error::StackUnderflow);
     }
     let stored = store_items(m, stack, cells, 0, n + 1, n);
     let turned = stored.swap(stack, 0, n);
-    Did::Ok(drop_items(turned, stack, cells, n))
+    Ok(drop_items(turned, stack, cells, n))
 }
 
 // ]: the new array takes the mark's place. Ruled out: VMerror where no mark is there, and elements in the other order.
-pub fn close(m: Machine, stack: &mut [u32], cells: &mut [u32]) -> Did
+pub fn close(m: Machine, stack: &mut [u32], cells: &mut [u32]) -> Result<Machine, Error>
     requires { Somewhere m stack.old cells.old }
     ensures { DoesHeap (perform (bytes "]")) m stack.old stack.new cells.old cells.new result }
 {
     let n = above_mark(m, stack);
     if m.depth <= n {
-        return Did::Fail(Error::UnmatchedMark);
+        return Err(Error::UnmatchedMark);
     }
     let size = n as u32;
     if elements::free_cells(m, cells) < size + 1 {
-        return Did::Fail(Error::VmError);
+        return Err(Error::VmError);
     }
     let made = elements::new_array(m, stack, cells, n, size);
     let stored = store_items(made, stack, cells, n, n, n);
-    Did::Ok(drop_items(stored, stack, cells, n))
+    Ok(drop_items(stored, stack, cells, n))
 }
 
 // The object stays on the stack, with the mark for read only. Ruled out: the mark taken away by a second readonly, and typecheck for a procedure.
-pub fn readonly(m: Machine, stack: &[u32], cells: &mut [u32]) -> Did
+pub fn readonly(m: Machine, stack: &[u32], cells: &mut [u32]) -> Result<Machine, Error>
     requires { Somewhere m stack.now cells.old }
     ensures { DoesHeap (perform (bytes "readonly")) m stack.now stack.now cells.old cells.new result }
 {
     if m.depth < 1 {
-        return Did::Fail(Error::StackUnderflow);
+        return Err(Error::StackUnderflow);
     }
     if elements::tag_of(m, stack, 0) < TAG_STRING {
-        return Did::Fail(Error::TypeCheck);
+        return Err(Error::TypeCheck);
     }
     elements::seal(m, stack, cells, 0);
-    Did::Ok(m)
+    Ok(m)
 }
 
 // The length that array and string are given, or what is wrong with it.
-fn new_length(m: Machine, stack: &[u32]) -> OneInt
+fn new_length(m: Machine, stack: &[u32]) -> Result<u32, Error>
     requires { 2 * m.depth ≤ length_of stack.now }
     ensures fetches_length { FetchesLength m stack.now result }
     ensures result_bound { one_low result ≤ m.depth }
     ensures result_bound_2 { longest result ≤ 32767 }
 {
     match m.one_int(stack) {
-        OneInt::Bad(e) => OneInt::Bad(e),
-        OneInt::Got(n) => {
+        Err(e) => Err(e),
+        Ok(n) => {
             if SIGN <= n {
-                return OneInt::Bad(Error::RangeCheck);
+                return Err(Error::RangeCheck);
             }
             if LONGEST < n {
-                return OneInt::Bad(Error::LimitCheck);
+                return Err(Error::LimitCheck);
             }
-            OneInt::Got(n)
+            Ok(n)
         }
     }
 }
 
 // Item i, where it is an integer.
-fn integer_at(m: Machine, stack: &[u32], i: usize) -> OneInt
+fn integer_at(m: Machine, stack: &[u32], i: usize) -> Result<u32, Error>
     requires { (i < m.depth) × (2 * m.depth ≤ length_of stack.now) }
     ensures { ItemInt i m stack.now result }
 {
     let k = m.depth - 1 - i;
     if stack[STACK_WIDTH * k] != TAG_INTEGER {
-        return OneInt::Bad(Error::TypeCheck);
+        return Err(Error::TypeCheck);
     }
-    OneInt::Got(stack[STACK_WIDTH * k + ITEM_PAYLOAD])
+    Ok(stack[STACK_WIDTH * k + ITEM_PAYLOAD])
 }
 
 // The length of the array or string that is item i, of this tag.
@@ -238,69 +237,69 @@ fn length_of(m: Machine, stack: &[u32], cells: &[u32], i: usize, tag: u32) -> u3
     elements::size_of(m, stack, cells, i)
 }
 
-fn get_from_array(m: Machine, stack: &mut [u32], cells: &mut [u32], n: u32) -> Did
+fn get_from_array(m: Machine, stack: &mut [u32], cells: &mut [u32], n: u32) -> Result<Machine, Error>
     requires { (2 ≤ m.depth) × (n < 2 ^ 31) × ArrayItem 1 m stack.old × IntegerItem 0 n m stack.old × Somewhere m stack.old cells.old }
     ensures { DoesHeap (perform (bytes "get")) m stack.old stack.new cells.old cells.new result }
 {
     if elements::size_of(m, stack, cells, 1) <= n {
-        return Did::Fail(Error::RangeCheck);
+        return Err(Error::RangeCheck);
     }
     let found = elements::copy_element(m, stack, cells, 1, n, 1);
-    Did::Ok(found.drop(stack, cells))
+    Ok(found.drop(stack, cells))
 }
 
-fn get_from_string(m: Machine, stack: &mut [u32], cells: &mut [u32], n: u32) -> Did
+fn get_from_string(m: Machine, stack: &mut [u32], cells: &mut [u32], n: u32) -> Result<Machine, Error>
     requires { (2 ≤ m.depth) × (n < 2 ^ 31) × StringItem 1 m stack.old × IntegerItem 0 n m stack.old × Somewhere m stack.old cells.old }
     ensures { DoesHeap (perform (bytes "get")) m stack.old stack.new cells.old cells.new result }
 {
     if elements::maximum(m, stack, cells, 1) < n {
-        return Did::Fail(Error::RangeCheck);
+        return Err(Error::RangeCheck);
     }
     let b = byte_or_zero(m, stack, cells, 1, n);
     let left = drop_items(m, stack, cells, 2);
-    Did::Ok(left.push_scalar(stack, TAG_INTEGER, b))
+    Ok(left.push_scalar(stack, TAG_INTEGER, b))
 }
 
-fn put_in_array(m: Machine, stack: &mut [u32], cells: &mut [u32], n: u32) -> Did
+fn put_in_array(m: Machine, stack: &mut [u32], cells: &mut [u32], n: u32) -> Result<Machine, Error>
     requires { (3 ≤ m.depth) × ArrayItem 2 m stack.old × IntegerItem 1 n m stack.old × Somewhere m stack.old cells.old }
     ensures { DoesHeap (perform (bytes "put")) m stack.old stack.new cells.old cells.new result }
 {
     if elements::is_sealed(m, stack, cells, 2) {
-        return Did::Fail(Error::InvalidAccess);
+        return Err(Error::InvalidAccess);
     }
     if SIGN <= n {
-        return Did::Fail(Error::RangeCheck);
+        return Err(Error::RangeCheck);
     }
     if elements::size_of(m, stack, cells, 2) <= n {
-        return Did::Fail(Error::RangeCheck);
+        return Err(Error::RangeCheck);
     }
     let left = elements::put_element(m, stack, cells, 2, n, 0);
-    Did::Ok(drop_items(left, stack, cells, 3))
+    Ok(drop_items(left, stack, cells, 3))
 }
 
 // A word over 255 is a byte too large or a negative integer.
-fn put_in_string(m: Machine, stack: &mut [u32], cells: &mut [u32], n: u32) -> Did
+fn put_in_string(m: Machine, stack: &mut [u32], cells: &mut [u32], n: u32) -> Result<Machine, Error>
     requires { (3 ≤ m.depth) × StringItem 2 m stack.old × IntegerItem 1 n m stack.old × Somewhere m stack.old cells.old }
     ensures { DoesHeap (perform (bytes "put")) m stack.old stack.new cells.old cells.new result }
 {
     match integer_at(m, stack, 0) {
-        OneInt::Bad(e) => Did::Fail(e),
-        OneInt::Got(b) => {
+        Err(e) => Err(e),
+        Ok(b) => {
             if elements::is_sealed(m, stack, cells, 2) {
-                return Did::Fail(Error::InvalidAccess);
+                return Err(Error::InvalidAccess);
             }
             if SIGN <= n {
-                return Did::Fail(Error::RangeCheck);
+                return Err(Error::RangeCheck);
             }
             if 255 < b {
-                return Did::Fail(Error::RangeCheck);
+                return Err(Error::RangeCheck);
             }
             let most = elements::maximum(m, stack, cells, 2);
             if takes_byte(n, most, b) {
                 put_byte_inside(m, stack, cells, 2, n, b as u8);
-                return Did::Ok(drop_items(m, stack, cells, 3));
+                return Ok(drop_items(m, stack, cells, 3));
             }
-            Did::Fail(Error::RangeCheck)
+            Err(Error::RangeCheck)
         }
     }
 }

@@ -1,5 +1,6 @@
 -- stop, exit and continue: the innermost loop is looked for from the top, and the slots above it go one by one.
 -- Assumes nothing.
+use Rattle.std.specs.Prelude.{Ok, Err}
 use mathlib.Core.Path.{◌≡◌, refl, sym, ap, ◌∙◌, subst}
 use mathlib.Core.Bool.{true}
 use mathlib.Core.List.{List, [], ◌∷◌}
@@ -22,8 +23,7 @@ use Rattle.machine.specs.Places.{roots}
 use Rattle.machine.specs.Rep.{Rep, FrameIs, a_pending, a_running, a_looping, a_repeating, a_counting, a_past, Frames, frame}
 use Rattle.machine.specs.Room.{lent, fitted}
 use Rattle.machine.specs.declared.Machine.{Machine}
-use Rattle.machine.specs.declared.Did.{Did}
-use Rattle.machine.specs.declared.Did.TheVariants.{Ok, Fail}
+use Rattle.machine.specs.Answers.{Did}
 use Rattle.machine.proofs.Rooms.{frames_length}
 use Rattle.machine.proofs.Roots.{roots_alike}
 use Rattle.machine.specs.FrameMoves.{MovesFrames, frame_dropped}
@@ -72,7 +72,7 @@ pub halts : {f : Floo.Machine → Result Floo.Machine} {m : Machine} {e c : List
     → DoesState (perform (bytes "stop")) m r
     → DoesCells f m e c c r
 unfolding fitted
-halts {e = e} {c = c} (Fail x) q D =
+halts {e = e} {c = c} (Err x) q D =
     record { does = λ s d l μ R. (ap (λ t. t >>= room_for (lent s e d c l) μ) (q s d l μ R) ∙ (D.does s e d c l μ R).0, refl) }
 halts {e = e} {c = c} (Ok m') q D =
     record {

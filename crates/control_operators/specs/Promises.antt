@@ -10,7 +10,7 @@ use Rattle.machine.specs.Places.{Nameless}
 use Rattle.machine.specs.Rep.{Rep, Answer}
 use Rattle.machine.specs.Room.{lent, fitted}
 use Rattle.machine.specs.declared.Machine.{Machine}
-use Rattle.machine.specs.declared.Did.{Did}
+use Rattle.machine.specs.Answers.{Did}
 
 -- The words of stack and execution slots stand for some machine.
 abbrev pub Represented : Machine → List ℕ → List ℕ → Type 0

@@ -10,79 +10,79 @@ ghost use Rattle.machine.specs.FrameMoves.{Somewhere, MovesFrames};
 ghost use Rattle.frames.specs.Moves.{SomewhereAll};
 
 use frames::{FOR, LOOP, REPEAT};
-use machine::{Did, ITEM_PAYLOAD, Machine, TAG_BOOLEAN, TAG_INTEGER};
+use machine::{ITEM_PAYLOAD, Machine, TAG_BOOLEAN, TAG_INTEGER};
 use semantics::{EXEC_WIDTH, Error, STACK_WIDTH};
 
-pub fn exec_(m: Machine, stack: &[u32], exec: &mut [u32]) -> Did
+pub fn exec_(m: Machine, stack: &[u32], exec: &mut [u32]) -> Result<Machine, Error>
     requires { Represented m stack.now exec.old }
     ensures { DoesSlots (perform (bytes "exec")) m stack.now exec.old exec.new result }
 {
     if m.depth < 1 {
-        return Did::Fail(Error::StackUnderflow);
+        return Err(Error::StackUnderflow);
     }
     if exec.len() < EXEC_WIDTH * m.frames + EXEC_WIDTH {
-        return Did::Fail(Error::ExecStackOverflow);
+        return Err(Error::ExecStackOverflow);
     }
-    Did::Ok(frames::pend_top(m, stack, exec))
+    Ok(frames::pend_top(m, stack, exec))
 }
 
-pub fn loop_(m: Machine, stack: &[u32], exec: &mut [u32]) -> Did
+pub fn loop_(m: Machine, stack: &[u32], exec: &mut [u32]) -> Result<Machine, Error>
     requires { Represented m stack.now exec.old }
     ensures { DoesSlots (perform (bytes "loop")) m stack.now exec.old exec.new result }
 {
     if m.depth < 1 {
-        return Did::Fail(Error::StackUnderflow);
+        return Err(Error::StackUnderflow);
     }
     if exec.len() < EXEC_WIDTH * m.frames + EXEC_WIDTH {
-        return Did::Fail(Error::ExecStackOverflow);
+        return Err(Error::ExecStackOverflow);
     }
-    Did::Ok(frames::enter_loop(m, stack, exec, LOOP, 0, 0, 0))
+    Ok(frames::enter_loop(m, stack, exec, LOOP, 0, 0, 0))
 }
 
 // Ruled out: a negative count that repeats; a count that stays on the stack.
-pub fn repeat_(m: Machine, stack: &[u32], exec: &mut [u32]) -> Did
+pub fn repeat_(m: Machine, stack: &[u32], exec: &mut [u32]) -> Result<Machine, Error>
     requires { Represented m stack.now exec.old }
     ensures { DoesSlots (perform (bytes "repeat")) m stack.now exec.old exec.new result }
 {
     if m.depth < 2 {
-        return Did::Fail(Error::StackUnderflow);
+        return Err(Error::StackUnderflow);
     }
     let i = STACK_WIDTH * (m.depth - 2);
     if stack[i] != TAG_INTEGER {
-        return Did::Fail(Error::TypeCheck);
+        return Err(Error::TypeCheck);
     }
     let n = stack[i + ITEM_PAYLOAD];
     if 2147483648 <= n {
-        return Did::Fail(Error::RangeCheck);
+        return Err(Error::RangeCheck);
     }
     if exec.len() < EXEC_WIDTH * m.frames + EXEC_WIDTH {
-        return Did::Fail(Error::ExecStackOverflow);
+        return Err(Error::ExecStackOverflow);
     }
     let r = frames::enter_loop(m, stack, exec, REPEAT, n, 0, 0);
-    Did::Ok(forget(r, 1))
+    Ok(forget(r, 1))
 }
 
-pub fn for_(m: Machine, stack: &[u32], exec: &mut [u32]) -> Did
+pub fn for_(m: Machine, stack: &[u32], exec: &mut [u32]) -> Result<Machine, Error>
     requires { Represented m stack.now exec.old }
     ensures { DoesSlots (perform (bytes "for")) m stack.now exec.old exec.new result }
 {
     if m.depth < 4 {
-        return Did::Fail(Error::StackUnderflow);
+        return Err(Error::StackUnderflow);
     }
     let i = STACK_WIDTH * (m.depth - 4);
     let j = STACK_WIDTH * (m.depth - 3);
     let k = STACK_WIDTH * (m.depth - 2);
     if stack[i] != TAG_INTEGER {
-        return Did::Fail(Error::TypeCheck);
+        return Err(Error::TypeCheck);
     }
     if stack[j] != TAG_INTEGER {
-        return Did::Fail(Error::TypeCheck);
+        return Err(Error::TypeCheck);
     }
     if stack[k] != TAG_INTEGER {
-        return Did::Fail(Error::TypeCheck);
+        return Err(Error::TypeCheck);
     }
     if exec.len() < EXEC_WIDTH * m.frames + EXEC_WIDTH {
-        return Did::Fail(Error::ExecStackOverflow);
+        return Err(Error::ExecStackOverflow);
     }
     let r = frames::enter_loop(
         m,
@@ -93,58 +93,58 @@ pub fn for_(m: Machine, stack: &[u32], exec: &mut [u32]) -> Did
         stack[j + ITEM_PAYLOAD],
         stack[k + ITEM_PAYLOAD],
     );
-    Did::Ok(forget(r, 3))
+    Ok(forget(r, 3))
 }
 
 // Ruled out: a body that is kept where the test is false; execstackoverflow where nothing becomes pending.
-pub fn if_(m: Machine, stack: &[u32], exec: &mut [u32], cells: &mut [u32]) -> Did
+pub fn if_(m: Machine, stack: &[u32], exec: &mut [u32], cells: &mut [u32]) -> Result<Machine, Error>
     requires { SomewhereAll m stack.now exec.old cells.old }
     ensures { DoesFrames (perform (bytes "if")) m stack.now stack.now exec.old exec.new cells.old cells.new result }
 {
     if m.depth < 2 {
-        return Did::Fail(Error::StackUnderflow);
+        return Err(Error::StackUnderflow);
     }
     let i = STACK_WIDTH * (m.depth - 2);
     if stack[i] != TAG_BOOLEAN {
-        return Did::Fail(Error::TypeCheck);
+        return Err(Error::TypeCheck);
     }
     if stack[i + ITEM_PAYLOAD] == 0 {
         let r = m.drop(stack, cells);
-        return Did::Ok(forget(r, 1));
+        return Ok(forget(r, 1));
     }
     if exec.len() < EXEC_WIDTH * m.frames + EXEC_WIDTH {
-        return Did::Fail(Error::ExecStackOverflow);
+        return Err(Error::ExecStackOverflow);
     }
     let r = frames::pend_top(m, stack, exec);
-    Did::Ok(forget(r, 1))
+    Ok(forget(r, 1))
 }
 
-pub fn ifelse(m: Machine, stack: &[u32], exec: &mut [u32], cells: &mut [u32]) -> Did
+pub fn ifelse(m: Machine, stack: &[u32], exec: &mut [u32], cells: &mut [u32]) -> Result<Machine, Error>
     requires { SomewhereAll m stack.now exec.old cells.old }
     ensures { DoesFrames (perform (bytes "ifelse")) m stack.now stack.now exec.old exec.new cells.old cells.new result }
 {
     if m.depth < 3 {
-        return Did::Fail(Error::StackUnderflow);
+        return Err(Error::StackUnderflow);
     }
     let i = STACK_WIDTH * (m.depth - 3);
     if stack[i] != TAG_BOOLEAN {
-        return Did::Fail(Error::TypeCheck);
+        return Err(Error::TypeCheck);
     }
     if exec.len() < EXEC_WIDTH * m.frames + EXEC_WIDTH {
-        return Did::Fail(Error::ExecStackOverflow);
+        return Err(Error::ExecStackOverflow);
     }
     if stack[i + ITEM_PAYLOAD] == 0 {
         let p = frames::pend_top(m, stack, exec);
         let r = p.drop(stack, cells);
-        return Did::Ok(forget(r, 1));
+        return Ok(forget(r, 1));
     }
     let p = m.drop(stack, cells);
     let r = frames::pend_top(p, stack, exec);
-    Did::Ok(forget(r, 1))
+    Ok(forget(r, 1))
 }
 
 // Ruled out: slots that go where there is no loop; a loop that stays.
-pub fn exit(m: Machine, exec: &[u32], cells: &mut [u32]) -> Did
+pub fn exit(m: Machine, exec: &[u32], cells: &mut [u32]) -> Result<Machine, Error>
     requires { Somewhere m exec.now cells.old }
     ensures { DoesCells (perform (bytes "exit")) m exec.now cells.old cells.new result }
 {
@@ -152,10 +152,10 @@ pub fn exit(m: Machine, exec: &[u32], cells: &mut [u32]) -> Did
     if k < 1 {
         return stop(m);
     }
-    Did::Ok(drop_to(m, exec, cells, k - 1))
+    Ok(drop_to(m, exec, cells, k - 1))
 }
 
-pub fn continue_(m: Machine, exec: &[u32], cells: &mut [u32]) -> Did
+pub fn continue_(m: Machine, exec: &[u32], cells: &mut [u32]) -> Result<Machine, Error>
     requires { Somewhere m exec.now cells.old }
     ensures { DoesCells (perform (bytes "continue")) m exec.now cells.old cells.new result }
 {
@@ -163,15 +163,15 @@ pub fn continue_(m: Machine, exec: &[u32], cells: &mut [u32]) -> Did
     if k < 1 {
         return stop(m);
     }
-    Did::Ok(drop_to(m, exec, cells, k))
+    Ok(drop_to(m, exec, cells, k))
 }
 
-pub fn stop(m: Machine) -> Did
+pub fn stop(m: Machine) -> Result<Machine, Error>
     ensures { DoesState (perform (bytes "stop")) m result }
 {
     let mut r = m;
     r.stopped = true;
-    Did::Ok(r)
+    Ok(r)
 }
 
 // The topmost n items, which name no object, go.

@@ -14,23 +14,22 @@ ghost use Rattle.names.specs.Names.{Named};
 ghost use Rattle.conversions.specs.Texts.{SomewhereNamed, DoesNamedHeap, converted, ended, Known, TextOf, NameRead};
 
 use machine::{
-    Did, ITEM_PAYLOAD, Machine, TAG_BOOLEAN, TAG_EXECUTABLE, TAG_INTEGER, TAG_LITERAL, TAG_STRING,
-};
+    ITEM_PAYLOAD, Machine, TAG_BOOLEAN, TAG_EXECUTABLE, TAG_INTEGER, TAG_LITERAL, TAG_STRING};
 use semantics::{Error, NAME_MOST, STACK_WIDTH};
 
 // Ruled out: rangecheck where the text fills the string exactly, or where the string is read only; bytes after the text and its zero that are lost.
-pub fn cvs(m: Machine, stack: &mut [u32], dict: &[u32], cells: &mut [u32]) -> Did
+pub fn cvs(m: Machine, stack: &mut [u32], dict: &[u32], cells: &mut [u32]) -> Result<Machine, Error>
     requires { SomewhereNamed m stack.old dict.now cells.old }
     ensures { DoesNamedHeap (perform (bytes "cvs")) m stack.old stack.new dict.now cells.old cells.new result }
 {
     if m.depth < 2 {
-        return Did::Fail(Error::StackUnderflow);
+        return Err(Error::StackUnderflow);
     }
     if elements::tag_of(m, stack, 0) != TAG_STRING {
-        return Did::Fail(Error::TypeCheck);
+        return Err(Error::TypeCheck);
     }
     if elements::is_sealed(m, stack, cells, 0) {
-        return Did::Fail(Error::InvalidAccess);
+        return Err(Error::InvalidAccess);
     }
     let k = m.depth - 2;
     let tag = stack[STACK_WIDTH * k];
@@ -44,30 +43,30 @@ pub fn cvs(m: Machine, stack: &mut [u32], dict: &[u32], cells: &mut [u32]) -> Di
 }
 
 // cvs of a string. Both operands may be one string.
-fn convert_string(m: Machine, stack: &mut [u32], cells: &mut [u32]) -> Did
+fn convert_string(m: Machine, stack: &mut [u32], cells: &mut [u32]) -> Result<Machine, Error>
     requires { (2 ≤ m.depth) × ItemTag 0 m stack.old 8 × ItemSealed 0 m stack.old cells.old false × SomewhereThat (HasString 1) m stack.old cells.old }
     ensures { DoesHeap (perform (bytes "cvs")) m stack.old stack.new cells.old cells.new result }
 {
     let n = strings::current_length(m, stack, cells, 1);
     let most = elements::maximum(m, stack, cells, 0);
     if most < n {
-        return Did::Fail(Error::RangeCheck);
+        return Err(Error::RangeCheck);
     }
     strings::copy_bytes(m, stack, cells, 0, 0, 1, 0, n);
-    Did::Ok(end_text(m, stack, cells, n))
+    Ok(end_text(m, stack, cells, n))
 }
 
 // cvs of a value with this text.
-fn convert(m: Machine, stack: &mut [u32], cells: &mut [u32], text: &[u8]) -> Did
+fn convert(m: Machine, stack: &mut [u32], cells: &mut [u32], text: &[u8]) -> Result<Machine, Error>
     requires { (2 ≤ m.depth) × (length text.now ≤ name_most) × ItemTag 0 m stack.old 8 × Somewhere m stack.old cells.old }
     ensures { DoesHeap (converted text.now) m stack.old stack.new cells.old cells.new result }
 {
     let n = text.len() as u32;
     if elements::maximum(m, stack, cells, 0) < n {
-        return Did::Fail(Error::RangeCheck);
+        return Err(Error::RangeCheck);
     }
     put_text(m, stack, cells, text);
-    Did::Ok(end_text(m, stack, cells, n))
+    Ok(end_text(m, stack, cells, n))
 }
 
 // The text goes to the front of the string that is item 0; its bytes after it stay.

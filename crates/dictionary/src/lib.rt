@@ -13,8 +13,7 @@ ghost use Rattle.dictionary.specs.Bindings.{BoundItems, BoundFrames, NamedItems,
 use frames::PENDING;
 use machine::{
     BINDING_PAYLOAD, BINDING_TAG, FRAME_PAYLOAD, FRAME_TAG, ITEM_PAYLOAD, Machine, SPELLING,
-    TAG_LITERAL, TAG_NULL, TAG_UNBOUND,
-};
+    TAG_LITERAL, TAG_NULL, TAG_UNBOUND};
 use semantics::{DICTIONARY_WIDTH, EXEC_WIDTH, STACK_WIDTH};
 
 // The slot of a name; the number of slots where it has none. The name is packed once, so that a slot takes a comparison of words and none of bytes.

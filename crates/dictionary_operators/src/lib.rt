@@ -11,76 +11,75 @@ ghost use Rattle.dictionary_operators.specs.Binding.{HasProcedure, HasElementAt,
 ghost use Rattle.dictionary_operators.specs.Interning.{item_named};
 
 use machine::{
-    Did, ITEM_PAYLOAD, Machine, TAG_EXECUTABLE, TAG_LITERAL, TAG_OPERATOR, TAG_PROCEDURE,
-    TAG_STRING, TAG_UNBOUND,
-};
+    ITEM_PAYLOAD, Machine, TAG_EXECUTABLE, TAG_LITERAL, TAG_OPERATOR, TAG_PROCEDURE,
+    TAG_STRING, TAG_UNBOUND};
 use semantics::{DICTIONARY_WIDTH, Error, NAME_MOST, STACK_WIDTH};
 
 // Ruled out: the operands taken for each other; a binding whose object is counted for the item and not for the name.
-pub fn def(m: Machine, stack: &[u32], dict: &mut [u32], cells: &mut [u32]) -> Did
+pub fn def(m: Machine, stack: &[u32], dict: &mut [u32], cells: &mut [u32]) -> Result<Machine, Error>
     requires { Represented m stack.now dict.old cells.old }
     ensures { DoesDictionary (perform (bytes "def")) m stack.now stack.now dict.old dict.new cells.old cells.new result }
 {
     if m.depth < 2 {
-        return Did::Fail(Error::StackUnderflow);
+        return Err(Error::StackUnderflow);
     }
     let i = STACK_WIDTH * (m.depth - 2);
     if stack[i] != TAG_LITERAL {
-        return Did::Fail(Error::TypeCheck);
+        return Err(Error::TypeCheck);
     }
     let slot = stack[i + ITEM_PAYLOAD] as usize;
     let bound = dictionary::bind_item(m, stack, dict, cells, slot, 0);
     let one = bound.drop(stack, cells);
-    Did::Ok(one.drop(stack, cells))
+    Ok(one.drop(stack, cells))
 }
 
 // Ruled out: an unbound name taken for one that is bound to null; typecheck for an unbound name.
-pub fn load(m: Machine, stack: &mut [u32], dict: &[u32], cells: &mut [u32]) -> Did
+pub fn load(m: Machine, stack: &mut [u32], dict: &[u32], cells: &mut [u32]) -> Result<Machine, Error>
     requires { Represented m stack.old dict.now cells.old }
     ensures { DoesDictionary (perform (bytes "load")) m stack.old stack.new dict.now dict.now cells.old cells.new result }
 {
     if m.depth < 1 {
-        return Did::Fail(Error::StackUnderflow);
+        return Err(Error::StackUnderflow);
     }
     let i = STACK_WIDTH * (m.depth - 1);
     if stack[i] != TAG_LITERAL {
-        return Did::Fail(Error::TypeCheck);
+        return Err(Error::TypeCheck);
     }
     let slot = stack[i + ITEM_PAYLOAD] as usize;
     if dictionary::binding_tag(dict, slot) == TAG_UNBOUND {
-        return Did::Fail(Error::Undefined);
+        return Err(Error::Undefined);
     }
-    Did::Ok(dictionary::load_binding(m, stack, dict, cells, slot, 0))
+    Ok(dictionary::load_binding(m, stack, dict, cells, slot, 0))
 }
 
 // Ruled out: a name that is bound to a procedure replaced; the elements of a procedure within the procedure changed.
-pub fn bind(m: Machine, stack: &[u32], dict: &[u32], cells: &mut [u32]) -> Did
+pub fn bind(m: Machine, stack: &[u32], dict: &[u32], cells: &mut [u32]) -> Result<Machine, Error>
     requires { Represented m stack.now dict.now cells.old }
     ensures { DoesDictionary (perform (bytes "bind")) m stack.now stack.now dict.now dict.now cells.old cells.new result }
 {
     if m.depth < 1 {
-        return Did::Fail(Error::StackUnderflow);
+        return Err(Error::StackUnderflow);
     }
     if stack[STACK_WIDTH * (m.depth - 1)] != TAG_PROCEDURE {
-        return Did::Fail(Error::TypeCheck);
+        return Err(Error::TypeCheck);
     }
-    Did::Ok(bind_elements(m, stack, dict, cells))
+    Ok(bind_elements(m, stack, dict, cells))
 }
 
 // Ruled out: a name of 32 bytes; the bytes after the first zero taken into the name; a slot taken for a name that has one.
-pub fn cvn(m: Machine, stack: &mut [u32], dict: &mut [u32], cells: &mut [u32]) -> Did
+pub fn cvn(m: Machine, stack: &mut [u32], dict: &mut [u32], cells: &mut [u32]) -> Result<Machine, Error>
     requires { Represented m stack.old dict.old cells.old }
     ensures { DoesDictionary (perform (bytes "cvn")) m stack.old stack.new dict.old dict.new cells.old cells.new result }
 {
     if m.depth < 1 {
-        return Did::Fail(Error::StackUnderflow);
+        return Err(Error::StackUnderflow);
     }
     if stack[STACK_WIDTH * (m.depth - 1)] != TAG_STRING {
-        return Did::Fail(Error::TypeCheck);
+        return Err(Error::TypeCheck);
     }
     let size = strings::current_length(m, stack, cells, 0);
     if NAME_MOST < size as usize {
-        return Did::Fail(Error::LimitCheck);
+        return Err(Error::LimitCheck);
     }
     let mut name = [0u8; NAME_MOST];
     strings::read_bytes(m, stack, cells, 0, size, &mut name);
@@ -88,19 +87,19 @@ pub fn cvn(m: Machine, stack: &mut [u32], dict: &mut [u32], cells: &mut [u32]) -
 }
 
 // Item 0 gives way to the literal name of these bytes, which takes a slot where it has none.
-fn name_item(m: Machine, stack: &mut [u32], dict: &mut [u32], cells: &mut [u32], name: &[u8]) -> Did
+fn name_item(m: Machine, stack: &mut [u32], dict: &mut [u32], cells: &mut [u32], name: &[u8]) -> Result<Machine, Error>
     requires { (1 ≤ m.depth) × (length name.now ≤ name_most) × Represented m stack.old dict.old cells.old }
     ensures { DoesDictionary (item_named name.now) m stack.old stack.new dict.old dict.new cells.old cells.new result }
 {
     let slot = dictionary::find(m, dict, name);
     if slot < m.names {
-        return Did::Ok(dictionary::put_name(m, stack, cells, slot as u32, 0));
+        return Ok(dictionary::put_name(m, stack, cells, slot as u32, 0));
     }
     if dict.len() < DICTIONARY_WIDTH * m.names + DICTIONARY_WIDTH {
-        return Did::Fail(Error::LimitCheck);
+        return Err(Error::LimitCheck);
     }
     let r = dictionary::add(m, dict, name);
-    Did::Ok(dictionary::put_name(r, stack, cells, slot as u32, 0))
+    Ok(dictionary::put_name(r, stack, cells, slot as u32, 0))
 }
 
 // Each element of the procedure that is item 0 is bound.

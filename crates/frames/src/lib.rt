@@ -8,8 +8,7 @@ ghost use Rattle.machine.specs.FrameMoves.{Somewhere, MovesFrames};
 ghost use Rattle.frames.specs.Moves.{Enters, Resets, SomewhereAll, Starts, Advances, PushesElement, body_pended, reset_words, Turned};
 
 use machine::{
-    FRAME_CELL, FRAME_FINAL, FRAME_LEFT, FRAME_PAYLOAD, FRAME_TAG, ITEM_PAYLOAD, Machine, TAG_NULL,
-};
+    FRAME_CELL, FRAME_FINAL, FRAME_LEFT, FRAME_PAYLOAD, FRAME_TAG, ITEM_PAYLOAD, Machine, TAG_NULL};
 use semantics::{EXEC_WIDTH, STACK_WIDTH};
 
 // Kinds of execution slots.

@@ -14,8 +14,7 @@ ghost use Rattle.handlers.specs.Handling.{NamesRow, BindsHandler, PendsHandler, 
 use frames::PENDING;
 use machine::{
     FRAME_PAYLOAD, FRAME_TAG, HANDLER_NAME, HANDLER_PAYLOAD, HANDLER_TAG, HANDLER_WIDTH,
-    ITEM_PAYLOAD, LATEST_COMMAND, LATEST_ERROR, Machine, TAG_NULL,
-};
+    ITEM_PAYLOAD, LATEST_COMMAND, LATEST_ERROR, Machine, TAG_NULL};
 use semantics::{ERROR_COUNT, EXEC_WIDTH, Error, STACK_WIDTH};
 
 // The row of an error: its place among the names of errors.

@@ -1,6 +1,7 @@
 -- What an operator's return shows: that the definition's operator fails, or that it gives what the primitives did to the machine and that there is room
 -- or is none; and what primitives do one after another.
 -- Assumes nothing.
+use Rattle.std.specs.Prelude.{Ok, Err}
 use mathlib.Core.Path.{◌≡◌, refl, ap, ◌∙◌, subst}
 use mathlib.Core.List.{List, [], ◌∷◌}
 use Prim.Native.Nat.{ℕ, ◌/◌, ◌≤◌, ◌<◌}
@@ -19,11 +20,8 @@ use Rattle.machine.specs.Rep.{Rep, Somewhere, MovesStack, MovesHeap}
 use Rattle.machine.specs.Moves.{dropped, copied, copied_over, swapped}
 use Rattle.machine.specs.Room.{lent, fitted, DoesStack, DoesHeap}
 use Rattle.machine.specs.declared.Machine.{Machine}
-use Rattle.machine.specs.declared.OneInt.{OneInt}
-use Rattle.machine.specs.declared.OneInt.TheVariants as One
-use Rattle.machine.specs.declared.TwoInts.{TwoInts}
-use Rattle.machine.specs.declared.TwoInts.TheVariants as Two
-use Rattle.machine.specs.declared.Did.TheVariants.{Ok, Fail}
+use Rattle.machine.specs.Answers.{OneInt}
+use Rattle.machine.specs.Answers.{TwoInts}
 use Rattle.machine.proofs.Items.{items_length}
 use Rattle.machine.proofs.Operands.{pop1_some, pop2_some}
 use Rattle.machine.proofs.Rooms.{dictionary_fits, exec_fits, room_stack, rep_passes}
@@ -55,7 +53,7 @@ unfolding swapped with_stack
 swapped_store i j μ = refl
 
 module _ {f : Floo.Machine → Result Floo.Machine} {m : Machine} {s : List ℕ} where
-  pub fails_stack : {x : Error} → ((e d c l : List ℕ) (μ : Floo.Machine) → Rep m s e d c l μ → f μ ≡ fault x) → DoesStack f m s s (Fail x)
+  pub fails_stack : {x : Error} → ((e d c l : List ℕ) (μ : Floo.Machine) → Rep m s e d c l μ → f μ ≡ fault x) → DoesStack f m s s (Err x)
   unfolding fitted ◌>>=◌
   fails_stack h = record { does = λ e d c l μ R. (ap (λ q. q >>= room_for (lent s e d c l) μ) (h e d c l μ R), refl) }
 
@@ -74,7 +72,7 @@ module _ {f : Floo.Machine → Result Floo.Machine} {m : Machine} {s : List ℕ}
       }
 
   module _ {c : List ℕ} where
-    pub fails_heap : {x : Error} → ((e d l : List ℕ) (μ : Floo.Machine) → Rep m s e d c l μ → f μ ≡ fault x) → DoesHeap f m s s c c (Fail x)
+    pub fails_heap : {x : Error} → ((e d l : List ℕ) (μ : Floo.Machine) → Rep m s e d c l μ → f μ ≡ fault x) → DoesHeap f m s s c c (Err x)
     unfolding fitted ◌>>=◌
     fails_heap h = record { does = λ e d l μ R. (ap (λ q. q >>= room_for (lent s e d c l) μ) (h e d l μ R), (refl, refl)) }
 
@@ -94,7 +92,7 @@ module _ {f : Floo.Machine → Result Floo.Machine} {m : Machine} {s : List ℕ}
 
     -- The stack would be too deep.
     pub over_heap : ((e d l : List ℕ) (μ : Floo.Machine) → Rep m s e d c l μ → (t : List Value) × (f μ ≡ ok (with_stack t μ)) × (length s / 2 < length t))
-        → DoesHeap f m s s c c (Fail StackOverflow)
+        → DoesHeap f m s s c c (Err StackOverflow)
     unfolding fitted ◌>>=◌ lent with_stack
     over_heap h =
         record {
@@ -154,10 +152,10 @@ module _ (l : List Value) where
 -- ---- integer operands
 
 -- The fetchers' bound on the depth.
-pub one_low_lem : {r : OneInt} {a n : ℕ} → r ≡ One.Got a → one_low r ≤ n → 1 ≤ n
+pub one_low_lem : {r : OneInt} {a n : ℕ} → r ≡ Ok a → one_low r ≤ n → 1 ≤ n
 one_low_lem {n = n} q h = subst (λ r. one_low r ≤ n) q h
 
-pub two_low_lem : {r : TwoInts} {a b n : ℕ} → r ≡ Two.Got a b → two_low r ≤ n → 2 ≤ n
+pub two_low_lem : {r : TwoInts} {a b n : ℕ} → r ≡ Ok (a, b) → two_low r ≤ n → 2 ≤ n
 two_low_lem {n = n} q h = subst (λ r. two_low r ≤ n) q h
 
 -- An operator that takes an integer, and one that takes two.

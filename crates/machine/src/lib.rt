@@ -85,122 +85,96 @@ pub struct Machine {
     pub stopped: bool,
 }
 
-// What an operator came to.
-#[derive(Clone, Copy)]
-pub enum Did {
-    Ok(Machine),
-    Fail(Error),
-}
-
-// An integer operand, or what is wrong with it.
-#[derive(Clone, Copy)]
-pub enum OneInt {
-    Bad(Error),
-    Got(u32),
-}
-
-// Two integer operands, the upper one second, or what is wrong with them.
-#[derive(Clone, Copy)]
-pub enum TwoInts {
-    Bad(Error),
-    Got(u32, u32),
-}
-
-// An operand of not: a word, a truth value (0 or 1), or what is wrong with it.
-#[derive(Clone, Copy)]
-pub enum OneLogical {
-    Bad(Error),
-    Word(u32),
-    Truth(u32),
-}
-
-// Two operands of one kind, words or truth values, the upper one second, or what is wrong with them.
-#[derive(Clone, Copy)]
-pub enum TwoLogical {
-    Bad(Error),
-    Words(u32, u32),
-    Truths(u32, u32),
+// Operands of the logical operators: words, or truth values (0 or 1).
+#[derive(Clone, Copy, PartialEq, Eq)]
+pub enum Logical<T> {
+    Words(T),
+    Truths(T),
 }
 
 impl Machine {
-    pub fn one_int(self, stack: &[u32]) -> OneInt
+    // An integer operand, or what is wrong with it.
+    pub fn one_int(self, stack: &[u32]) -> Result<u32, Error>
         requires { 2 * self.depth ≤ length stack.now }
         ensures fetches_one { FetchesOne self stack.now result }
         ensures result_bound { one_low result ≤ self.depth }
     {
         let n = self.depth;
         if n < 1 {
-            return OneInt::Bad(Error::StackUnderflow);
+            return Err(Error::StackUnderflow);
         }
         let i = STACK_WIDTH * (n - 1);
         if stack[i] != TAG_INTEGER {
-            return OneInt::Bad(Error::TypeCheck);
+            return Err(Error::TypeCheck);
         }
-        OneInt::Got(stack[i + ITEM_PAYLOAD])
+        Ok(stack[i + ITEM_PAYLOAD])
     }
 
-    pub fn two_ints(self, stack: &[u32]) -> TwoInts
+    // Two integer operands, the upper one second, or what is wrong with them.
+    pub fn two_ints(self, stack: &[u32]) -> Result<(u32, u32), Error>
         requires { 2 * self.depth ≤ length stack.now }
         ensures fetches_two { FetchesTwo self stack.now result }
         ensures result_bound { two_low result ≤ self.depth }
     {
         let n = self.depth;
         if n < 2 {
-            return TwoInts::Bad(Error::StackUnderflow);
+            return Err(Error::StackUnderflow);
         }
         let i = STACK_WIDTH * (n - 2);
         let j = STACK_WIDTH * (n - 1);
         if stack[i] != TAG_INTEGER {
-            return TwoInts::Bad(Error::TypeCheck);
+            return Err(Error::TypeCheck);
         }
         if stack[j] != TAG_INTEGER {
-            return TwoInts::Bad(Error::TypeCheck);
+            return Err(Error::TypeCheck);
         }
-        TwoInts::Got(stack[i + ITEM_PAYLOAD], stack[j + ITEM_PAYLOAD])
+        Ok((stack[i + ITEM_PAYLOAD], stack[j + ITEM_PAYLOAD]))
     }
 
-    pub fn one_logical(self, stack: &[u32]) -> OneLogical
+    // An operand of not, or what is wrong with it.
+    pub fn one_logical(self, stack: &[u32]) -> Result<Logical<u32>, Error>
         requires { 2 * self.depth ≤ length stack.now }
         ensures fetches_one_logical { FetchesOneLogical self stack.now result }
         ensures result_bound { one_logical_low result ≤ self.depth }
     {
         let n = self.depth;
         if n < 1 {
-            return OneLogical::Bad(Error::StackUnderflow);
+            return Err(Error::StackUnderflow);
         }
         let i = STACK_WIDTH * (n - 1);
         let tag = stack[i];
         if tag == TAG_INTEGER {
-            return OneLogical::Word(stack[i + ITEM_PAYLOAD]);
+            return Ok(Logical::Words(stack[i + ITEM_PAYLOAD]));
         }
         if tag == TAG_BOOLEAN {
-            return OneLogical::Truth(stack[i + ITEM_PAYLOAD]);
+            return Ok(Logical::Truths(stack[i + ITEM_PAYLOAD]));
         }
-        OneLogical::Bad(Error::TypeCheck)
+        Err(Error::TypeCheck)
     }
 
-    pub fn two_logical(self, stack: &[u32]) -> TwoLogical
+    // Two operands of one kind, the upper one second, or what is wrong with them.
+    pub fn two_logical(self, stack: &[u32]) -> Result<Logical<(u32, u32)>, Error>
         requires { 2 * self.depth ≤ length stack.now }
         ensures fetches_two_logical { FetchesTwoLogical self stack.now result }
         ensures result_bound { two_logical_low result ≤ self.depth }
     {
         let n = self.depth;
         if n < 2 {
-            return TwoLogical::Bad(Error::StackUnderflow);
+            return Err(Error::StackUnderflow);
         }
         let i = STACK_WIDTH * (n - 2);
         let j = STACK_WIDTH * (n - 1);
         let tag = stack[i];
         if stack[j] != tag {
-            return TwoLogical::Bad(Error::TypeCheck);
+            return Err(Error::TypeCheck);
         }
         if tag == TAG_INTEGER {
-            return TwoLogical::Words(stack[i + ITEM_PAYLOAD], stack[j + ITEM_PAYLOAD]);
+            return Ok(Logical::Words((stack[i + ITEM_PAYLOAD], stack[j + ITEM_PAYLOAD])));
         }
         if tag == TAG_BOOLEAN {
-            return TwoLogical::Truths(stack[i + ITEM_PAYLOAD], stack[j + ITEM_PAYLOAD]);
+            return Ok(Logical::Truths((stack[i + ITEM_PAYLOAD], stack[j + ITEM_PAYLOAD])));
         }
-        TwoLogical::Bad(Error::TypeCheck)
+        Err(Error::TypeCheck)
     }
 
     // Takes n operands that name no object away, and pushes a result.

@@ -1,5 +1,6 @@
 -- The shapes of and, or, xor and not: operands that are neither words nor truth values, two of one kind, and a result in their place.
 -- Assumes nothing.
+use Rattle.std.specs.Prelude.{Ok, Err}
 use mathlib.Core.Path.{◌≡◌, refl, sym, ap, ◌∙◌, subst}
 use mathlib.Core.Bool.{Bool, true, false, not, ◌&&◌, ◌||◌, beq}
 use mathlib.Core.List.{List, [], ◌∷◌}
@@ -16,11 +17,8 @@ use Rattle.store.specs.Rep.{bit}
 use Rattle.machine.specs.Operands.{Scalar, an_integer, a_boolean, OneLogicalIs, TwoLogicalIs, FetchesOneLogical, FetchesTwoLogical, Replaces}
 use Rattle.machine.specs.Room.{lent, DoesStack}
 use Rattle.machine.specs.declared.Machine.{Machine}
-use Rattle.machine.specs.declared.Did.TheVariants.{Ok, Fail}
-use Rattle.machine.specs.declared.OneLogical.{OneLogical}
-use Rattle.machine.specs.declared.OneLogical.TheVariants as OneL
-use Rattle.machine.specs.declared.TwoLogical.{TwoLogical}
-use Rattle.machine.specs.declared.TwoLogical.TheVariants as TwoL
+use Rattle.machine.specs.Answers.{OneLogical}
+use Rattle.machine.specs.Answers.{TwoLogical}
 use Rattle.machine.proofs.Operands.{pop1_some, pop2_some}
 use Rattle.machine.proofs.Rooms.{fitted_fails}
 use Rattle.machine.proofs.Results.{result_fits}
@@ -71,7 +69,7 @@ module _ (f : ℕ → ℕ → ℕ) (g : Bool → Bool → Bool) where
 
   module _ {m : Machine} {st : List ℕ} {r : TwoLogical} (F : FetchesTwoLogical m st r)
       (op : Floo.Machine → Result Floo.Machine) (is : (μ : Floo.Machine) → op μ ≡ connective f g μ) where
-    pub connective_bad : {e : Error} → r ≡ TwoL.Bad e → DoesStack op m st st (Fail e)
+    pub connective_bad : {e : Error} → r ≡ Err e → DoesStack op m st st (Err e)
     connective_bad q = record {
       does = λ x d c l μ R. (fitted_fails (lent st x d c l) op μ (is μ ∙ subst (TwoLogicalIs μ) q (F.says x d c l μ R) f g), refl);
     }
@@ -113,7 +111,7 @@ truth_gives μ s = rw (pop1_some μ s)
 
 module _ {m : Machine} {st : List ℕ} {r : OneLogical} (F : FetchesOneLogical m st r)
     (op : Floo.Machine → Result Floo.Machine) (is : (μ : Floo.Machine) → op μ ≡ negation μ) where
-  pub negation_bad : {e : Error} → r ≡ OneL.Bad e → DoesStack op m st st (Fail e)
+  pub negation_bad : {e : Error} → r ≡ Err e → DoesStack op m st st (Err e)
   negation_bad q = record {
     does = λ x d c l μ R. (fitted_fails (lent st x d c l) op μ (is μ ∙ subst (OneLogicalIs μ) q (F.says x d c l μ R)), refl);
   }

@@ -1,5 +1,6 @@
 -- The shapes of the operators on integers: operands that are not there or of another kind, and a result in their place.
 -- Assumes nothing.
+use Rattle.std.specs.Prelude.{Ok, Err}
 use mathlib.Core.Path.{◌≡◌, refl, sym, ap, ◌∙◌, subst}
 use mathlib.Core.Bool.{Bool}
 use mathlib.Core.List.{List, [], ◌∷◌}
@@ -17,11 +18,8 @@ use Rattle.semantics.specs.declared.Error.TheVariants.{UndefinedResult}
 use Rattle.machine.specs.Operands.{Scalar, OneIs, TwoIs, FetchesOne, FetchesTwo, Replaces}
 use Rattle.machine.specs.Room.{lent, DoesStack}
 use Rattle.machine.specs.declared.Machine.{Machine}
-use Rattle.machine.specs.declared.Did.TheVariants.{Ok, Fail}
-use Rattle.machine.specs.declared.OneInt.{OneInt}
-use Rattle.machine.specs.declared.OneInt.TheVariants as One
-use Rattle.machine.specs.declared.TwoInts.{TwoInts}
-use Rattle.machine.specs.declared.TwoInts.TheVariants as Two
+use Rattle.machine.specs.Answers.{OneInt}
+use Rattle.machine.specs.Answers.{TwoInts}
 use Rattle.word.proofs.Words.{word_signed}
 use Rattle.machine.proofs.Outcomes.{one_fault, one_value, two_fault, two_values}
 use Rattle.machine.proofs.Naming.{integer_nameless}
@@ -38,10 +36,10 @@ Binary = ℤ → ℤ → Floo.Machine → Result Floo.Machine
 -- No two integers: the operator fails as its operands do.
 pub two_bad : (k : Binary) {m : Machine} {st : List ℕ} {r : TwoInts} {e : Error}
     → FetchesTwo m st r
-    → r ≡ Two.Bad e
+    → r ≡ Err e
     → (f : Floo.Machine → Result Floo.Machine)
     → ((μ : Floo.Machine) → f μ ≡ on_two k μ)
-    → DoesStack f m st st (Fail e)
+    → DoesStack f m st st (Err e)
 unfolding ◌>>=◌
 two_bad k {st} F q f is =
     record {
@@ -52,7 +50,7 @@ two_bad k {st} F q f is =
 -- Two integers, and a result that needs no heap.
 pub two_good : (k : Binary) {m m' : Machine} {st st' : List ℕ} {r : TwoInts} {a b t p : ℕ} {v : Value}
     → FetchesTwo m st r
-    → r ≡ Two.Got a b
+    → r ≡ Ok (a, b)
     → Replaces 2 t p m m' st st'
     → Scalar v t p
     → (f : Floo.Machine → Result Floo.Machine)
@@ -72,11 +70,11 @@ two_good k {a} {b} F q P sc f is gives =
 -- Two integers on which the operator fails.
 pub two_fails : (k : Binary) {m : Machine} {st : List ℕ} {r : TwoInts} {a b : ℕ} {e : Error}
     → FetchesTwo m st r
-    → r ≡ Two.Got a b
+    → r ≡ Ok (a, b)
     → (f : Floo.Machine → Result Floo.Machine)
     → ((μ : Floo.Machine) → f μ ≡ on_two k μ)
     → ((τ : Floo.Machine) → k (signed a) (signed b) τ ≡ fault e)
-    → DoesStack f m st st (Fail e)
+    → DoesStack f m st st (Err e)
 unfolding ◌>>=◌ int
 two_fails k {st} F q f is gives =
     record {
@@ -92,10 +90,10 @@ Unary = ℤ → Floo.Machine → Result Floo.Machine
 
 pub one_bad : (k : Unary) {m : Machine} {st : List ℕ} {r : OneInt} {e : Error}
     → FetchesOne m st r
-    → r ≡ One.Bad e
+    → r ≡ Err e
     → (f : Floo.Machine → Result Floo.Machine)
     → ((μ : Floo.Machine) → f μ ≡ on_one k μ)
-    → DoesStack f m st st (Fail e)
+    → DoesStack f m st st (Err e)
 unfolding ◌>>=◌
 one_bad k {st} F q f is =
     record {
@@ -105,7 +103,7 @@ one_bad k {st} F q f is =
 
 pub one_good : (k : Unary) {m m' : Machine} {st st' : List ℕ} {r : OneInt} {a t p : ℕ} {v : Value}
     → FetchesOne m st r
-    → r ≡ One.Got a
+    → r ≡ Ok a
     → Replaces 1 t p m m' st st'
     → Scalar v t p
     → (f : Floo.Machine → Result Floo.Machine)
@@ -125,11 +123,11 @@ one_good k {a} F q P sc f is gives =
 -- One integer on which the operator fails.
 pub one_fails : (k : Unary) {m : Machine} {st : List ℕ} {r : OneInt} {a : ℕ} {e : Error}
     → FetchesOne m st r
-    → r ≡ One.Got a
+    → r ≡ Ok a
     → (f : Floo.Machine → Result Floo.Machine)
     → ((μ : Floo.Machine) → f μ ≡ on_one k μ)
     → ((τ : Floo.Machine) → k (signed a) τ ≡ fault e)
-    → DoesStack f m st st (Fail e)
+    → DoesStack f m st st (Err e)
 unfolding ◌>>=◌ int
 one_fails k {st} F q f is gives =
     record {

@@ -10,202 +10,202 @@ ghost use Rattle.store.specs.Rep.{bit as bit_of};
 ghost use Rattle.word.specs.Answers.{place_of};
 ghost use Rattle.number_operators.specs.Pegs.{peg_name, peg_in};
 
-use machine::{Did, Machine, OneInt, OneLogical, TAG_BOOLEAN, TAG_INTEGER, TwoInts, TwoLogical};
+use machine::{Machine, OneLogical, TAG_BOOLEAN, TAG_INTEGER, TwoLogical};
 use semantics::Error;
 use word::{Place, Quotient};
 
-pub fn add(m: Machine, stack: &mut [u32]) -> Did
+pub fn add(m: Machine, stack: &mut [u32]) -> Result<Machine, Error>
     requires { 2 * m.depth ≤ length stack.old }
     ensures { DoesStack (perform (bytes "add")) m stack.old stack.new result }
 {
     match m.two_ints(stack) {
-        TwoInts::Bad(e) => Did::Fail(e),
-        TwoInts::Got(a, b) => Did::Ok(m.replace(stack, 2, TAG_INTEGER, word::add(a, b))),
+        Err(e) => Err(e),
+        Ok((a, b)) => Ok(m.replace(stack, 2, TAG_INTEGER, word::add(a, b))),
     }
 }
 
-pub fn sub(m: Machine, stack: &mut [u32]) -> Did
+pub fn sub(m: Machine, stack: &mut [u32]) -> Result<Machine, Error>
     requires { 2 * m.depth ≤ length stack.old }
     ensures { DoesStack (perform (bytes "sub")) m stack.old stack.new result }
 {
     match m.two_ints(stack) {
-        TwoInts::Bad(e) => Did::Fail(e),
-        TwoInts::Got(a, b) => Did::Ok(m.replace(stack, 2, TAG_INTEGER, word::sub(a, b))),
+        Err(e) => Err(e),
+        Ok((a, b)) => Ok(m.replace(stack, 2, TAG_INTEGER, word::sub(a, b))),
     }
 }
 
-pub fn mul(m: Machine, stack: &mut [u32]) -> Did
+pub fn mul(m: Machine, stack: &mut [u32]) -> Result<Machine, Error>
     requires { 2 * m.depth ≤ length stack.old }
     ensures { DoesStack (perform (bytes "mul")) m stack.old stack.new result }
 {
     match m.two_ints(stack) {
-        TwoInts::Bad(e) => Did::Fail(e),
-        TwoInts::Got(a, b) => Did::Ok(m.replace(stack, 2, TAG_INTEGER, word::mul(a, b))),
+        Err(e) => Err(e),
+        Ok((a, b)) => Ok(m.replace(stack, 2, TAG_INTEGER, word::mul(a, b))),
     }
 }
 
-pub fn idiv(m: Machine, stack: &mut [u32]) -> Did
+pub fn idiv(m: Machine, stack: &mut [u32]) -> Result<Machine, Error>
     requires { 2 * m.depth ≤ length stack.old }
     ensures { DoesStack (perform (bytes "idiv")) m stack.old stack.new result }
 {
     match m.two_ints(stack) {
-        TwoInts::Bad(e) => Did::Fail(e),
-        TwoInts::Got(a, b) => match word::idiv(a, b) {
-            Quotient::ZeroDivisor => Did::Fail(Error::UndefinedResult),
-            Quotient::Value(w) => Did::Ok(m.replace(stack, 2, TAG_INTEGER, w)),
+        Err(e) => Err(e),
+        Ok((a, b)) => match word::idiv(a, b) {
+            Quotient::ZeroDivisor => Err(Error::UndefinedResult),
+            Quotient::Value(w) => Ok(m.replace(stack, 2, TAG_INTEGER, w)),
         },
     }
 }
 
-pub fn rem(m: Machine, stack: &mut [u32]) -> Did
+pub fn rem(m: Machine, stack: &mut [u32]) -> Result<Machine, Error>
     requires { 2 * m.depth ≤ length stack.old }
     ensures { DoesStack (perform (bytes "mod")) m stack.old stack.new result }
 {
     match m.two_ints(stack) {
-        TwoInts::Bad(e) => Did::Fail(e),
-        TwoInts::Got(a, b) => match word::rem(a, b) {
-            Quotient::ZeroDivisor => Did::Fail(Error::UndefinedResult),
-            Quotient::Value(w) => Did::Ok(m.replace(stack, 2, TAG_INTEGER, w)),
+        Err(e) => Err(e),
+        Ok((a, b)) => match word::rem(a, b) {
+            Quotient::ZeroDivisor => Err(Error::UndefinedResult),
+            Quotient::Value(w) => Ok(m.replace(stack, 2, TAG_INTEGER, w)),
         },
     }
 }
 
-pub fn abs(m: Machine, stack: &mut [u32]) -> Did
+pub fn abs(m: Machine, stack: &mut [u32]) -> Result<Machine, Error>
     requires { 2 * m.depth ≤ length stack.old }
     ensures { DoesStack (perform (bytes "abs")) m stack.old stack.new result }
 {
     match m.one_int(stack) {
-        OneInt::Bad(e) => Did::Fail(e),
-        OneInt::Got(a) => Did::Ok(m.replace(stack, 1, TAG_INTEGER, word::abs(a))),
+        Err(e) => Err(e),
+        Ok(a) => Ok(m.replace(stack, 1, TAG_INTEGER, word::abs(a))),
     }
 }
 
-pub fn neg(m: Machine, stack: &mut [u32]) -> Did
+pub fn neg(m: Machine, stack: &mut [u32]) -> Result<Machine, Error>
     requires { 2 * m.depth ≤ length stack.old }
     ensures { DoesStack (perform (bytes "neg")) m stack.old stack.new result }
 {
     match m.one_int(stack) {
-        OneInt::Bad(e) => Did::Fail(e),
-        OneInt::Got(a) => Did::Ok(m.replace(stack, 1, TAG_INTEGER, word::neg(a))),
+        Err(e) => Err(e),
+        Ok(a) => Ok(m.replace(stack, 1, TAG_INTEGER, word::neg(a))),
     }
 }
 
-pub fn bitshift(m: Machine, stack: &mut [u32]) -> Did
+pub fn bitshift(m: Machine, stack: &mut [u32]) -> Result<Machine, Error>
     requires { 2 * m.depth ≤ length stack.old }
     ensures { DoesStack (perform (bytes "bitshift")) m stack.old stack.new result }
 {
     match m.two_ints(stack) {
-        TwoInts::Bad(e) => Did::Fail(e),
-        TwoInts::Got(a, b) => Did::Ok(m.replace(stack, 2, TAG_INTEGER, word::bitshift(a, b))),
+        Err(e) => Err(e),
+        Ok((a, b)) => Ok(m.replace(stack, 2, TAG_INTEGER, word::bitshift(a, b))),
     }
 }
 
-pub fn ones(m: Machine, stack: &mut [u32]) -> Did
+pub fn ones(m: Machine, stack: &mut [u32]) -> Result<Machine, Error>
     requires { 2 * m.depth ≤ length stack.old }
     ensures { DoesStack (perform (bytes "ones")) m stack.old stack.new result }
 {
     match m.one_int(stack) {
-        OneInt::Bad(e) => Did::Fail(e),
-        OneInt::Got(a) => Did::Ok(m.replace(stack, 1, TAG_INTEGER, word::ones(a))),
+        Err(e) => Err(e),
+        Ok(a) => Ok(m.replace(stack, 1, TAG_INTEGER, word::ones(a))),
     }
 }
 
 // lowpeg, or highpeg. Ruled out: a place of 0, and typecheck after undefinedresult.
-pub fn peg(m: Machine, stack: &mut [u32], highest: bool) -> Did
+pub fn peg(m: Machine, stack: &mut [u32], highest: bool) -> Result<Machine, Error>
     requires { 2 * m.depth ≤ length stack.old }
     ensures { DoesStack (perform (peg_name highest)) m stack.old stack.new result }
 {
     match m.one_int(stack) {
-        OneInt::Bad(e) => Did::Fail(e),
-        OneInt::Got(a) => match place(a, highest) {
-            Place::Nowhere => Did::Fail(Error::UndefinedResult),
-            Place::At(k) => Did::Ok(m.replace(stack, 1, TAG_INTEGER, k)),
+        Err(e) => Err(e),
+        Ok(a) => match place(a, highest) {
+            Place::Nowhere => Err(Error::UndefinedResult),
+            Place::At(k) => Ok(m.replace(stack, 1, TAG_INTEGER, k)),
         },
     }
 }
 
 // Of two words or two truth values. Ruled out: a truth value beside an integer, and truth values that give an integer.
-pub fn bit_and(m: Machine, stack: &mut [u32]) -> Did
+pub fn bit_and(m: Machine, stack: &mut [u32]) -> Result<Machine, Error>
     requires { 2 * m.depth ≤ length stack.old }
     ensures { DoesStack (perform (bytes "and")) m stack.old stack.new result }
 {
     match m.two_logical(stack) {
-        TwoLogical::Bad(e) => Did::Fail(e),
-        TwoLogical::Words(a, b) => Did::Ok(m.replace(stack, 2, TAG_INTEGER, word::bit_and(a, b))),
-        TwoLogical::Truths(a, b) => Did::Ok(m.replace(stack, 2, TAG_BOOLEAN, word::bit_and(a, b))),
+        Err(e) => Err(e),
+        TwoLogical::Words(a, b) => Ok(m.replace(stack, 2, TAG_INTEGER, word::bit_and(a, b))),
+        TwoLogical::Truths(a, b) => Ok(m.replace(stack, 2, TAG_BOOLEAN, word::bit_and(a, b))),
     }
 }
 
-pub fn bit_or(m: Machine, stack: &mut [u32]) -> Did
+pub fn bit_or(m: Machine, stack: &mut [u32]) -> Result<Machine, Error>
     requires { 2 * m.depth ≤ length stack.old }
     ensures { DoesStack (perform (bytes "or")) m stack.old stack.new result }
 {
     match m.two_logical(stack) {
-        TwoLogical::Bad(e) => Did::Fail(e),
-        TwoLogical::Words(a, b) => Did::Ok(m.replace(stack, 2, TAG_INTEGER, word::bit_or(a, b))),
-        TwoLogical::Truths(a, b) => Did::Ok(m.replace(stack, 2, TAG_BOOLEAN, word::bit_or(a, b))),
+        Err(e) => Err(e),
+        TwoLogical::Words(a, b) => Ok(m.replace(stack, 2, TAG_INTEGER, word::bit_or(a, b))),
+        TwoLogical::Truths(a, b) => Ok(m.replace(stack, 2, TAG_BOOLEAN, word::bit_or(a, b))),
     }
 }
 
-pub fn bit_xor(m: Machine, stack: &mut [u32]) -> Did
+pub fn bit_xor(m: Machine, stack: &mut [u32]) -> Result<Machine, Error>
     requires { 2 * m.depth ≤ length stack.old }
     ensures { DoesStack (perform (bytes "xor")) m stack.old stack.new result }
 {
     match m.two_logical(stack) {
-        TwoLogical::Bad(e) => Did::Fail(e),
-        TwoLogical::Words(a, b) => Did::Ok(m.replace(stack, 2, TAG_INTEGER, word::bit_xor(a, b))),
-        TwoLogical::Truths(a, b) => Did::Ok(m.replace(stack, 2, TAG_BOOLEAN, word::bit_xor(a, b))),
+        Err(e) => Err(e),
+        TwoLogical::Words(a, b) => Ok(m.replace(stack, 2, TAG_INTEGER, word::bit_xor(a, b))),
+        TwoLogical::Truths(a, b) => Ok(m.replace(stack, 2, TAG_BOOLEAN, word::bit_xor(a, b))),
     }
 }
 
-pub fn bit_not(m: Machine, stack: &mut [u32]) -> Did
+pub fn bit_not(m: Machine, stack: &mut [u32]) -> Result<Machine, Error>
     requires { 2 * m.depth ≤ length stack.old }
     ensures { DoesStack (perform (bytes "not")) m stack.old stack.new result }
 {
     match m.one_logical(stack) {
-        OneLogical::Bad(e) => Did::Fail(e),
-        OneLogical::Word(a) => Did::Ok(m.replace(stack, 1, TAG_INTEGER, word::bit_not(a))),
-        OneLogical::Truth(a) => Did::Ok(m.replace(stack, 1, TAG_BOOLEAN, word::bit_xor(a, 1))),
+        Err(e) => Err(e),
+        OneLogical::Word(a) => Ok(m.replace(stack, 1, TAG_INTEGER, word::bit_not(a))),
+        OneLogical::Truth(a) => Ok(m.replace(stack, 1, TAG_BOOLEAN, word::bit_xor(a, 1))),
     }
 }
 
-pub fn lt(m: Machine, stack: &mut [u32]) -> Did
+pub fn lt(m: Machine, stack: &mut [u32]) -> Result<Machine, Error>
     requires { 2 * m.depth ≤ length stack.old }
     ensures { DoesStack (perform (bytes "lt")) m stack.old stack.new result }
 {
     match m.two_ints(stack) {
-        TwoInts::Bad(e) => Did::Fail(e),
-        TwoInts::Got(a, b) => Did::Ok(m.replace(stack, 2, TAG_BOOLEAN, bit(word::lt(a, b)))),
+        Err(e) => Err(e),
+        Ok((a, b)) => Ok(m.replace(stack, 2, TAG_BOOLEAN, bit(word::lt(a, b)))),
     }
 }
 
-pub fn le(m: Machine, stack: &mut [u32]) -> Did
+pub fn le(m: Machine, stack: &mut [u32]) -> Result<Machine, Error>
     requires { 2 * m.depth ≤ length stack.old }
     ensures { DoesStack (perform (bytes "le")) m stack.old stack.new result }
 {
     match m.two_ints(stack) {
-        TwoInts::Bad(e) => Did::Fail(e),
-        TwoInts::Got(a, b) => Did::Ok(m.replace(stack, 2, TAG_BOOLEAN, bit(word::le(a, b)))),
+        Err(e) => Err(e),
+        Ok((a, b)) => Ok(m.replace(stack, 2, TAG_BOOLEAN, bit(word::le(a, b)))),
     }
 }
 
-pub fn gt(m: Machine, stack: &mut [u32]) -> Did
+pub fn gt(m: Machine, stack: &mut [u32]) -> Result<Machine, Error>
     requires { 2 * m.depth ≤ length stack.old }
     ensures { DoesStack (perform (bytes "gt")) m stack.old stack.new result }
 {
     match m.two_ints(stack) {
-        TwoInts::Bad(e) => Did::Fail(e),
-        TwoInts::Got(a, b) => Did::Ok(m.replace(stack, 2, TAG_BOOLEAN, bit(word::gt(a, b)))),
+        Err(e) => Err(e),
+        Ok((a, b)) => Ok(m.replace(stack, 2, TAG_BOOLEAN, bit(word::gt(a, b)))),
     }
 }
 
-pub fn ge(m: Machine, stack: &mut [u32]) -> Did
+pub fn ge(m: Machine, stack: &mut [u32]) -> Result<Machine, Error>
     requires { 2 * m.depth ≤ length stack.old }
     ensures { DoesStack (perform (bytes "ge")) m stack.old stack.new result }
 {
     match m.two_ints(stack) {
-        TwoInts::Bad(e) => Did::Fail(e),
-        TwoInts::Got(a, b) => Did::Ok(m.replace(stack, 2, TAG_BOOLEAN, bit(word::ge(a, b)))),
+        Err(e) => Err(e),
+        Ok((a, b)) => Ok(m.replace(stack, 2, TAG_BOOLEAN, bit(word::ge(a, b)))),
     }
 }
 

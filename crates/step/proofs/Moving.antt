@@ -1,5 +1,6 @@
 -- The definition's step, by what the runner did: from the promise of a token's function or of the topmost slot to the step's end.
 -- Assumes nothing.
+use Rattle.std.specs.Prelude.{Ok, Err}
 use mathlib.Core.Path.{◌≡◌, refl, sym, ap, ◌∙◌, subst}
 use mathlib.Core.Bool.{Bool, true, false}
 use mathlib.Core.List.{List, [], ◌∷◌}
@@ -29,8 +30,7 @@ use Rattle.machine.specs.Places.{keys}
 use Rattle.machine.specs.Rep.{Rep, Answer}
 use Rattle.machine.specs.Room.{lent}
 use Rattle.machine.specs.declared.Machine.{Machine}
-use Rattle.machine.specs.declared.Did.{Did}
-use Rattle.machine.specs.declared.Did.TheVariants.{Ok, Fail}
+use Rattle.machine.specs.Answers.{Did}
 use Rattle.machine.specs.FrameMoves.{top_frame, frame_dropped}
 use Rattle.token.specs.Lexing.{Lexes}
 use Rattle.handover.specs.Handover.{left_of, Passable, handed_over, HandedAs, MayHand, HandsOver}
@@ -118,19 +118,19 @@ pub record Ends (script : List ℕ) (σ : State) (s s' e e' d d' c c' l l' : Lis
   pub is : steps.step (lent s e d c l) script (state_of σ μ) ≡ moved (lent s e d c l) (state_of σ μ) at next (left_of μ.exec) move
   pub inside : next ≤ length script
   pub within : at ≤ length script
-  pub named : (x : Error) → did ≡ Fail x → (move.command ≡ command_text script (keys μ) command) × IsCommand script (keys μ) command
+  pub named : (x : Error) → did ≡ Err x → (move.command ≡ command_text script (keys μ) command) × IsCommand script (keys μ) command
   pub answer : Answer (λ r. Rep r s' e' d' c' l') (Rep σ.machine s' e' d' c' l' μ) did (move.result >>= room_for (lent s e d c l) μ)
 
 -- So what was tried is the definition's step, up to the error that is still to be handed over.
 pub tries_step : {script : List ℕ} {σ : State} {s s' e e' d d' c c' l l' : List ℕ} {μ : Floo.Machine} {at next : ℕ} {command : Command} (did : Did)
-    → ((x : Error) → did ≡ Fail x → (after_of σ.next command ≡ next) × Passable σ.machine e')
+    → ((x : Error) → did ≡ Err x → (after_of σ.next command ≡ next) × Passable σ.machine e')
     → Ends script σ s s' e e' d d' c c' l l' μ at next command did
     → TriedAs script σ s s' e e' d d' c c' l l' μ (ended_by σ at next command did)
 unfolding moved
 tries_step {σ = σ} {s = s} {e = e} {d = d} {c = c} {l = l} {μ = μ} {at = at} {next = next} (Ok r) P E =
     let A = E.answer in
     (A.0, E.is ∙ ended_ok (lent s e d c l) (state_of σ μ) at next (left_of μ.exec) E.move.command A.1, A.2, E.inside, E.within)
-tries_step {script} {σ} {s} {e = e} {d = d} {c = c} {l = l} {μ = μ} {at = at} {next = next} {command = command} (Fail x) P E =
+tries_step {script} {σ} {s} {e = e} {d = d} {c = c} {l = l} {μ = μ} {at = at} {next = next} {command = command} (Err x) P E =
     let A = E.answer in
     let after = (P x refl).0 in (
       E.is
@@ -215,15 +215,15 @@ module _ {script : List ℕ} {σ τ : State} {s s' e e' d d' c c' l l' : List �
 -- Whether it failed.
 abbrev failed : Did → ℕ
 failed (Ok r) = 0
-failed (Fail x) = 1
+failed (Err x) = 1
 
-pub never : {q : Machine} {x : Error} {A : Type 0} → Ok q ≡ Fail x → A
+pub never : {q : Machine} {x : Error} {A : Type 0} → Ok q ≡ Err x → A
 never u = let z : ◌≡◌ {A = ℕ} 0 1 = ap failed u in absurd (omega arith)
 
 -- The answer of what kept the words where it failed.
 pub kept_answer : (R : Machine → Floo.Machine → Type 0) (S T : Type 0) (did : Did) (q : Result Floo.Machine) → (S → T) → Answer R S did q → Answer R T did q
 kept_answer R S T (Ok r) q f A = A
-kept_answer R S T (Fail x) q f A = (A.0, f A.1)
+kept_answer R S T (Err x) q f A = (A.0, f A.1)
 
 -- ---- which step it is
 

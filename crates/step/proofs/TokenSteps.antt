@@ -1,5 +1,6 @@
 -- Steps that take a token: what the token's function promises is the definition's step.
 -- Assumes nothing.
+use Rattle.std.specs.Prelude.{Ok, Err}
 use mathlib.Core.Path.{◌≡◌, refl, sym, ap, ◌∙◌, subst}
 use mathlib.Core.Bool.{true, false}
 use mathlib.Core.List.{List, []}
@@ -21,8 +22,7 @@ use Rattle.ending.specs.declared.Command.TheVariants as command
 use Rattle.machine.specs.Places.{keys}
 use Rattle.machine.specs.Rep.{Rep, Answer}
 use Rattle.machine.specs.Room.{lent, fitted, DoesStack}
-use Rattle.machine.specs.declared.Did.{Did}
-use Rattle.machine.specs.declared.Did.TheVariants as did
+use Rattle.machine.specs.Answers.{Did}
 use Rattle.token.specs.declared.Token as scanned
 use Rattle.token.specs.Lexing.{TokenAt, Lexes, NameToken, StringToken, BraceToken, EndToken, LexedAt, fault_of}
 use Rattle.token.specs.declared.Lexed.{Lexed}
@@ -211,9 +211,9 @@ module _ (script : List ℕ) (σ : State) (none : σ.machine.frames ≡ 0) (star
       → TriedAs script σ s s' e e d d' c c' l l μ (grouped_by σ start answer)
   unfolding token_step
   group_tries (grouped.Done q after) l μ R G =
-      tries_step (did.Ok q) (λ x u. (refl, no_slot none)) (group_ends {outcome = did.Ok q} l μ G.0 R G.1 G.4 (push (array true (made μ)) G.0, G.2, G.3))
+      tries_step (Ok q) (λ x u. (refl, no_slot none)) (group_ends {outcome = Ok q} l μ G.0 R G.1 G.4 (push (array true (made μ)) G.0, G.2, G.3))
   group_tries (grouped.Fail x after) l μ R G =
-      tries_step (did.Fail x) (λ y u. (refl, no_slot none)) (group_ends {outcome = did.Fail x} l μ G.0 R G.1 G.6 (G.2, kept_words G.3 G.4 G.5))
+      tries_step (Err x) (λ y u. (refl, no_slot none)) (group_ends {outcome = Err x} l μ G.0 R G.1 G.6 (G.2, kept_words G.3 G.4 G.5))
   group_tries (grouped.Misread q f) l μ R G =
       (opens_step R G.0 ∙ ap (steps.misreads f) (unmoved_is (state_of σ μ) start), kept_words G.1 G.2 G.3, low)
 

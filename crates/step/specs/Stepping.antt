@@ -1,6 +1,6 @@
 -- A step of the runner against the definition's.
 -- Assumes nothing.
-use Rattle.std.specs.Prelude.{◌≡◌, Bool, List, ℕ, ◌+◌, ◌≤◌, ◌<◌, length, drop}
+use Rattle.std.specs.Prelude.{◌≡◌, Bool, List, ℕ, ◌+◌, ◌≤◌, ◌<◌, length, drop, Ok, Err}
 use Rattle.semantics.specs.Sizes.{script_most, fuel_most}
 use Rattle.semantics.specs.Errors.{error_text}
 use Rattle.semantics.specs.Machine as Floo
@@ -15,8 +15,7 @@ use Rattle.ending.specs.declared.Command.TheVariants.{Nothing, Taken}
 use Rattle.machine.specs.Places.{keys}
 use Rattle.machine.specs.Rep.{Rep}
 use Rattle.machine.specs.Room.{lent}
-use Rattle.machine.specs.declared.Did.{Did}
-use Rattle.machine.specs.declared.Did.TheVariants as did
+use Rattle.machine.specs.Answers.{Did}
 use Rattle.group_taking.specs.declared.Grouped.{Grouped}
 use Rattle.group_taking.specs.declared.Grouped.TheVariants as grouped
 use Rattle.handover.specs.Handover.{left_of, Passable}
@@ -96,8 +95,8 @@ ReadyToken script σ s e d c = (l : List ℕ) × Ready script σ s e d c l × (�
 -- ---- the step's end
 
 abbrev pub ended_by : State → ℕ → ℕ → Command → Did → Stepped
-ended_by σ at next command (did.Ok r) = Goes (record { machine = r; next = next; at = at; steps = σ.steps + 1 })
-ended_by σ at next command (did.Fail e) = Fails (record { machine = σ.machine; next = σ.next; at = at; steps = σ.steps + 1 }) e command
+ended_by σ at next command (Ok r) = Goes (record { machine = r; next = next; at = at; steps = σ.steps + 1 })
+ended_by σ at next command (Err e) = Fails (record { machine = σ.machine; next = σ.next; at = at; steps = σ.steps + 1 }) e command
 
 -- An error is handed over, or ends the run.
 abbrev pub handed_by : State → Error → Command → Handed → Stepped

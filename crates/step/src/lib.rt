@@ -9,7 +9,7 @@ ghost use Rattle.step.specs.Stepping.{ReadySlot, ReadyToken, TriesSlot, TriesTok
 
 use ending::Command;
 use group_taking::Grouped;
-use machine::{Did, Machine};
+use machine::{Machine};
 use semantics::{Error, Fault};
 use token::{Lexed, Token};
 
@@ -48,11 +48,11 @@ impl State {
     {
         let m = self.machine;
         match acting::act(m, stack, exec, dict, cells, log) {
-            Did::Ok(r) => self.ended(self.at, self.next, Command::Nothing, Did::Ok(r)),
+            Ok(r) => self.ended(self.at, self.next, Command::Nothing, Ok(r)),
             // no word has changed: the command is where it was
-            Did::Fail(e) => {
+            Err(e) => {
                 let failed = commands::command(m, exec, cells);
-                self.ended(self.at, self.next, failed, Did::Fail(e))
+                self.ended(self.at, self.next, failed, Err(e))
             }
         }
     }
@@ -146,19 +146,19 @@ impl State {
     }
 
     // The state after a step: the token at `at` has been taken, and the bytes from `next` on are left; or the state before it, with the step counted and `at` set.
-    fn ended(self, at: usize, next: usize, command: Command, did: Did) -> Stepped
+    fn ended(self, at: usize, next: usize, command: Command, did: Result<Machine, Error>) -> Stepped
         requires { self.steps < fuel_most }
         ensures { result ≡ ended_by self at next command did }
     {
         let m = self.machine;
         match did {
-            Did::Ok(r) => Stepped::Goes(State {
+            Ok(r) => Stepped::Goes(State {
                 machine: r,
                 next: next,
                 at: at,
                 steps: self.steps + 1,
             }),
-            Did::Fail(e) => Stepped::Fails(
+            Err(e) => Stepped::Fails(
                 State {
                     machine: m,
                     next: self.next,
@@ -177,8 +177,8 @@ impl State {
         ensures { result ≡ grouped_by self at answer }
     {
         match answer {
-            Grouped::Done(r, next) => self.ended(at, next, Command::Nothing, Did::Ok(r)),
-            Grouped::Fail(e, next) => self.ended(at, next, Command::Taken(next), Did::Fail(e)),
+            Grouped::Done(r, next) => self.ended(at, next, Command::Nothing, Ok(r)),
+            Grouped::Fail(e, next) => self.ended(at, next, Command::Taken(next), Err(e)),
             Grouped::Misread(_, f) => self.misread(at, f),
         }
     }

@@ -1,5 +1,6 @@
 -- A literal name by its slot: where it has none, the dictionary's room is tested before the stack's, and the new slot is its own.
 -- Assumes nothing.
+use Rattle.std.specs.Prelude.{Ok, Err}
 use mathlib.Core.Path.{◌≡◌, refl, sym, ap, subst}
 use mathlib.Core.Bool.{false}
 use mathlib.Core.List.{List, ◌∷◌}
@@ -16,7 +17,6 @@ use Rattle.machine.specs.Places.{keys}
 use Rattle.machine.specs.Rep.{Rep}
 use Rattle.machine.specs.Room.{lent, fitted}
 use Rattle.machine.specs.declared.Machine.{Machine}
-use Rattle.machine.specs.declared.Did.TheVariants.{Ok, Fail}
 use Rattle.machine.proofs.Items.{items_length}
 use Rattle.machine.proofs.Rooms.{room_passes, room_stack, stack_fits, exec_fits, dictionary_fits, log_fits}
 use Rattle.dictionary.specs.Names.{slot_of, Finds, Adds}
@@ -34,7 +34,7 @@ module _ {n : List ℕ} {k : ℕ} {m : Machine} {s d : List ℕ} (F : Finds m d 
     unchanged : {e c l : List ℕ} {μ : Floo.Machine} → Rep m s e d c l μ → slotted n μ.dictionary ≡ μ.dictionary
     unchanged {μ = μ} R = slotted_found n μ.dictionary (find_has R F low)
 
-    pub known_over : length s < 2 * m.depth + 2 → DoesNames (literal_taken n) m s s d d (Fail StackOverflow)
+    pub known_over : length s < 2 * m.depth + 2 → DoesNames (literal_taken n) m s s d d (Err StackOverflow)
     unfolding literal_taken fitted lent push intern with_stack with_dictionary ◌>>=◌
     known_over over = record {
       does = λ e c l μ R.
@@ -55,7 +55,7 @@ module _ {n : List ℕ} {k : ℕ} {m : Machine} {s d : List ℕ} (F : Finds m d 
   -- ---- it takes the next one
 
   module _ (high : m.names ≤ k) (most : k ≤ m.names) where
-    pub new_full : length d < 12 * m.names + 12 → DoesNames (literal_taken n) m s s d d (Fail LimitCheck)
+    pub new_full : length d < 12 * m.names + 12 → DoesNames (literal_taken n) m s s d d (Err LimitCheck)
     unfolding literal_taken fitted lent push intern with_stack with_dictionary ◌>>=◌
     new_full full = record {
       does = λ e c l μ R.
@@ -67,7 +67,7 @@ module _ {n : List ℕ} {k : ℕ} {m : Machine} {s d : List ℕ} (F : Finds m d 
       few_names : {e c l : List ℕ} {μ : Floo.Machine} → Rep m s e d c l μ → length (slotted n μ.dictionary) ≤ length d / 12
       few_names {μ = μ} R = omega (arith, slotted_missing n μ.dictionary (find_none R F high most), R.naming.many)
 
-      pub new_over : length s < 2 * m.depth + 2 → DoesNames (literal_taken n) m s s d d (Fail StackOverflow)
+      pub new_over : length s < 2 * m.depth + 2 → DoesNames (literal_taken n) m s s d d (Err StackOverflow)
       unfolding literal_taken fitted lent push intern with_stack with_dictionary ◌>>=◌
       new_over over = record {
         does = λ e c l μ R.

@@ -11,8 +11,7 @@ ghost use Rattle.taking.specs.Promises.{Bindings, NamedBindings, Names, StringOf
 ghost use Rattle.taking.specs.Flat.{Dictionary, Group, Ahead, AddsNames, AddsName, MetAt, fault_of, met_fault};
 
 use machine::{
-    BINDING_TAG, Did, ITEM_PAYLOAD, Machine, TAG_INTEGER, TAG_LITERAL, TAG_NULL, TAG_UNBOUND,
-};
+    BINDING_TAG, ITEM_PAYLOAD, Machine, TAG_INTEGER, TAG_LITERAL, TAG_NULL, TAG_UNBOUND};
 use semantics::{DICTIONARY_WIDTH, EXEC_WIDTH, Error, STACK_WIDTH};
 use token::{Lexed, Token};
 
@@ -39,14 +38,14 @@ enum Found {
 
 // An integer is pushed.
 // Ruled out: a push where the stack is full; another word than the token's.
-pub fn take_integer(m: Machine, stack: &mut [u32], w: u32) -> Did
+pub fn take_integer(m: Machine, stack: &mut [u32], w: u32) -> Result<Machine, Error>
     requires { (2 * m.depth ≤ length stack.old) × (length stack.old ≤ stack_words_most) }
     ensures { DoesStack (integer_taken w) m stack.old stack.new result }
 {
     if stack.len() < STACK_WIDTH * m.depth + STACK_WIDTH {
-        return Did::Fail(Error::StackOverflow);
+        return Err(Error::StackOverflow);
     }
-    Did::Ok(m.push_scalar(stack, TAG_INTEGER, w))
+    Ok(m.push_scalar(stack, TAG_INTEGER, w))
 }
 
 // A string is made of the `size` bytes that the token writes, whose text is at `at`, and pushed.
@@ -58,44 +57,44 @@ pub fn take_string(
     script: &[u8],
     at: usize,
     size: usize,
-) -> Did
+) -> Result<Machine, Error>
     requires { (length script.now ≤ script_most) × StringOf script.now at size × Somewhere m stack.old cells.old }
     ensures { DoesString script.now at m stack.old stack.new cells.old cells.new result }
 {
     if stack.len() < STACK_WIDTH * m.depth + STACK_WIDTH {
-        return Did::Fail(Error::StackOverflow);
+        return Err(Error::StackOverflow);
     }
     let n = size as u32;
     if elements::free_cells(m, cells) < (n + 7) / 8 + 1 {
-        return Did::Fail(Error::VmError);
+        return Err(Error::VmError);
     }
     let deeper = push_words(m, stack, TAG_NULL, 0);
     let made = elements::new_string(deeper, stack, cells, 0, n);
     strings::fill(made, stack, cells, 0, script, at);
-    Did::Ok(made)
+    Ok(made)
 }
 
 // A literal name takes a slot, if it has none, and is pushed.
 // Ruled out: stackoverflow where the dictionary is full too; a second slot for a name that has one.
-pub fn take_literal(m: Machine, stack: &mut [u32], dict: &mut [u32], name: &[u8]) -> Did
+pub fn take_literal(m: Machine, stack: &mut [u32], dict: &mut [u32], name: &[u8]) -> Result<Machine, Error>
     requires { (length name.now ≤ name_most) × Names m stack.old dict.old }
     ensures { DoesNames (literal_taken name.now) m stack.old stack.new dict.old dict.new result }
 {
     let slot = dictionary::find(m, dict, name);
     if slot < m.names {
         if stack.len() < STACK_WIDTH * m.depth + STACK_WIDTH {
-            return Did::Fail(Error::StackOverflow);
+            return Err(Error::StackOverflow);
         }
-        return Did::Ok(push_name(m, stack, slot));
+        return Ok(push_name(m, stack, slot));
     }
     if dict.len() < DICTIONARY_WIDTH * m.names + DICTIONARY_WIDTH {
-        return Did::Fail(Error::LimitCheck);
+        return Err(Error::LimitCheck);
     }
     if stack.len() < STACK_WIDTH * m.depth + STACK_WIDTH {
-        return Did::Fail(Error::StackOverflow);
+        return Err(Error::StackOverflow);
     }
     let added = dictionary::add(m, dict, name);
-    Did::Ok(push_name(added, stack, slot))
+    Ok(push_name(added, stack, slot))
 }
 
 // An executable name's binding becomes pending.
@@ -106,7 +105,7 @@ pub fn take_executable(
     dict: &[u32],
     cells: &mut [u32],
     name: &[u8],
-) -> Did
+) -> Result<Machine, Error>
     requires { (length name.now ≤ name_most) × Bindings m exec.old dict.now cells.old }
     ensures { DoesBinding (executable_taken name.now) m exec.old exec.new dict.now cells.old cells.new result }
 {
@@ -114,21 +113,21 @@ pub fn take_executable(
     if slot < m.names {
         return take_name(m, exec, dict, cells, slot);
     }
-    Did::Fail(Error::Undefined)
+    Err(Error::Undefined)
 }
 
 // The same of a name whose slot is known.
-pub fn take_name(m: Machine, exec: &mut [u32], dict: &[u32], cells: &mut [u32], slot: usize) -> Did
+pub fn take_name(m: Machine, exec: &mut [u32], dict: &[u32], cells: &mut [u32], slot: usize) -> Result<Machine, Error>
     requires { NamedBindings slot m exec.old dict.now cells.old }
     ensures { DoesNamed slot m exec.old exec.new dict.now cells.old cells.new result }
 {
     if dict[DICTIONARY_WIDTH * slot + BINDING_TAG] == TAG_UNBOUND {
-        return Did::Fail(Error::Undefined);
+        return Err(Error::Undefined);
     }
     if exec.len() < EXEC_WIDTH * m.frames + EXEC_WIDTH {
-        return Did::Fail(Error::ExecStackOverflow);
+        return Err(Error::ExecStackOverflow);
     }
-    Did::Ok(dictionary::pend_binding(m, exec, dict, cells, slot))
+    Ok(dictionary::pend_binding(m, exec, dict, cells, slot))
 }
 
 // The names of the brace group whose tokens are from `from` to `end` take slots, in reading order, those of inner groups too. Words past the names that

@@ -19,8 +19,8 @@ other-requires c = let w = other_ready c.next_frequent.ensures c.in-Other.is c.r
 pub returns-in-Ok : goal.returns-in-Ok
 returns-in-Ok c = frequent_done c.next_frequent.ensures c.in-Frequent.is c.frequent.ensures c.in-Ok.is
 
-pub returns-in-Fail : goal.returns-in-Fail
-returns-in-Fail c = frequent_failed c.next_frequent.ensures c.in-Frequent.is c.frequent.ensures c.in-Fail.is c.reset_top.ensures.words
+pub returns-in-Err : goal.returns-in-Err
+returns-in-Err c = frequent_failed c.next_frequent.ensures c.in-Frequent.is c.frequent.ensures c.in-Err.is c.reset_top.ensures.words
 
 pub returns-in-Other : goal.returns-in-Other
 returns-in-Other c = other_does c.next_frequent.ensures c.in-Other.is c.other.ensures

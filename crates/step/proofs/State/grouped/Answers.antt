@@ -8,8 +8,8 @@ pub ended-requires : goal.ended-requires
 ended-requires c = let pre = c.requires in
     pre
 
-pub ended-requires-in-Fail : goal.ended-requires-in-Fail
-ended-requires-in-Fail c = let pre = c.requires in
+pub ended-requires-in-Err : goal.ended-requires-in-Err
+ended-requires-in-Err c = let pre = c.requires in
     pre
 
 pub misread-requires : goal.misread-requires
@@ -20,9 +20,9 @@ pub returns-in-Done : goal.returns-in-Done
 returns-in-Done c = let args = c.args in
     c.ended.ensures ∙ sym (ap (grouped_by args.self args.at) c.in-Done.is)
 
-pub returns-in-Fail : goal.returns-in-Fail
-returns-in-Fail c = let args = c.args in
-    c.ended-in-Fail.ensures ∙ sym (ap (grouped_by args.self args.at) c.in-Fail.is)
+pub returns-in-Err : goal.returns-in-Err
+returns-in-Err c = let args = c.args in
+    c.ended-in-Err.ensures ∙ sym (ap (grouped_by args.self args.at) c.in-Err.is)
 
 pub returns-in-Misread : goal.returns-in-Misread
 returns-in-Misread c = let args = c.args in
