@@ -191,14 +191,12 @@ pub fn blank_from(list: &[u8], at: usize) -> usize
     requires { at ≤ length list.now }
     ensures { Ends list.now at result }
 {
-    let mut end = at;
-    while end < list.len() {
+    for end in at..list.len() {
         if list[end] == b' ' {
             return end;
         }
-        end = end + 1;
     }
-    end
+    list.len()
 }
 
 // The first of n slots that has this size and these words; n where none has.
@@ -207,14 +205,12 @@ fn first(dict: &[u32], n: usize, size: u32, words: &[u32]) -> usize
     ensures first { First dict.now n size words.now result }
     ensures upper_bound { result ≤ n }
 {
-    let mut k = 0;
-    while k < n {
+    for k in 0..n {
         if agrees(dict, DICTIONARY_WIDTH * k, size, words) {
             return k;
         }
-        k = k + 1;
     }
-    k
+    n
 }
 
 // Whether the slot at this place has this size and these words. The sizes mostly differ.
@@ -225,12 +221,10 @@ fn agrees(dict: &[u32], at: usize, size: u32, words: &[u32]) -> bool
     if dict[at] != size {
         return false;
     }
-    let mut i = 0;
-    while i < 8 {
+    for i in 0..8 {
         if dict[at + SPELLING + i] != words[i] {
             return false;
         }
-        i = i + 1;
     }
     true
 }
@@ -240,10 +234,8 @@ fn pack(name: &[u8], words: &mut [u32], at: usize)
     requires { (at + 8 ≤ length words.old) × (length words.old ≤ dictionary_words_most) }
     ensures { Packs 8 name.now at words.old words.new }
 {
-    let mut i = 0;
-    while i < 8 {
+    for i in 0..8 {
         words[at + i] = packed(name, 4 * i);
-        i = i + 1;
     }
 }
 

@@ -109,10 +109,8 @@ fn bind_elements(m: Machine, stack: &[u32], dict: &[u32], cells: &mut [u32]) -> 
 {
     let n = elements::size_of(m, stack, cells, 0);
     let mut r = m;
-    let mut q = 0;
-    while q < n {
+    for q in 0..n {
         r = bind_element(r, stack, dict, cells, q);
-        q = q + 1;
     }
     r
 }

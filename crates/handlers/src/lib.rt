@@ -141,14 +141,12 @@ fn row_among(dict: &[u32], slot: usize, list: &[u8]) -> usize
     ensures { NamesRow dict.now slot result }
 {
     let mut at = 0;
-    let mut j = 0;
-    while j < ERROR_COUNT {
+    for j in 0..ERROR_COUNT {
         let end = dictionary::blank_from(list, at);
         if dictionary::is_named(dict, slot, &list[at..end]) {
             return j;
         }
         at = end + 1;
-        j = j + 1;
     }
-    j
+    ERROR_COUNT
 }

@@ -1,4 +1,4 @@
--- `put_text` meets its contract: the loop keeps `Putting`, that the first q bytes of the text stand in front. The measure is what is left of the text.
+-- `put_text` meets its contract: the loop keeps `Putting`, that the first q bytes of the text stand in front.
 -- Assumes nothing.
 use Rattle.conversions.proofs.Putting.{Putting}
 use lib.ListN.{length}
@@ -7,6 +7,3 @@ use Rattle.conversions.proofs.put_text.Given as goal
 
 abbrev pub invariant-loop-q : goal.invariant-loop-q
 invariant-loop-q l = Putting l.text l.q l.m l.stack l.initial.cells l.cells
-
-abbrev pub decreases-loop-q : goal.decreases-loop-q
-decreases-loop-q l = length l.text - l.q

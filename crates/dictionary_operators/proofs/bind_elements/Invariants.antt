@@ -6,6 +6,3 @@ use Rattle.dictionary_operators.proofs.bind_elements.Given as goal
 
 abbrev pub invariant-loop-q : goal.invariant-loop-q
 invariant-loop-q l = Bindings l.initial.r l.stack l.dict l.initial.cells l.cells l.n l.r l.q
-
-abbrev pub decreases-loop-q : goal.decreases-loop-q
-decreases-loop-q l = l.n - l.q

@@ -29,10 +29,6 @@ overflow_add-at c = let loop = c.loop-j in
     let blank-from = c.blank_from-end in
     omega (arith, search_inside loop.invariant loop-test.true blank-from.ensures)
 
-pub loop-j-smaller : goal.loop-j-smaller
-loop-j-smaller c = let loop-test = c.loop-j-test in
-    omega (arith, loop-test.true)
-
 pub loop-j-preserved : goal.loop-j-preserved
 loop-j-preserved c = let loop = c.loop-j in
     let loop-test = c.loop-j-test in

@@ -7,6 +7,3 @@ use Rattle.handlers.proofs.row_among.Given as goal
 
 abbrev pub invariant-loop-j : goal.invariant-loop-j
 invariant-loop-j l = Searching l.list l.dict l.slot l.at l.j
-
-abbrev pub decreases-loop-j : goal.decreases-loop-j
-decreases-loop-j l = error_count - l.j

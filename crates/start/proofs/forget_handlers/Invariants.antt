@@ -7,6 +7,3 @@ use Rattle.start.proofs.forget_handlers.Given as goal
 
 abbrev pub invariant-loop-j : goal.invariant-loop-j
 invariant-loop-j l = Clearing l.initial.dict l.dict l.j
-
-abbrev pub decreases-loop-j : goal.decreases-loop-j
-decreases-loop-j l = error_count - l.j

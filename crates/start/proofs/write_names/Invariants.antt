@@ -7,6 +7,3 @@ use Rattle.start.proofs.write_names.Given as goal
 
 abbrev pub invariant-loop-k : goal.invariant-loop-k
 invariant-loop-k l = Filling l.list l.initial.dict l.dict l.at l.k
-
-abbrev pub decreases-loop-k : goal.decreases-loop-k
-decreases-loop-k l = name_count - l.k
