@@ -1,6 +1,5 @@
 -- `bind_elements` meets its contract: the loop keeps `Bindings`, that the elements before q are bound and the others as they were.
 -- Assumes nothing.
-use Prim.Native.Nat.{◌-◌}
 use Rattle.dictionary_operators.proofs.Loops.{Bindings}
 use Rattle.dictionary_operators.proofs.bind_elements.Given as goal
 

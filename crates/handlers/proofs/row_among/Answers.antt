@@ -1,5 +1,7 @@
 -- `row_among` meets its contract: the loop keeps `Searching`, that no name before is the slot's.
 -- Assumes nothing.
+use Rattle.handlers.specs.Handling.{NamesRow}
+use mathlib.Core.Path.{subst}
 use Rattle.handlers.proofs.Errors.{search_begin, search_inside, search_short, search_found, search_again, search_end}
 use native.Mathlib.Omega.{arith}
 use Rattle.handlers.proofs.row_among.Goals as goal
@@ -36,4 +38,4 @@ loop-j-preserved c = let loop = c.loop-j in
     search_again loop.invariant loop-test.true blank-from.ensures c.is_named.ensures c.if-is_named.false
 
 pub returns : goal.returns
-returns c = search_end c.loop-j.invariant c.loop-j-test.false
+returns c = subst (NamesRow _ _) (omega (arith, c.loop-j-test.false, c.loop-j.auto.j-end)) (search_end c.loop-j.invariant c.loop-j-test.false)

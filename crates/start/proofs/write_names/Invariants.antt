@@ -1,8 +1,6 @@
 -- `write_names` meets its contract: the loop keeps `Filling`, that the first k slots are right and the rest of the list has the other names.
 -- Assumes nothing.
-use Rattle.semantics.specs.Sizes.{name_count}
 use Rattle.start.proofs.Filling.{Filling}
-use Prim.Native.Nat.{◌-◌}
 use Rattle.start.proofs.write_names.Given as goal
 
 abbrev pub invariant-loop-k : goal.invariant-loop-k
