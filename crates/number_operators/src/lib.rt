@@ -12,7 +12,6 @@ ghost use Rattle.number_operators.specs.Pegs.{peg_name, peg_in};
 
 use machine::{Did, Machine, OneInt, OneLogical, TAG_BOOLEAN, TAG_INTEGER, TwoInts, TwoLogical};
 use semantics::Error;
-use word::{Place, Quotient};
 
 pub fn add(m: Machine, stack: &mut [u32]) -> Did
     requires { 2 * m.depth ≤ length stack.old }
@@ -51,8 +50,8 @@ pub fn idiv(m: Machine, stack: &mut [u32]) -> Did
     match m.two_ints(stack) {
         TwoInts::Bad(e) => Did::Fail(e),
         TwoInts::Got(a, b) => match word::idiv(a, b) {
-            Quotient::ZeroDivisor => Did::Fail(Error::UndefinedResult),
-            Quotient::Value(w) => Did::Ok(m.replace(stack, 2, TAG_INTEGER, w)),
+            None => Did::Fail(Error::UndefinedResult),
+            Some(w) => Did::Ok(m.replace(stack, 2, TAG_INTEGER, w)),
         },
     }
 }
@@ -64,8 +63,8 @@ pub fn rem(m: Machine, stack: &mut [u32]) -> Did
     match m.two_ints(stack) {
         TwoInts::Bad(e) => Did::Fail(e),
         TwoInts::Got(a, b) => match word::rem(a, b) {
-            Quotient::ZeroDivisor => Did::Fail(Error::UndefinedResult),
-            Quotient::Value(w) => Did::Ok(m.replace(stack, 2, TAG_INTEGER, w)),
+            None => Did::Fail(Error::UndefinedResult),
+            Some(w) => Did::Ok(m.replace(stack, 2, TAG_INTEGER, w)),
         },
     }
 }
@@ -118,8 +117,8 @@ pub fn peg(m: Machine, stack: &mut [u32], highest: bool) -> Did
     match m.one_int(stack) {
         OneInt::Bad(e) => Did::Fail(e),
         OneInt::Got(a) => match place(a, highest) {
-            Place::Nowhere => Did::Fail(Error::UndefinedResult),
-            Place::At(k) => Did::Ok(m.replace(stack, 1, TAG_INTEGER, k)),
+            None => Did::Fail(Error::UndefinedResult),
+            Some(k) => Did::Ok(m.replace(stack, 1, TAG_INTEGER, k)),
         },
     }
 }
@@ -209,7 +208,7 @@ pub fn ge(m: Machine, stack: &mut [u32]) -> Did
     }
 }
 
-fn place(a: u32, highest: bool) -> Place
+fn place(a: u32, highest: bool) -> Option<u32>
     ensures { place_of result ≡ peg_in highest a }
 {
     if highest {
