@@ -10,8 +10,7 @@ use Rattle.semantics.specs.Machine.{push}
 use Rattle.semantics.specs.NumberOperators.{division}
 use Rattle.semantics.specs.declared.Error.TheVariants.{UndefinedResult}
 use Rattle.word.specs.Answers.{quotient_of, divided_words}
-use Rattle.word.specs.declared.Quotient.{Quotient}
-use Rattle.word.specs.declared.Quotient.TheVariants.{Value, ZeroDivisor}
+use Rattle.std.specs.Prelude.{Option, Some, None}
 use Rattle.number_operators.proofs.Shapes.{computing}
 
 -- The words' division is the definition's, with the word put where it belongs.
@@ -23,11 +22,11 @@ through f a b τ = from (division f (signed a) (signed b))
     from (ok z) = refl
     from (fault e) = refl
 
-module _ (f : ℤ → ℤ → ℤ) (a b : ℕ) {q : Quotient} (h : quotient_of q ≡ divided_words f a b) where
-  pub undefined : q ≡ ZeroDivisor → (τ : Floo.Machine) → computing (division f) (signed a) (signed b) τ ≡ fault UndefinedResult
+module _ (f : ℤ → ℤ → ℤ) (a b : ℕ) {q : Option ℕ} (h : quotient_of q ≡ divided_words f a b) where
+  pub undefined : q ≡ None → (τ : Floo.Machine) → computing (division f) (signed a) (signed b) τ ≡ fault UndefinedResult
   unfolding ◌>>=◌
   undefined e τ = through f a b τ ∙ ap (λ r. r >>= λ w. ok (push (integer w) τ)) (sym h ∙ ap quotient_of e)
 
-  pub divided : {w : ℕ} → q ≡ Value w → (τ : Floo.Machine) → computing (division f) (signed a) (signed b) τ ≡ ok (push (integer w) τ)
+  pub divided : {w : ℕ} → q ≡ Some w → (τ : Floo.Machine) → computing (division f) (signed a) (signed b) τ ≡ ok (push (integer w) τ)
   unfolding ◌>>=◌
   divided e τ = through f a b τ ∙ ap (λ r. r >>= λ w. ok (push (integer w) τ)) (sym h ∙ ap quotient_of e)

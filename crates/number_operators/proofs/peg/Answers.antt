@@ -17,13 +17,13 @@ pub returns-in-Bad : goal.returns-in-Bad
 returns-in-Bad c = let highest = c.args.highest in
     one_bad (pegging (peg_in highest)) c.one_int.ensures.fetches_one c.in-Bad.is (perform (peg_name highest)) (peg_is highest)
 
-pub returns-in-Nowhere : goal.returns-in-Nowhere
-returns-in-Nowhere c = let highest = c.args.highest in
+pub returns-in-None : goal.returns-in-None
+returns-in-None c = let highest = c.args.highest in
     one_fails (pegging (peg_in highest)) c.one_int.ensures.fetches_one c.in-Got.is (perform (peg_name highest)) (peg_is highest)
-    (no_peg (peg_in highest) c.in-Got.a (search rules) (sym (ap place_of c.in-Nowhere.is) ∙ c.place.ensures))
+    (no_peg (peg_in highest) c.in-Got.a (search rules) (sym (ap place_of c.in-None.is) ∙ c.place.ensures))
 
-pub returns-in-At : goal.returns-in-At
-returns-in-At c = let highest = c.args.highest in
-    let told = c.in-At.is in
+pub returns-in-Some : goal.returns-in-Some
+returns-in-Some c = let highest = c.args.highest in
+    let told = c.in-Some.is in
     one_good (pegging (peg_in highest)) c.one_int.ensures.fetches_one c.in-Got.is c.replace.ensures an_integer (perform (peg_name highest)) (peg_is highest)
     (pegged (peg_in highest) c.in-Got.a (search rules) (sym (ap place_of told) ∙ c.place.ensures))

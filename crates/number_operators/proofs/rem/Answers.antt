@@ -17,8 +17,8 @@ replace-requires c = (search rules, search rules, two_low_lem c.in-Got.is c.two_
 pub returns-in-Bad : goal.returns-in-Bad
 returns-in-Bad c = two_bad (computing (division rem_z)) c.two_ints.ensures.fetches_two c.in-Bad.is (perform (bytes "mod")) mod_is
 
-pub returns-in-ZeroDivisor : goal.returns-in-ZeroDivisor
-returns-in-ZeroDivisor c = two_fails (computing (division rem_z)) c.two_ints.ensures.fetches_two c.in-Got.is (perform (bytes "mod")) mod_is (undefined rem_z c.in-Got.a c.in-Got.b c.rem.ensures c.in-ZeroDivisor.is)
+pub returns-in-None : goal.returns-in-None
+returns-in-None c = two_fails (computing (division rem_z)) c.two_ints.ensures.fetches_two c.in-Got.is (perform (bytes "mod")) mod_is (undefined rem_z c.in-Got.a c.in-Got.b c.rem.ensures c.in-None.is)
 
-pub returns-in-Value : goal.returns-in-Value
-returns-in-Value c = two_good (computing (division rem_z)) c.two_ints.ensures.fetches_two c.in-Got.is c.replace.ensures an_integer (perform (bytes "mod")) mod_is (divided rem_z c.in-Got.a c.in-Got.b c.rem.ensures c.in-Value.is)
+pub returns-in-Some : goal.returns-in-Some
+returns-in-Some c = two_good (computing (division rem_z)) c.two_ints.ensures.fetches_two c.in-Got.is c.replace.ensures an_integer (perform (bytes "mod")) mod_is (divided rem_z c.in-Got.a c.in-Got.b c.rem.ensures c.in-Some.is)
