@@ -16,6 +16,7 @@ use Rattle.semantics.specs.Steps.{room_for}
 use Rattle.semantics.specs.declared.Error.{Error}
 use Rattle.semantics.specs.declared.Error.TheVariants.{StackOverflow}
 use Rattle.machine.specs.Operands.{one_int, two_ints, one_low, two_low}
+pub use Rattle.machine.specs.Operands.{on_one, on_two}
 use Rattle.machine.specs.Rep.{Rep, Somewhere, MovesStack, MovesHeap}
 use Rattle.machine.specs.Moves.{dropped, copied, copied_over, swapped}
 use Rattle.machine.specs.Room.{lent, fitted, DoesStack, DoesHeap}
@@ -157,13 +158,6 @@ one_low_lem {n = n} q h = subst (λ r. one_low r ≤ n) q h
 
 pub two_low_lem : {r : TwoInts} {a b n : ℕ} → r ≡ Ok (a, b) → two_low r ≤ n → 2 ≤ n
 two_low_lem {n = n} q h = subst (λ r. two_low r ≤ n) q h
-
--- An operator that takes an integer, and one that takes two.
-abbrev pub on_one : (ℤ → Floo.Machine → Result Floo.Machine) → Floo.Machine → Result Floo.Machine
-on_one k μ = pop1 μ >>= λ p. int p.0 >>= λ a. k a p.1
-
-abbrev pub on_two : (ℤ → ℤ → Floo.Machine → Result Floo.Machine) → Floo.Machine → Result Floo.Machine
-on_two k μ = pop2 μ >>= λ p. int p.0 >>= λ a. int p.1 >>= λ b. k a b p.2
 
 -- Where the steps after it fail with an error, so do others that fail with it there.
 faults : {A B C : Type 0} (r : Result A) {g : A → Result B} {h : A → Result C} {e : Error}

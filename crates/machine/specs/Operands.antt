@@ -35,6 +35,13 @@ two_ints μ = do
   b ← int y
   ok (a, b, τ)
 
+-- An operator that takes an integer, and one that takes two.
+abbrev pub on_one : (ℤ → Floo.Machine → Result Floo.Machine) → Floo.Machine → Result Floo.Machine
+on_one k μ = pop1 μ >>= λ p. int p.0 >>= λ a. k a p.1
+
+abbrev pub on_two : (ℤ → ℤ → Floo.Machine → Result Floo.Machine) → Floo.Machine → Result Floo.Machine
+on_two k μ = pop2 μ >>= λ p. int p.0 >>= λ a. int p.1 >>= λ b. k a b p.2
+
 abbrev pub OneIs : Floo.Machine → OneInt → Type 0
 OneIs μ (Err e) = one_int μ ≡ fault e
 OneIs μ (Ok a) = (rest : List Value) × (μ.stack ≡ integer a ∷ rest)

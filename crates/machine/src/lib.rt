@@ -2,12 +2,13 @@
 // the definition, and the function does to that machine what its contract names.
 #![tactic(auto)]
 
-ghost use Rattle.std.specs.Prelude.{◌≡◌, ◌+◌, ◌*◌, ◌-◌, ◌≤◌, ◌<◌, length};
+ghost use Rattle.std.specs.Prelude.{◌≡◌, ◌+◌, ◌*◌, ◌-◌, ◌≤◌, ◌<◌, length, MatchResult};
 ghost use Rattle.machine.specs.Rep.{Somewhere, MovesStack, MovesHeap};
 ghost use Rattle.machine.specs.Moves.{dropped, copied, copied_over, swapped, retagged, tag_as};
 ghost use Rattle.machine.specs.FrameMoves.{Somewhere as SlotsSomewhere, MovesFrames, MovesItems, ForgetsFrame, frame_dropped, returned};
 ghost use Rattle.machine.specs.Recount.{Placed, Recounts};
 ghost use Rattle.machine.specs.Operands.{FetchesOne, FetchesTwo, one_low, two_low, FetchesOneLogical, FetchesTwoLogical, one_logical_low, two_logical_low, Replaces, Pushes};
+ghost use Rattle.semantics.specs.declared.Error.TheVariants.{StackUnderflow, StackOverflow};
 
 use heap::{FIRST_OBJECT, Lists};
 use semantics::{EXEC_WIDTH, Error, STACK_WIDTH};
@@ -93,6 +94,30 @@ pub enum Logical<T> {
 }
 
 impl Machine {
+    // Whether the stack has n items. Ruled out: the error where there are just n.
+    pub fn needs(self, n: usize) -> Result<(), Error>
+        ensures { MatchResult result (λ u. n ≤ self.depth) (λ e. (self.depth < n) × (e ≡ StackUnderflow)) }
+    {
+        if self.depth < n {
+            return Err(Error::StackUnderflow);
+        }
+        Ok(())
+    }
+
+    // Whether n items more fit onto the stack. Ruled out: the error where they just fit.
+    pub fn has_room(self, stack: &[u32], n: usize) -> Result<(), Error>
+        requires { 2 * self.depth ≤ length stack.now }
+        ensures {
+            MatchResult result (λ u. 2 * (self.depth + n) ≤ length stack.now)
+                (λ e. (length stack.now < 2 * (self.depth + n)) × (e ≡ StackOverflow))
+        }
+    {
+        if stack.len() / STACK_WIDTH - self.depth < n {
+            return Err(Error::StackOverflow);
+        }
+        Ok(())
+    }
+
     // An integer operand, or what is wrong with it.
     pub fn one_int(self, stack: &[u32]) -> Result<u32, Error>
         requires { 2 * self.depth ≤ length stack.now }
