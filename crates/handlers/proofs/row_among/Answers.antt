@@ -23,7 +23,7 @@ pub returns-then-is_named : goal.returns-then-is_named
 returns-then-is_named c = let loop = c.loop-j in
     let loop-test = c.loop-j-test in
     let blank-from = c.blank_from-end in
-    search_found loop.invariant loop-test.true blank-from.ensures c.is_named.ensures c.if-is_named.true
+    record { names_row = search_found loop.invariant loop-test.true blank-from.ensures c.is_named.ensures c.if-is_named.true; upper_bound = loop-test.true }
 
 pub overflow_add-at : goal.overflow_add-at
 overflow_add-at c = let loop = c.loop-j in
@@ -38,4 +38,4 @@ loop-j-preserved c = let loop = c.loop-j in
     search_again loop.invariant loop-test.true blank-from.ensures c.is_named.ensures c.if-is_named.false
 
 pub returns : goal.returns
-returns c = subst (NamesRow _ _) (omega (arith, c.loop-j-test.false, c.loop-j.auto.j-end)) (search_end c.loop-j.invariant c.loop-j-test.false)
+returns c = record { names_row = subst (NamesRow _ _) (omega (arith, c.loop-j-test.false, c.loop-j.auto.j-end)) (search_end c.loop-j.invariant c.loop-j-test.false); upper_bound = tt }
