@@ -14,13 +14,13 @@ returns-in-Some c = let F = find_some c.find.ensures.finds c.find.ensures.upper_
     found_good F.0 F.1 c.put_name.ensures.puts_name c.put_name.auto.stack
 
 pub returns-then-dict-m : goal.returns-then-dict-m
-returns-then-dict-m c = named_full (find_nothing c.find.ensures.finds c.in-None.is) (omega arith) (omega arith) c.if-dict-m.true
+returns-then-dict-m c = named_full (find_nothing c.find.ensures.finds c.in_default.is) (omega arith) (omega arith) c.if-dict-m.true
 
-pub overflow_cast-result : goal.overflow_cast-result
-overflow_cast-result c = omega (arith, few c.requires.2, c.if-dict-m.false)
+pub overflow_cast-m : goal.overflow_cast-m
+overflow_cast-m c = omega (arith, few c.requires.2, c.if-dict-m.false)
 
 pub put_name-requires-2 : goal.put_name-requires-2
-put_name-requires-2 c = (omega (arith, c.requires.0, c.add-r.ensures.names_value.1), added_stack (find_nothing c.find.ensures.finds c.in-None.is) (omega arith) (omega arith) c.add-r.ensures.adds c.requires.2)
+put_name-requires-2 c = (omega (arith, c.requires.0, c.add-r.ensures.names_value.1), added_stack (find_nothing c.find.ensures.finds c.in_default.is) (omega arith) (omega arith) c.add-r.ensures.adds c.requires.2)
 
 pub returns : goal.returns
-returns c = added_good (find_nothing c.find.ensures.finds c.in-None.is) (omega arith) (omega arith) c.add-r.ensures.adds c.put_name-2.ensures.puts_name c.put_name-2.auto.stack c.add-r.auto.dict
+returns c = added_good (find_nothing c.find.ensures.finds c.in_default.is) (omega arith) (omega arith) c.add-r.ensures.adds c.put_name-2.ensures.puts_name c.put_name-2.auto.stack c.add-r.auto.dict
