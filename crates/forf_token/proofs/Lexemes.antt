@@ -11,8 +11,7 @@ use borrow.Author.Tests.{le-leb, lt-leb, ne_eqb}
 use Rattle.semantics.specs.Sizes.{name_most, script_most}
 use Rattle.semantics.specs.Values.{ok, fault, ◌>>=◌, check}
 use Rattle.semantics.specs.Tokens.{starts_number}
-use Rattle.std.specs.Prelude.{Ok, Err}
-use Rattle.forf_semantics.specs.declared.Error.{Error}
+use Rattle.std.specs.Prelude.{Ok}
 use Rattle.forf_semantics.specs.Tokens.{Class, run_byte, open_brace, close_brace, other, is_end, class_of, run, lexeme, word_of, run_token, lex_as, lex}
 use Rattle.forf_semantics.specs.Tokens as tokens
 use Rattle.forf_semantics.specs.declared.Error.TheVariants.{SyntaxError}
@@ -79,9 +78,9 @@ module _ (n : List ℕ) (t : Bool) (is : t ≡ starts_number n) where
   unfolding run_token ◌>>=◌
   run_number f w g = rw (sym is ∙ f, run_token, g)
 
-  run_fault : t ≡ true → {e : Error} → tokens.number n ≡ fault e → run_token n ≡ fault e
+  run_fault : t ≡ true → tokens.number n ≡ fault SyntaxError → run_token n ≡ fault SyntaxError
   unfolding run_token ◌>>=◌
-  run_fault f {e} g = rw (sym is ∙ f, run_token, g)
+  run_fault f g = rw (sym is ∙ f, run_token, g)
 
   run_word : t ≡ false → length n ≤ name_most → run_token n ≡ ok (tokens.word n)
   unfolding run_token word_of check ◌>>=◌
@@ -126,7 +125,7 @@ module _ {script : List ℕ} {start end : ℕ} (R : RunAt script start) (e : end
       inside = h;
     }
 
-    pub number_fault_lem : t ≡ true → {e : Error} → read_number (Err e) ≡ tokens.number (between script start end) → lex (drop start script) ≡ fault e
+    pub number_fault_lem : t ≡ true → fault SyntaxError ≡ tokens.number (between script start end) → lex (drop start script) ≡ fault SyntaxError
     unfolding ◌>>=◌
     number_fault_lem f g = whole ∙ rw (run_fault (between script start end) t is f (sym g)) refl
 

@@ -22,7 +22,7 @@ use Rattle.std.specs.Result.{result_or}
 use Rattle.token.specs.Numbers.{number_is}
 use Rattle.token.specs.Numbers as numbers
 use Rattle.token.proofs.Digits.{negation_is}
-use Rattle.forf_semantics.specs.declared.Error.{Error}
+use Rattle.forf_token.specs.declared.SyntaxError.{SyntaxError as Bad}
 use Rattle.forf_semantics.specs.Errors.{Result}
 use Rattle.forf_semantics.specs.Tokens.{hexadecimal, octal, plain, form_of, numeral, magnitude, up_to, is_negative}
 use Rattle.forf_semantics.specs.Tokens as tokens
@@ -58,8 +58,8 @@ limited limit (ok n) = by (leb n limit)
 limited limit (fault e) = refl
 
 -- Floo's number; all that can be wrong with it is a syntaxerror here.
-abbrev pub renamed : Reply ℕ Fault → Reply ℕ Error
-renamed n = result_or n (Err SyntaxError)
+abbrev pub renamed : Reply ℕ Fault → Reply ℕ Bad
+renamed n = result_or n (Err (record {}))
 
 read_is : (n : Reply ℕ Fault) → read_number (renamed n) ≡ numeral (number_is n)
 unfolding numeral
@@ -112,7 +112,7 @@ whole : (s : List ℕ) (at : ℕ) → rest s at ≡ drop at s
 whole s at = take_all (length s - at) (drop at s) (omega (arith, length-drop at s))
 
 -- Its form, and what Floo's reader of digits answers for it.
-module _ (s : List ℕ) (at limit place : ℕ) (n : Reply ℕ Fault) {r : Reply ℕ Error} (is : r ≡ renamed n) where
+module _ (s : List ℕ) (at limit place : ℕ) (n : Reply ℕ Fault) {r : Reply ℕ Bad} (is : r ≡ renamed n) where
   read_form : (base prefix : ℕ) → number_is n ≡ numbers.numeral base limit place (drop (at + prefix) s)
       → (numeral (digits base 0 (drop (at + prefix) s)) >>= up_to limit) ≡ up_to_limit limit (magnitude (drop at s))
       → read_number r ≡ up_to_limit limit (magnitude (drop at s))
@@ -162,7 +162,7 @@ empty_unsigned [] h e = omega arith
 empty_unsigned (b ∷ s) h e = omega arith
 
 module _ (s : List ℕ) where
-  pub number_plain : (n : Reply ℕ Error) → (get_or s 0 0 ≡ 45 → ⊥) → read_number n ≡ up_to_limit 2147483647 (magnitude s) → read_number n ≡ tokens.number s
+  pub number_plain : (n : Reply ℕ Bad) → (get_or s 0 0 ≡ 45 → ⊥) → read_number n ≡ up_to_limit 2147483647 (magnitude s) → read_number n ≡ tokens.number s
   unfolding tokens.number up_to_limit
   number_plain n k e = e ∙ rw (tokens.number, unsigned s k) refl
 
@@ -176,6 +176,6 @@ module _ (s : List ℕ) where
     unfolding ◌>>=◌
     number_negative {n} {m} e f g z = ap ok (negation_is n m f g z) ∙ ap (λ t. t >>= λ m. ok (word (neg_ℤ (pos m)))) e ∙ signed
 
-    pub number_fault : {x : Error} → read_number (Err x) ≡ up_to_limit 2147483648 (magnitude (drop 1 s)) → read_number (Err x) ≡ tokens.number s
+    pub number_fault : fault SyntaxError ≡ up_to_limit 2147483648 (magnitude (drop 1 s)) → fault SyntaxError ≡ tokens.number s
     unfolding ◌>>=◌
     number_fault e = ap (λ t. t >>= λ m. ok (word (neg_ℤ (pos m)))) e ∙ signed

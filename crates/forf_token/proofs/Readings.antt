@@ -15,7 +15,8 @@ use Rattle.forf_semantics.specs.Tokens as tokens
 use Rattle.forf_semantics.specs.Items.{skip}
 use Rattle.forf_semantics.specs.Setup.{reading, kind_of, reading_of}
 use Rattle.forf_semantics.specs.Setup as setup
-use Rattle.forf_semantics.specs.declared.Error.{Error}
+use Rattle.forf_semantics.specs.declared.Error.TheVariants.{SyntaxError}
+use Rattle.forf_token.specs.declared.SyntaxError.{SyntaxError as Bad}
 use Rattle.forf_semantics.specs.declared.Kind.{Kind}
 use Rattle.forf_token.specs.Lexing.{Lexes}
 use Rattle.forf_token.specs.Reading.{LocatedAt, owned_by, answer_of, answer, located_is, part_of}
@@ -48,7 +49,7 @@ pub record Begun (script : List ℕ) (offset start : ℕ) : Type 0 where
   pub begins : start ≡ skip script offset
 
 module _ {script : List ℕ} {offset start : ℕ} (B : Begun script offset start) where
-  pub located_fault : {e : Error} → lex (drop start script) ≡ fault e → LocatedAt script offset (Err (Faulty e))
+  pub located_fault : {e : Bad} → lex (drop start script) ≡ fault SyntaxError → LocatedAt script offset (Err (Faulty e))
   unfolding reading is_too_long
   located_fault g =
       record {
@@ -79,7 +80,7 @@ module _ {script : List ℕ} {offset : ℕ} where
   pub told : {t : Located Kind} → LocatedAt script offset (Ok t) → answer_of offset (Ok (t.kind, t.next)) ≡ answer offset (reading script offset)
   told L = ap (answer offset) L.is
 
-  pub told_none : (e : Refused Error) → LocatedAt script offset (Err e) → answer_of offset (Err e) ≡ answer offset (reading script offset)
+  pub told_none : (e : Refused Bad) → LocatedAt script offset (Err e) → answer_of offset (Err e) ≡ answer offset (reading script offset)
   told_none TooLong L = ap (answer offset) L.is
   told_none PastEnd L = ap (answer offset) L.is
   told_none (Faulty e) L = ap (answer offset) L.is
@@ -88,7 +89,7 @@ module _ {script : List ℕ} {offset : ℕ} where
       → take (t.start + t.size - t.start) (drop t.start script) ≡ part_of script (reading script offset)
   part_is {t} L = rw (add-sub_cancel_left t.start t.size) (ap (part_of script) L.is)
 
-  pub part_none : (e : Refused Error) → LocatedAt script offset (Err e) → [] ≡ part_of script (reading script offset)
+  pub part_none : (e : Refused Bad) → LocatedAt script offset (Err e) → [] ≡ part_of script (reading script offset)
   part_none TooLong L = ap (part_of script) L.is
   part_none PastEnd L = ap (part_of script) L.is
   part_none (Faulty e) L = ap (part_of script) L.is

@@ -6,15 +6,16 @@ use Rattle.semantics.specs.Sizes.{script_most}
 use Rattle.forf_semantics.specs.Errors.{Result}
 use Rattle.forf_semantics.specs.Tokens.{is_end, up_to, lexeme, lex}
 use Rattle.forf_semantics.specs.Tokens as tokens
-use Rattle.forf_semantics.specs.declared.Error.{Error}
+use Rattle.forf_semantics.specs.declared.Error.TheVariants.{SyntaxError}
+use Rattle.forf_token.specs.declared.SyntaxError.{SyntaxError as Bad}
 use Rattle.forf_token.specs.declared.Token.{Token}
 use Rattle.forf_token.specs.declared.Token.TheVariants.{Integer, Word, OpenBrace, CloseBrace, End}
 
 -- ---- numbers
 
-abbrev pub read_number : Reply ℕ Error → Result ℕ
+abbrev pub read_number : Reply ℕ Bad → Result ℕ
 read_number (Ok w) = ok w
-read_number (Err e) = fault e
+read_number (Err e) = fault SyntaxError
 
 unfoldable pub up_to_limit : ℕ → Result ℕ → Result ℕ
 up_to_limit limit r = r >>= up_to limit
@@ -35,9 +36,9 @@ pub record Lexes (script : List ℕ) (start : ℕ) (t : Token) (next : ℕ) : Ty
   pub later : start ≤ next
   pub inside : next ≤ length script
 
-abbrev pub LexedAt : List ℕ → ℕ → Reply (Token × ℕ) Error → Type 0
+abbrev pub LexedAt : List ℕ → ℕ → Reply (Token × ℕ) Bad → Type 0
 LexedAt script start (Ok (t, next)) = Lexes script start t next
-LexedAt script start (Err e) = lex (drop start script) ≡ fault e
+LexedAt script start (Err e) = lex (drop start script) ≡ fault SyntaxError
 
 -- A byte stands at `start` that ends no token.
 pub record RunAt (script : List ℕ) (start : ℕ) : Type 0 where

@@ -4,7 +4,8 @@ use Rattle.std.specs.Prelude.{◌≡◌, List, [], ℕ, ◌+◌, ◌-◌, ◌≤
 use Rattle.forf_semantics.specs.Errors.{error_text}
 use Rattle.forf_semantics.specs.Setup.{kind_text}
 use Rattle.forf_semantics.specs.Setup as setup
-use Rattle.forf_semantics.specs.declared.Error.{Error}
+use Rattle.forf_semantics.specs.declared.Error.TheVariants.{SyntaxError}
+use Rattle.forf_token.specs.declared.SyntaxError.{SyntaxError as Bad}
 use Rattle.forf_semantics.specs.declared.Kind.{Kind}
 use Rattle.forf_semantics.specs.declared.Kind.TheVariants as kind
 use Rattle.token.specs.declared.Refused.{Refused}
@@ -25,10 +26,10 @@ pub record Answer : Type 0 where
   pub next : ℕ
 
 -- What the code's answer means.
-abbrev pub answer_of : ℕ → Result (Kind × ℕ) (Refused Error) → Answer
+abbrev pub answer_of : ℕ → Result (Kind × ℕ) (Refused Bad) → Answer
 answer_of offset (Err TooLong) = record { verdict = refused 1; next = offset }
 answer_of offset (Err PastEnd) = record { verdict = refused 10; next = offset }
-answer_of offset (Err (Faulty e)) = record { verdict = faulty (error_text e); next = offset }
+answer_of offset (Err (Faulty e)) = record { verdict = faulty (error_text SyntaxError); next = offset }
 answer_of offset (Ok (k, n)) = record { verdict = token (kind_text k); next = n }
 
 -- What the definition's reading says.
@@ -44,17 +45,17 @@ part_of script (setup.faulty e) = []
 part_of script (setup.read k n start size) = take size (drop start script)
 
 -- The whole reading, as the code holds it.
-abbrev pub located_is : Result (Located Kind) (Refused Error) → setup.Reading
+abbrev pub located_is : Result (Located Kind) (Refused Bad) → setup.Reading
 located_is (Err TooLong) = setup.refused 1
 located_is (Err PastEnd) = setup.refused 10
-located_is (Err (Faulty e)) = setup.faulty e
+located_is (Err (Faulty e)) = setup.faulty SyntaxError
 located_is (Ok t) = setup.read t.kind t.next t.start t.size
 
-abbrev pub Within : ℕ → Result (Located Kind) (Refused Error) → Type 0
+abbrev pub Within : ℕ → Result (Located Kind) (Refused Bad) → Type 0
 Within n (Ok t) = t.start + t.size ≤ n
 Within n (Err e) = Unit {0}
 
-pub record LocatedAt (script : List ℕ) (offset : ℕ) (r : Result (Located Kind) (Refused Error)) : Type 0 where
+pub record LocatedAt (script : List ℕ) (offset : ℕ) (r : Result (Located Kind) (Refused Bad)) : Type 0 where
   pub is : located_is r ≡ setup.reading script offset
   pub inside : Within (length script) r
 

@@ -12,7 +12,7 @@ ghost use Rattle.forf_token.specs.Skips.{SkipsAt};
 ghost use Rattle.forf_token.specs.Lexing.{LexedAt, RunAt, read_number, up_to_limit};
 ghost use Rattle.forf_token.specs.Reading.{LocatedAt, owned_by, answer_of, answer, part_of};
 
-use forf_semantics::{Error, Kind};
+use forf_semantics::Kind;
 use semantics::{NAME_MOST, SCRIPT_MOST};
 use token::is_space;
 pub use token::{Located, Refused};
@@ -27,6 +27,10 @@ pub enum Token {
     End,
 }
 
+// The paper's syntaxerror, which is all that can be wrong with a token.
+#[derive(Clone, Copy, PartialEq, Eq, Debug)]
+pub struct SyntaxError;
+
 // The greatest number after a minus sign, and the greatest without.
 const NEGATIVE_LIMIT: u64 = 2147483648;
 
@@ -34,7 +38,7 @@ const PLAIN_LIMIT: u64 = 2147483647;
 
 // The kind of the next token from `offset` on, and the offset after it.
 // Ruled out: a reader that refuses the offset at the very end; one that answers an integer for 08 or 2147483648.
-pub fn read(script: &[u8], offset: usize) -> Result<(Kind, usize), Refused<Error>>
+pub fn read(script: &[u8], offset: usize) -> Result<(Kind, usize), Refused<SyntaxError>>
     ensures { answer_of offset result ≡ answer offset (setup.reading script.now offset) }
 {
     let token = locate(script, offset)?;
@@ -54,7 +58,7 @@ pub fn part(script: &[u8], offset: usize) -> &[u8]
 
 // The definition's reading, whole: the kind, the offset after it, and where the token's own bytes are, for a caller that can be handed no slice.
 // Ruled out: a comment taken for a token's bytes; an end whose part begins at the offset given and not at the length.
-pub fn locate(script: &[u8], offset: usize) -> Result<Located<Kind>, Refused<Error>>
+pub fn locate(script: &[u8], offset: usize) -> Result<Located<Kind>, Refused<SyntaxError>>
     ensures { LocatedAt script.now offset result }
 {
     if SCRIPT_MOST < script.len() {
@@ -84,7 +88,7 @@ pub fn skip(script: &[u8], at: usize) -> usize
 
 // The token at `start`, as the definition's `lex` reads it there.
 // Ruled out: a word of 32 bytes; -2147483649 wrapped to 2147483647; a parenthesis inside a word.
-pub fn token_at(script: &[u8], start: usize) -> Result<(Token, usize), Error>
+pub fn token_at(script: &[u8], start: usize) -> Result<(Token, usize), SyntaxError>
     requires { (start ≤ length script.now) × (length script.now ≤ script_most) }
     ensures { LexedAt script.now start result }
 {
@@ -101,11 +105,11 @@ pub fn token_at(script: &[u8], start: usize) -> Result<(Token, usize), Error>
     if b == b'}' {
         return Ok((Token::CloseBrace, start + 1));
     }
-    Err(Error::SyntaxError)
+    Err(SyntaxError)
 }
 
 // The integer or the word that begins at a byte that ends no token.
-fn run_at(script: &[u8], start: usize) -> Result<(Token, usize), Error>
+fn run_at(script: &[u8], start: usize) -> Result<(Token, usize), SyntaxError>
     requires { RunAt script.now start }
     ensures { LexedAt script.now start result }
 {
@@ -116,13 +120,13 @@ fn run_at(script: &[u8], start: usize) -> Result<(Token, usize), Error>
         return Ok((Token::Integer(w), end));
     }
     if NAME_MOST < end - start {
-        return Err(Error::SyntaxError);
+        return Err(SyntaxError);
     }
     Ok((Token::Word, end))
 }
 
 // The 32 bits of a run that starts as a number does.
-fn number_of(s: &[u8]) -> Result<u32, Error>
+fn number_of(s: &[u8]) -> Result<u32, SyntaxError>
     requires { length s.now ≤ script_most }
     ensures { read_number result ≡ tokens.number s.now }
 {
@@ -134,7 +138,7 @@ fn number_of(s: &[u8]) -> Result<u32, Error>
 }
 
 // The number that a run writes from `at` on, its sign being passed: 0xC, 014 or 12, at most the limit. Whatever is wrong with it is a syntaxerror.
-fn magnitude(s: &[u8], at: usize, limit: u64) -> Result<u32, Error>
+fn magnitude(s: &[u8], at: usize, limit: u64) -> Result<u32, SyntaxError>
     requires { (at ≤ length s.now) × (length s.now ≤ script_most) × (limit ≤ 2147483648) }
     ensures { read_number result ≡ up_to_limit limit (tokens.magnitude (drop at s.now)) }
 {
@@ -143,7 +147,7 @@ fn magnitude(s: &[u8], at: usize, limit: u64) -> Result<u32, Error>
         [b'0', _, ..] => (8, 1),
         _ => (10, 0),
     };
-    token::numeral_at(s, 0, at + prefix, base, limit).or(Err(Error::SyntaxError))
+    token::numeral_at(s, 0, at + prefix, base, limit).or(Err(SyntaxError))
 }
 
 // A token's kind and its own bytes, for one from `start` to `next`.

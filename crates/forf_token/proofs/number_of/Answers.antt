@@ -14,7 +14,7 @@ returns-then-is_empty c =
     ]
 
 pub returns-in_err-n : goal.returns-in_err-n
-returns-in_err-n c = let p = err_from_is_err_and c.from_residual.result c.from_residual.ensures.1 in rw (p.1, p.2)
+returns-in_err-n c = let p = err_from_is_err_and c.from_residual.result c.from_residual.ensures.1 in rw p.1
     (number_fault c.args.s.now (grind arith) c.if-s-ne45.false c.in_err-n.ensures)
 
 pub returns : goal.returns

@@ -5,7 +5,7 @@ use Rattle.forf_token.proofs.Lexemes.{integer_token, number_fault_lem, word_toke
 use Rattle.forf_token.proofs.run_at.Goals as goal
 
 pub returns-in_err-w : goal.returns-in_err-w
-returns-in_err-w c = let p = err_from_is_err_and c.from_residual.result c.from_residual.ensures.1 in rw (p.1, p.2)
+returns-in_err-w c = let p = err_from_is_err_and c.from_residual.result c.from_residual.ensures.1 in rw p.1
     (number_fault_lem c.requires c.run_end-end.ensures.value c.run_end-end.ensures.upper_bound _ c.starts_number.ensures c.if-starts_number.true c.in_err-w.ensures)
 
 pub returns-then-starts_number : goal.returns-then-starts_number
