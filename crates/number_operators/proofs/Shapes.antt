@@ -24,22 +24,12 @@ use Rattle.machine.specs.Rep.{Rep, Answer}
 use Rattle.machine.specs.declared.Machine.{Machine}
 use Rattle.machine.specs.Answers.{Did, OneInt, TwoInts}
 use Rattle.word.proofs.Words.{word_signed}
+pub use Rattle.machine.proofs.Outcomes.{named}
 use Rattle.machine.proofs.Outcomes.{one_fault, one_value, two_fault, two_values}
 use Rattle.machine.proofs.Naming.{integer_nameless}
 use Rattle.machine.proofs.Rooms.{fitted_fails}
 use Rattle.machine.proofs.Results.{result_fits}
 use Rattle.number_operators.specs.Steps.{Leads, StepsOne, StepsTwo}
-
--- An operator of another name that does the same.
-pub named : {f g : Floo.Machine → Result Floo.Machine} {m : Machine} {s s' : List ℕ} {r : Did}
-    → ((μ : Floo.Machine) → f μ ≡ g μ)
-    → DoesStack g m s s' r
-    → DoesStack f m s s' r
-unfolding fitted
-named {s} {s'} {r} is D =
-    record {
-      does = λ e d c l μ R. subst (λ q. Answer (λ m'. Rep m' s' e d c l) (s' ≡ s) r (fitted (lent s e d c l) (λ τ. q) μ)) (sym (is μ)) (D.does e d c l μ R);
-    }
 
 -- ---- two integers
 
