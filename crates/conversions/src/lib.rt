@@ -74,10 +74,8 @@ fn put_text(m: Machine, stack: &[u32], cells: &mut [u32], text: &[u8])
     requires { (2 ≤ m.depth) × (length text.now ≤ name_most) × SomewhereThat (HasBytes 0 0 (length text.now)) m stack.now cells.old }
     ensures { MovesHeap (bytes_filled 0 text.now) m m stack.now stack.now cells.old cells.new }
 {
-    let mut q = 0;
-    while q < text.len() {
+    for q in 0..text.len() {
         elements::put_byte(m, stack, cells, 0, q as u32, text[q]);
-        q = q + 1;
     }
 }
 
@@ -133,10 +131,8 @@ fn read_name(dict: &[u32], slot: usize, out: &mut [u8]) -> usize
     ensures upper_bound { result ≤ name_most }
 {
     let n = names::name_size(dict, slot);
-    let mut j = 0;
-    while j < n {
+    for j in 0..n {
         out[j] = names::name_byte(dict, slot, j);
-        j = j + 1;
     }
     n
 }

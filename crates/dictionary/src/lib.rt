@@ -2,7 +2,7 @@
 // does to the machine of the definition what its contract names.
 #![tactic(auto)]
 
-ghost use Rattle.std.specs.Prelude.{◌≡◌, ◌+◌, ◌*◌, ◌≤◌, ◌<◌, length, get_or};
+ghost use Rattle.std.specs.Prelude.{◌≡◌, ◌+◌, ◌*◌, ◌≤◌, ◌<◌, length, get_or, unwrap_or, IfSome};
 ghost use Rattle.machine.specs.Words.{binding_tag, binding_payload};
 ghost use Rattle.semantics.specs.Sizes.{name_most, dictionary_words_most};
 ghost use Rattle.dictionary.specs.Names.{Finds, Adds};
@@ -16,12 +16,12 @@ use machine::{
     TAG_LITERAL, TAG_NULL, TAG_UNBOUND};
 use semantics::{DICTIONARY_WIDTH, EXEC_WIDTH, STACK_WIDTH};
 
-// The slot of a name; the number of slots where it has none. The name is packed once, so that a slot takes a comparison of words and none of bytes.
+// The slot of a name, if it has one. The name is packed once, so that a slot takes a comparison of words and none of bytes.
 // Ruled out: a name taken for a longer one that starts like it; a slot past the last one.
-pub fn find(m: Machine, dict: &[u32], name: &[u8]) -> usize
+pub fn find(m: Machine, dict: &[u32], name: &[u8]) -> Option<usize>
     requires { (length name.now ≤ name_most) × (12 * m.names ≤ length dict.now) × (length dict.now ≤ dictionary_words_most) }
-    ensures finds { Finds m dict.now name.now result }
-    ensures upper_bound { result ≤ m.names }
+    ensures finds { Finds m dict.now name.now (unwrap_or result m.names) }
+    ensures upper_bound { IfSome result (λ k. k < m.names) }
 {
     let mut words = [0u32; 8];
     pack(name, &mut words, 0);
@@ -191,30 +191,26 @@ pub fn blank_from(list: &[u8], at: usize) -> usize
     requires { at ≤ length list.now }
     ensures { Ends list.now at result }
 {
-    let mut end = at;
-    while end < list.len() {
+    for end in at..list.len() {
         if list[end] == b' ' {
             return end;
         }
-        end = end + 1;
     }
-    end
+    list.len()
 }
 
-// The first of n slots that has this size and these words; n where none has.
-fn first(dict: &[u32], n: usize, size: u32, words: &[u32]) -> usize
+// The first of n slots that has this size and these words.
+fn first(dict: &[u32], n: usize, size: u32, words: &[u32]) -> Option<usize>
     requires { (12 * n ≤ length dict.now) × (length dict.now ≤ dictionary_words_most) × (length words.now ≡ 8) }
-    ensures first { First dict.now n size words.now result }
-    ensures upper_bound { result ≤ n }
+    ensures first { First dict.now n size words.now (unwrap_or result n) }
+    ensures upper_bound { IfSome result (λ k. k < n) }
 {
-    let mut k = 0;
-    while k < n {
+    for k in 0..n {
         if agrees(dict, DICTIONARY_WIDTH * k, size, words) {
-            return k;
+            return Some(k);
         }
-        k = k + 1;
     }
-    k
+    None
 }
 
 // Whether the slot at this place has this size and these words. The sizes mostly differ.
@@ -225,12 +221,10 @@ fn agrees(dict: &[u32], at: usize, size: u32, words: &[u32]) -> bool
     if dict[at] != size {
         return false;
     }
-    let mut i = 0;
-    while i < 8 {
+    for i in 0..8 {
         if dict[at + SPELLING + i] != words[i] {
             return false;
         }
-        i = i + 1;
     }
     true
 }
@@ -240,10 +234,8 @@ fn pack(name: &[u8], words: &mut [u32], at: usize)
     requires { (at + 8 ≤ length words.old) × (length words.old ≤ dictionary_words_most) }
     ensures { Packs 8 name.now at words.old words.new }
 {
-    let mut i = 0;
-    while i < 8 {
+    for i in 0..8 {
         words[at + i] = packed(name, 4 * i);
-        i = i + 1;
     }
 }
 

@@ -91,15 +91,14 @@ fn name_item(m: Machine, stack: &mut [u32], dict: &mut [u32], cells: &mut [u32],
     requires { (1 ≤ m.depth) × (length name.now ≤ name_most) × Represented m stack.old dict.old cells.old }
     ensures { DoesDictionary (item_named name.now) m stack.old stack.new dict.old dict.new cells.old cells.new result }
 {
-    let slot = dictionary::find(m, dict, name);
-    if slot < m.names {
+    if let Some(slot) = dictionary::find(m, dict, name) {
         return Ok(dictionary::put_name(m, stack, cells, slot as u32, 0));
     }
     if dict.len() < DICTIONARY_WIDTH * m.names + DICTIONARY_WIDTH {
         return Err(Error::LimitCheck);
     }
     let r = dictionary::add(m, dict, name);
-    Ok(dictionary::put_name(r, stack, cells, slot as u32, 0))
+    Ok(dictionary::put_name(r, stack, cells, m.names as u32, 0))
 }
 
 // Each element of the procedure that is item 0 is bound.
@@ -109,10 +108,8 @@ fn bind_elements(m: Machine, stack: &[u32], dict: &[u32], cells: &mut [u32]) -> 
 {
     let n = elements::size_of(m, stack, cells, 0);
     let mut r = m;
-    let mut q = 0;
-    while q < n {
+    for q in 0..n {
         r = bind_element(r, stack, dict, cells, q);
-        q = q + 1;
     }
     r
 }

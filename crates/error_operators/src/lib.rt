@@ -8,7 +8,7 @@ ghost use Rattle.dictionary_operators.specs.Promises.{Represented, DoesDictionar
 ghost use Rattle.error_operators.specs.Noting.{NotedStack, PushesNoted};
 
 use machine::{ITEM_PAYLOAD, LATEST_COMMAND, LATEST_ERROR, Machine, TAG_LITERAL, TAG_NULL};
-use semantics::{ERROR_COUNT, Error, STACK_WIDTH};
+use semantics::{Error, STACK_WIDTH};
 
 // Ruled out: a name that is no error's taken; the operands left on the stack, or the object let go with them.
 pub fn onerror(m: Machine, stack: &[u32], dict: &mut [u32], cells: &mut [u32]) -> Result<Machine, Error>
@@ -23,10 +23,9 @@ pub fn onerror(m: Machine, stack: &[u32], dict: &mut [u32], cells: &mut [u32]) -
         return Err(Error::TypeCheck);
     }
     let slot = stack[i + ITEM_PAYLOAD];
-    let row = handlers::row_named(dict, slot as usize);
-    if ERROR_COUNT <= row {
+    let Some(row) = handlers::row_named(dict, slot as usize) else {
         return Err(Error::RangeCheck);
-    }
+    };
     let bound = handlers::bind_handler(m, stack, dict, cells, row, slot, 0);
     let one = bound.drop(stack, cells);
     Ok(one.drop(stack, cells))

@@ -2,7 +2,7 @@
 // the latest error. Each function keeps `Rep`, and does to the machine of the definition what its contract names.
 #![tactic(auto)]
 
-ghost use Rattle.std.specs.Prelude.{◌≡◌, ◌+◌, ◌*◌, ◌≤◌, ◌<◌, length};
+ghost use Rattle.std.specs.Prelude.{◌≡◌, ◌+◌, ◌*◌, ◌≤◌, ◌<◌, length, unwrap_or, IfSome};
 ghost use Rattle.semantics.specs.Sizes.{operator_count, error_count, dictionary_words_most};
 ghost use Rattle.semantics.specs.Errors.{error_names};
 ghost use Rattle.semantics.specs.ErrorLaws.{error_row};
@@ -37,11 +37,12 @@ pub fn row_of(e: Error) -> usize
     }
 }
 
-// The row of the error whose name has the slot; the number of rows where the name is no error's.
+// The row of the error whose name has the slot, if the name is an error's.
 // Ruled out: `vmerror` taken for VMerror; a name that starts like an error's.
-pub fn row_named(dict: &[u32], slot: usize) -> usize
+pub fn row_named(dict: &[u32], slot: usize) -> Option<usize>
     requires { (12 * slot + 12 ≤ length dict.now) × (length dict.now ≤ dictionary_words_most) }
-    ensures { NamesRow dict.now slot result }
+    ensures names_row { NamesRow dict.now slot (unwrap_or result error_count) }
+    ensures upper_bound { IfSome result (λ j. j < error_count) }
 {
     row_among(
         dict,
@@ -136,19 +137,18 @@ pub fn note(dict: &mut [u32], error: u32, command: u32)
 }
 
 // The first row whose name in the list, which a blank ends, is the slot's.
-fn row_among(dict: &[u32], slot: usize, list: &[u8]) -> usize
+fn row_among(dict: &[u32], slot: usize, list: &[u8]) -> Option<usize>
     requires { (list.now ≡ listed error_names) × (12 * slot + 12 ≤ length dict.now) × (length dict.now ≤ dictionary_words_most) }
-    ensures { NamesRow dict.now slot result }
+    ensures names_row { NamesRow dict.now slot (unwrap_or result error_count) }
+    ensures upper_bound { IfSome result (λ j. j < error_count) }
 {
     let mut at = 0;
-    let mut j = 0;
-    while j < ERROR_COUNT {
+    for j in 0..ERROR_COUNT {
         let end = dictionary::blank_from(list, at);
         if dictionary::is_named(dict, slot, &list[at..end]) {
-            return j;
+            return Some(j);
         }
         at = end + 1;
-        j = j + 1;
     }
-    j
+    None
 }

@@ -172,10 +172,8 @@ pub fn allocate(s: Lists, m: &mut [u32], kind: u32, n: u32) -> Taken
     let t = new_header(s, m, kind);
     let h = t.cell;
     let mut r = t.lists;
-    let mut i: u32 = 0;
-    while i < n {
+    for i in 0..n {
         r = prepend(r, m, h);
-        i += 1;
     }
     Taken { cell: h, lists: r }
 }
@@ -229,16 +227,13 @@ fn take(s: Lists, m: &[u32]) -> Taken
     ensures { (result.lists.listed + s.edge + 1 ≡ s.listed + result.lists.edge) × Took s m.now result.cell result.lists × (result.lists.dead ≡ s.dead) }
 {
     if s.listed == 0 {
-        let lists = Lists {
-            free: s.free,
-            listed: 0,
-            edge: s.edge + 1,
-            work: s.work,
-            dead: s.dead,
-        };
         Taken {
             cell: s.edge,
-            lists,
+            lists: Lists {
+                listed: 0,
+                edge: s.edge + 1,
+                ..s
+            },
         }
     } else {
         let c = s.free;
@@ -246,9 +241,7 @@ fn take(s: Lists, m: &[u32]) -> Taken
         let lists = Lists {
             free: next,
             listed: s.listed - 1,
-            edge: s.edge,
-            work: s.work,
-            dead: s.dead,
+            ..s
         };
         Taken { cell: c, lists }
     }
@@ -336,11 +329,9 @@ fn decrement(s: Lists, m: &mut [u32], o: u32) -> Lists
     if count == 1 {
         put(m, o, 2, s.work);
         Lists {
-            free: s.free,
-            listed: s.listed,
-            edge: s.edge,
             work: o,
             dead: s.dead + 1,
+            ..s
         }
     } else {
         put(m, o, 2, count - 1);
@@ -370,11 +361,9 @@ fn free_header(s: Lists, m: &mut [u32]) -> Lists
     let d = s.work;
     let next = get(m, d, 2);
     let t = Lists {
-        free: s.free,
-        listed: s.listed,
-        edge: s.edge,
         work: next,
         dead: s.dead - 1,
+        ..s
     };
     put(m, d, 3, 0);
     free_cell(t, m, d)
@@ -420,8 +409,6 @@ fn free_cell(s: Lists, m: &mut [u32], c: u32) -> Lists
     Lists {
         free: c,
         listed: s.listed + 1,
-        edge: s.edge,
-        work: s.work,
-        dead: s.dead,
+        ..s
     }
 }

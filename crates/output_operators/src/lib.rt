@@ -90,8 +90,7 @@ fn stack_fits(m: Machine, stack: &[u32], dict: &[u32], cells: &[u32], room: usiz
     ensures { FitsLine m stack.now dict.now cells.now room result }
 {
     let mut sum = 0;
-    let mut i = 0;
-    while i < m.depth {
+    for i in 0..m.depth {
         let tag = stack[STACK_WIDTH * i];
         let pay = stack[STACK_WIDTH * i + ITEM_PAYLOAD];
         let left = room - sum;
@@ -100,7 +99,6 @@ fn stack_fits(m: Machine, stack: &[u32], dict: &[u32], cells: &[u32], room: usiz
             return false;
         }
         sum = sum + k + 1;
-        i = i + 1;
     }
     true
 }
@@ -111,13 +109,11 @@ fn write_stack(m: Machine, stack: &[u32], dict: &[u32], cells: &[u32], log: &mut
     ensures { WritesLine m stack.now dict.now cells.now log.old log.new result }
 {
     let mut next = m.written;
-    let mut i = 0;
-    while i < m.depth {
+    for i in 0..m.depth {
         let tag = stack[STACK_WIDTH * i];
         let pay = stack[STACK_WIDTH * i + ITEM_PAYLOAD];
         next = printing::write(dict, cells, log, next, tag, pay, LEVELS);
-        i = i + 1;
-        log[next] = feed(m.depth - i);
+        log[next] = feed(m.depth - (i + 1));
         next = next + 1;
     }
     next
@@ -139,10 +135,8 @@ fn copy_current(m: Machine, stack: &[u32], cells: &[u32], log: &mut [u8], n: u32
     ensures { CopiesCurrent m stack.now cells.now log.old log.new n }
 {
     let at = m.written;
-    let mut q = 0;
-    while q < n {
+    for q in 0..n {
         let b = elements::get_byte(m, stack, cells, 0, q);
         log[at + (q as usize)] = b;
-        q = q + 1;
     }
 }

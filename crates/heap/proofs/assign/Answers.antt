@@ -4,7 +4,6 @@ use mathlib.Core.Path.{refl, ◌∙◌}
 use native.Mathlib.Omega.{arith}
 use Rattle.heap.proofs.Shapes.{room}
 use Rattle.heap.proofs.Assigning.{swaps, stored, named, unnamed}
-use borrow.Author.Rules.{rules}
 use Rattle.heap.proofs.assign.Goals as goal
 
 pub get-old-requires : goal.get-old-requires
