@@ -23,7 +23,9 @@ pub fn onerror(m: Machine, stack: &[u32], dict: &mut [u32], cells: &mut [u32]) -
         return Err(Error::TypeCheck);
     }
     let slot = stack[i + ITEM_PAYLOAD];
-    let row = handlers::row_named(dict, slot as usize).ok_or(Error::RangeCheck)?;
+    let Some(row) = handlers::row_named(dict, slot as usize) else {
+        return Err(Error::RangeCheck);
+    };
     let bound = handlers::bind_handler(m, stack, dict, cells, row, slot, 0);
     let one = bound.drop(stack, cells);
     Ok(one.drop(stack, cells))

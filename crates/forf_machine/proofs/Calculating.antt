@@ -19,8 +19,7 @@ use Rattle.semantics.specs.ResultLaws.{ok_one, fault_ok}
 use Rattle.semantics.specs.NumberOperators as floo
 use Rattle.semantics.specs.declared.Error.TheVariants as error
 use Rattle.word.specs.Answers.{quotient_of, divided_words}
-use Rattle.word.specs.declared.Quotient.{Quotient}
-use Rattle.word.specs.declared.Quotient.TheVariants.{Value, ZeroDivisor}
+use Rattle.std.specs.Prelude.{Option, Some, None}
 use Rattle.word.proofs.Division.{nonzero}
 use Rattle.forf_semantics.specs.Errors.{Result}
 use Rattle.forf_semantics.specs.Machine.{pop2, push, with_stack}
@@ -113,17 +112,17 @@ same_zero w h = by (eqb w 0) refl
     by false e = ne_eqb (nat_abs (signed w)) 0 (nonzero w h (eqb-false w 0 e))
 
 -- Floo's division of two words is Forf's.
-pub divided_is : (f : ℤ → ℤ → ℤ) (b a : ℕ) (r : Quotient) → Fits w32 a → quotient_of r ≡ divided_words f b a → quotient_is r ≡ divided f b a
+pub divided_is : (f : ℤ → ℤ → ℤ) (b a : ℕ) (r : Option ℕ) → Fits w32 a → quotient_of r ≡ divided_words f b a → quotient_is r ≡ divided f b a
 unfolding divided_words divided floo.division check ◌>>=◌
 divided_is f b a r h e = by r (eqb (nat_abs (signed a)) 0) (eqb a 0) (same_zero a h) e
   where
-    by : (r : Quotient) (s t : Bool) → s ≡ t
+    by : (r : Option ℕ) (s t : Bool) → s ≡ t
         → quotient_of r ≡ ((check (not s) error.UndefinedResult >>= λ u. ok (f (signed b) (signed a))) >>= λ q. ok (word q))
         → quotient_is r ≡ (check (not t) UndefinedResult >>= λ u. ok (word (f (signed b) (signed a))))
-    by (Value w) true true p e = absurd (fault_ok (sym e))
-    by (Value w) false false p e = ap ok (ok_one e)
-    by ZeroDivisor true true p e = refl
-    by ZeroDivisor false false p e = absurd (fault_ok e)
+    by (Some w) true true p e = absurd (fault_ok (sym e))
+    by (Some w) false false p e = ap ok (ok_one e)
+    by None true true p e = refl
+    by None false false p e = absurd (fault_ok e)
     by r true false p e = let z : ◌≡◌ {A = ℕ} 0 1 = cc in absurd (omega arith)
     by r false true p e = let z : ◌≡◌ {A = ℕ} 0 1 = cc in absurd (omega arith)
 

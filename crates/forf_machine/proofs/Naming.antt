@@ -18,10 +18,9 @@ use Rattle.forf_semantics.specs.Machine as Forf
 use Rattle.forf_semantics.specs.Operators.{Operator, Entry, ◌is◌, table, find, perform}
 use Rattle.forf_semantics.specs.declared.Error.TheVariants.{Undefined}
 use Rattle.forf_machine.specs.Rep.{machine_of}
-use Rattle.forf_machine.specs.Does.{Does}
+use Rattle.forf_machine.specs.Does.{Acted, Does}
 use Rattle.forf_machine.specs.declared.Machine.{Machine}
-use Rattle.forf_machine.specs.declared.Acted.{Acted}
-use Rattle.forf_machine.specs.declared.Acted.TheVariants.{Failed}
+use Rattle.std.specs.Prelude.{Err}
 use Rattle.forf_machine.proofs.Answering.{failed}
 use Rattle.forf_machine.specs.Titles.{titles, place_in, undefined, action_at, key_from, key_of, keys, key_place}
 
@@ -185,7 +184,7 @@ module _ (m : Machine) (s e mem : List ℕ) where
   pub at_number : {k : ℕ} {f : Operator} {s' e' mem' : List ℕ} {r : Acted} (n : ℕ) → k ≡ n → action_at n ≡ f → Does f m s s' e e' mem mem' r → Does (action_at k) m s s' e e' mem mem' r
   at_number {f = f} {s'} {e'} {mem'} {r} n p q D = subst (λ (g : Operator). Does g m s s' e e' mem mem' r) (sym (ap action_at p ∙ q)) D
 
-  pub no_number : {k : ℕ} → 25 < k → Does (action_at k) m s s e e mem mem (Failed Undefined)
+  pub no_number : {k : ℕ} → 25 < k → Does (action_at k) m s s e e mem mem (Err Undefined)
   unfolding action_at table undefined
   no_number {k} h = record {
     does = λ script R. (failed s e (ap (λ (f : Operator). f (machine_of script m s e mem)) (get_or-eq_default (map (λ (x : Entry). x.action) table) undefined {n = k} (omega arith))), refl, refl);

@@ -8,8 +8,7 @@ use Rattle.semantics.specs.Values.{ok, fault, ◌>>=◌, check}
 use Rattle.forf_semantics.specs.Errors.{Result}
 use Rattle.forf_semantics.specs.Operators.{wrapping, absolute, inverted, flag, compared, left, right}
 use Rattle.forf_semantics.specs.declared.Error.TheVariants.{UndefinedResult}
-use Rattle.word.specs.declared.Quotient.{Quotient}
-use Rattle.word.specs.declared.Quotient.TheVariants.{Value, ZeroDivisor}
+use Rattle.std.specs.Prelude.{Option, Some, None}
 
 -- ~ and !, else abs.
 unfoldable pub unary_of : ℕ → ℕ → ℕ
@@ -46,6 +45,6 @@ binaries =
 unfoldable pub binary_of : ℕ → ℕ → ℕ → Result ℕ
 binary_of k = get_or binaries k (gives (λ b a. flag (not (eqb b a))))
 
-abbrev pub quotient_is : Quotient → Result ℕ
-quotient_is (Value w) = ok w
-quotient_is ZeroDivisor = fault UndefinedResult
+abbrev pub quotient_is : Option ℕ → Result ℕ
+quotient_is (Some w) = ok w
+quotient_is None = fault UndefinedResult

@@ -6,7 +6,7 @@ ghost use Rattle.std.specs.Prelude.{◌≡◌, ◌+◌, ◌*◌, ◌≤◌, ◌<
 ghost use Rattle.forf_semantics.specs.Operators.{if', ifelse, pop, dup, exch, mset, mget};
 ghost use Rattle.forf_machine.specs.Slots.{slots, put_slot};
 ghost use Rattle.forf_machine.specs.Does.{Does, OnDepth, OnStack, OnExec, OnMemory, Pushes, Pends, Lent};
-ghost use Rattle.forf_machine.specs.Operands.{one_int, two_ints, one_is, two_is};
+ghost use Rattle.forf_machine.specs.Operands.{one_int, two_ints, result_of};
 ghost use Rattle.forf_machine.specs.Titles.{action_at};
 
 use forf_semantics::Error;
@@ -36,26 +36,6 @@ pub struct Machine {
     pub frames: usize,
 }
 
-// The machine after a word or a push, or its error.
-#[derive(Clone, Copy)]
-pub enum Acted {
-    Went(Machine),
-    Failed(Error),
-}
-
-// Operands that are integers, or what is wrong with them.
-#[derive(Clone, Copy)]
-pub enum OneInt {
-    Got(u32),
-    Bad(Error),
-}
-
-#[derive(Clone, Copy)]
-pub enum TwoInts {
-    Got(u32, u32),
-    Bad(Error),
-}
-
 // ---- slots
 
 // The two words of slot i, in slots of so many words.
@@ -78,59 +58,65 @@ impl Machine {
     }
 
     // A value on the top of the stack.
-    pub fn push(self, stack: &mut [u32], tag: u32, payload: u32) -> Acted
+    pub fn push(self, stack: &mut [u32], tag: u32, payload: u32) -> Result<Machine, Error>
         ensures { Pushes self tag payload stack.old stack.new result }
     {
         let depth = self.depth;
         if stack.len() / STACK_WIDTH <= depth {
-            return Acted::Failed(Error::StackOverflow);
+            return Err(Error::StackOverflow);
         }
         put(stack, STACK_WIDTH, depth, tag, payload);
-        Acted::Went(self.with_depth(depth + 1))
+        Ok(self.with_depth(depth + 1))
     }
 
     // ---- operands
 
-    fn one_int(self, stack: &[u32]) -> OneInt
+    fn one_int(self, stack: &[u32]) -> Result<u32, Error>
         requires { 2 * self.depth ≤ length stack.now }
-        ensures { one_is result ≡ one_int (slots 2 self.depth stack.now) }
+        ensures { result_of result ≡ one_int (slots 2 self.depth stack.now) }
     {
         let depth = self.depth;
         if depth < 1 {
-            return OneInt::Bad(Error::StackUnderflow);
+            return Err(Error::StackUnderflow);
         }
         let x = depth - 1;
         if stack[STACK_WIDTH * x] != TAG_INTEGER {
-            return OneInt::Bad(Error::TypeCheck);
+            return Err(Error::TypeCheck);
         }
-        OneInt::Got(stack[STACK_WIDTH * x + 1])
+        Ok(stack[STACK_WIDTH * x + 1])
     }
 
     // The lower first.
-    fn two_ints(self, stack: &[u32]) -> TwoInts
+    fn two_ints(self, stack: &[u32]) -> Result<(u32, u32), Error>
         requires { 2 * self.depth ≤ length stack.now }
-        ensures { two_is result ≡ two_ints (slots 2 self.depth stack.now) }
+        ensures { result_of result ≡ two_ints (slots 2 self.depth stack.now) }
     {
         let depth = self.depth;
         if depth < 2 {
-            return TwoInts::Bad(Error::StackUnderflow);
+            return Err(Error::StackUnderflow);
         }
         let x = depth - 1;
         let y = depth - 2;
         if stack[STACK_WIDTH * y] != TAG_INTEGER {
-            return TwoInts::Bad(Error::TypeCheck);
+            return Err(Error::TypeCheck);
         }
         if stack[STACK_WIDTH * x] != TAG_INTEGER {
-            return TwoInts::Bad(Error::TypeCheck);
+            return Err(Error::TypeCheck);
         }
-        TwoInts::Got(stack[STACK_WIDTH * y + 1], stack[STACK_WIDTH * x + 1])
+        Ok((stack[STACK_WIDTH * y + 1], stack[STACK_WIDTH * x + 1]))
     }
 }
 
 // ---- the words by their numbers, which are their places in the definition's table
 
 // A word acts.
-pub fn perform(k: u32, m: Machine, stack: &mut [u32], exec: &mut [u32], memory: &mut [u32]) -> Acted
+pub fn perform(
+    k: u32,
+    m: Machine,
+    stack: &mut [u32],
+    exec: &mut [u32],
+    memory: &mut [u32],
+) -> Result<Machine, Error>
     requires { Lent m stack.old exec.old memory.old }
     ensures { Does (action_at k) m stack.old stack.new exec.old exec.new memory.old memory.new result }
 {
@@ -141,7 +127,7 @@ pub fn perform(k: u32, m: Machine, stack: &mut [u32], exec: &mut [u32], memory: 
         return two_to_one(k, m, stack);
     }
     if 25 < k {
-        return Acted::Failed(Error::Undefined);
+        return Err(Error::Undefined);
     }
     match k {
         19 => branch(m, stack, exec),
@@ -155,85 +141,75 @@ pub fn perform(k: u32, m: Machine, stack: &mut [u32], exec: &mut [u32], memory: 
 }
 
 // ~, ! and abs.
-fn one_to_one(k: u32, m: Machine, stack: &mut [u32]) -> Acted
+fn one_to_one(k: u32, m: Machine, stack: &mut [u32]) -> Result<Machine, Error>
     requires { (k < 3) × (2 * m.depth ≤ length stack.old) }
     ensures { OnStack (action_at k) m stack.old stack.new result }
 {
-    match m.one_int(stack) {
-        OneInt::Bad(e) => Acted::Failed(e),
-        OneInt::Got(a) => {
-            put(
-                stack,
-                STACK_WIDTH,
-                m.depth - 1,
-                TAG_INTEGER,
-                numbers::unary(k, a),
-            );
-            Acted::Went(m)
-        }
-    }
+    let a = m.one_int(stack)?;
+    put(
+        stack,
+        STACK_WIDTH,
+        m.depth - 1,
+        TAG_INTEGER,
+        numbers::unary(k, a),
+    );
+    Ok(m)
 }
 
 // + to <>.
-fn two_to_one(k: u32, m: Machine, stack: &mut [u32]) -> Acted
+fn two_to_one(k: u32, m: Machine, stack: &mut [u32]) -> Result<Machine, Error>
     requires { (3 ≤ k) × (k < 19) × (2 * m.depth ≤ length stack.old) }
     ensures { OnStack (action_at k) m stack.old stack.new result }
 {
-    match m.two_ints(stack) {
-        TwoInts::Bad(e) => Acted::Failed(e),
-        TwoInts::Got(b, a) => match numbers::binary(k - 3, b, a) {
-            word::Quotient::ZeroDivisor => Acted::Failed(Error::UndefinedResult),
-            word::Quotient::Value(w) => {
-                put(stack, STACK_WIDTH, m.depth - 2, TAG_INTEGER, w);
-                Acted::Went(m.with_depth(m.depth - 1))
-            }
-        },
-    }
+    let (b, a) = m.two_ints(stack)?;
+    let w = numbers::binary(k - 3, b, a).ok_or(Error::UndefinedResult)?;
+    put(stack, STACK_WIDTH, m.depth - 2, TAG_INTEGER, w);
+    Ok(m.with_depth(m.depth - 1))
 }
 
 // x s if
-fn branch(m: Machine, stack: &[u32], exec: &mut [u32]) -> Acted
+fn branch(m: Machine, stack: &[u32], exec: &mut [u32]) -> Result<Machine, Error>
     requires { 2 * m.depth ≤ length stack.now }
     ensures { OnExec if' m stack.now exec.old exec.new result }
 {
     let depth = m.depth;
     if depth < 2 {
-        return Acted::Failed(Error::StackUnderflow);
+        return Err(Error::StackUnderflow);
     }
     let s = depth - 1;
     let x = depth - 2;
     if stack[STACK_WIDTH * x] != TAG_INTEGER {
-        return Acted::Failed(Error::TypeCheck);
+        return Err(Error::TypeCheck);
     }
     if stack[STACK_WIDTH * s] == TAG_INTEGER {
-        return Acted::Failed(Error::TypeCheck);
+        return Err(Error::TypeCheck);
     }
     if stack[STACK_WIDTH * x + 1] == 0 {
-        return Acted::Went(m.with_depth(x));
+        return Ok(m.with_depth(x));
     }
     pend(m.with_depth(x), exec, stack[STACK_WIDTH * s + 1])
 }
 
 // x s t ifelse
-fn choose(m: Machine, stack: &[u32], exec: &mut [u32]) -> Acted
+fn choose(m: Machine, stack: &[u32], exec: &mut [u32]) -> Result<Machine, Error>
     requires { 2 * m.depth ≤ length stack.now }
     ensures { OnExec ifelse m stack.now exec.old exec.new result }
 {
     let depth = m.depth;
     if depth < 3 {
-        return Acted::Failed(Error::StackUnderflow);
+        return Err(Error::StackUnderflow);
     }
     let t = depth - 1;
     let s = depth - 2;
     let x = depth - 3;
     if stack[STACK_WIDTH * x] != TAG_INTEGER {
-        return Acted::Failed(Error::TypeCheck);
+        return Err(Error::TypeCheck);
     }
     if stack[STACK_WIDTH * s] == TAG_INTEGER {
-        return Acted::Failed(Error::TypeCheck);
+        return Err(Error::TypeCheck);
     }
     if stack[STACK_WIDTH * t] == TAG_INTEGER {
-        return Acted::Failed(Error::TypeCheck);
+        return Err(Error::TypeCheck);
     }
     if stack[STACK_WIDTH * x + 1] == 0 {
         return pend(m.with_depth(x), exec, stack[STACK_WIDTH * t + 1]);
@@ -242,35 +218,35 @@ fn choose(m: Machine, stack: &[u32], exec: &mut [u32]) -> Acted
 }
 
 // A substack becomes pending.
-fn pend(m: Machine, exec: &mut [u32], body: u32) -> Acted
+fn pend(m: Machine, exec: &mut [u32], body: u32) -> Result<Machine, Error>
     ensures { Pends m body exec.old exec.new result }
 {
     let frames = m.frames;
     if exec.len() / EXEC_WIDTH <= frames {
-        return Acted::Failed(Error::ExecStackOverflow);
+        return Err(Error::ExecStackOverflow);
     }
     put(exec, EXEC_WIDTH, frames, PENDING, body);
-    Acted::Went(Machine {
+    Ok(Machine {
         depth: m.depth,
         frames: frames + 1,
     })
 }
 
-fn discard(m: Machine) -> Acted
+fn discard(m: Machine) -> Result<Machine, Error>
     ensures { OnDepth pop m result }
 {
     if m.depth < 1 {
-        return Acted::Failed(Error::StackUnderflow);
+        return Err(Error::StackUnderflow);
     }
-    Acted::Went(m.with_depth(m.depth - 1))
+    Ok(m.with_depth(m.depth - 1))
 }
 
-fn duplicate(m: Machine, stack: &mut [u32]) -> Acted
+fn duplicate(m: Machine, stack: &mut [u32]) -> Result<Machine, Error>
     requires { 2 * m.depth ≤ length stack.old }
     ensures { OnStack (dup) m stack.old stack.new result }
 {
     if m.depth < 1 {
-        return Acted::Failed(Error::StackUnderflow);
+        return Err(Error::StackUnderflow);
     }
     let x = m.depth - 1;
     let tag = stack[STACK_WIDTH * x];
@@ -278,12 +254,12 @@ fn duplicate(m: Machine, stack: &mut [u32]) -> Acted
     m.push(stack, tag, payload)
 }
 
-fn exchange(m: Machine, stack: &mut [u32]) -> Acted
+fn exchange(m: Machine, stack: &mut [u32]) -> Result<Machine, Error>
     requires { 2 * m.depth ≤ length stack.old }
     ensures { OnStack (exch) m stack.old stack.new result }
 {
     if m.depth < 2 {
-        return Acted::Failed(Error::StackUnderflow);
+        return Err(Error::StackUnderflow);
     }
     let x = m.depth - 1;
     let y = m.depth - 2;
@@ -293,45 +269,37 @@ fn exchange(m: Machine, stack: &mut [u32]) -> Acted
     let below = stack[STACK_WIDTH * y + 1];
     put(stack, STACK_WIDTH, y, upper, above);
     put(stack, STACK_WIDTH, x, lower, below);
-    Acted::Went(m)
+    Ok(m)
 }
 
 // y x mset
-fn store(m: Machine, stack: &[u32], memory: &mut [u32]) -> Acted
+fn store(m: Machine, stack: &[u32], memory: &mut [u32]) -> Result<Machine, Error>
     requires { (2 * m.depth ≤ length stack.now) × (length memory.old ≡ 32) }
     ensures { OnMemory mset m stack.now stack.now memory.old memory.new result }
 {
-    match m.two_ints(stack) {
-        TwoInts::Bad(e) => Acted::Failed(e),
-        TwoInts::Got(b, a) => {
-            if MEMORY_SLOTS <= a {
-                return Acted::Failed(Error::RangeCheck);
-            }
-            memory[a as usize] = b;
-            Acted::Went(m.with_depth(m.depth - 2))
-        }
+    let (b, a) = m.two_ints(stack)?;
+    if MEMORY_SLOTS <= a {
+        return Err(Error::RangeCheck);
     }
+    memory[a as usize] = b;
+    Ok(m.with_depth(m.depth - 2))
 }
 
 // x mget
-fn fetch(m: Machine, stack: &mut [u32], memory: &[u32]) -> Acted
+fn fetch(m: Machine, stack: &mut [u32], memory: &[u32]) -> Result<Machine, Error>
     requires { (2 * m.depth ≤ length stack.old) × (length memory.now ≡ 32) }
     ensures { OnMemory mget m stack.old stack.new memory.now memory.now result }
 {
-    match m.one_int(stack) {
-        OneInt::Bad(e) => Acted::Failed(e),
-        OneInt::Got(a) => {
-            if MEMORY_SLOTS <= a {
-                return Acted::Failed(Error::RangeCheck);
-            }
-            put(
-                stack,
-                STACK_WIDTH,
-                m.depth - 1,
-                TAG_INTEGER,
-                memory[a as usize],
-            );
-            Acted::Went(m)
-        }
+    let a = m.one_int(stack)?;
+    if MEMORY_SLOTS <= a {
+        return Err(Error::RangeCheck);
     }
+    put(
+        stack,
+        STACK_WIDTH,
+        m.depth - 1,
+        TAG_INTEGER,
+        memory[a as usize],
+    );
+    Ok(m)
 }

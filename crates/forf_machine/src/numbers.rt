@@ -3,8 +3,6 @@ ghost use Rattle.std.specs.Prelude.{◌≡◌};
 ghost use Rattle.forf_semantics.specs.Operators.{flag};
 ghost use Rattle.forf_machine.specs.Numbers.{unary_of, binary_of, quotient_is};
 
-use word::Quotient;
-
 // 1 if it is true, 0 if false.
 fn flag(t: bool) -> u32
     ensures { result ≡ flag «t» }
@@ -23,26 +21,26 @@ pub fn unary(k: u32, a: u32) -> u32
     }
 }
 
-// + to <>, the lower operand first. Only / and % know a zero divisor.
-pub fn binary(k: u32, b: u32, a: u32) -> Quotient
+// + to <>, the lower operand first. None by zero, which only / and % know.
+pub fn binary(k: u32, b: u32, a: u32) -> Option<u32>
     ensures { quotient_is result ≡ binary_of k b a }
 {
     match k {
-        0 => Quotient::Value(word::add(b, a)),
-        1 => Quotient::Value(word::sub(b, a)),
-        2 => Quotient::Value(word::mul(b, a)),
+        0 => Some(word::add(b, a)),
+        1 => Some(word::sub(b, a)),
+        2 => Some(word::mul(b, a)),
         3 => word::idiv(b, a),
         4 => word::rem(b, a),
-        5 => Quotient::Value(word::bit_and(b, a)),
-        6 => Quotient::Value(word::bit_or(b, a)),
-        7 => Quotient::Value(word::bit_xor(b, a)),
-        8 => Quotient::Value(word::shift_left(b, a)),
-        9 => Quotient::Value(word::shift_right(b, a)),
-        10 => Quotient::Value(flag(word::gt(b, a))),
-        11 => Quotient::Value(flag(word::ge(b, a))),
-        12 => Quotient::Value(flag(word::lt(b, a))),
-        13 => Quotient::Value(flag(word::le(b, a))),
-        14 => Quotient::Value(flag(word::eq(b, a))),
-        _ => Quotient::Value(flag(word::ne(b, a))),
+        5 => Some(word::bit_and(b, a)),
+        6 => Some(word::bit_or(b, a)),
+        7 => Some(word::bit_xor(b, a)),
+        8 => Some(word::shift_left(b, a)),
+        9 => Some(word::shift_right(b, a)),
+        10 => Some(flag(word::gt(b, a))),
+        11 => Some(flag(word::ge(b, a))),
+        12 => Some(flag(word::lt(b, a))),
+        13 => Some(flag(word::le(b, a))),
+        14 => Some(flag(word::eq(b, a))),
+        _ => Some(flag(word::ne(b, a))),
     }
 }

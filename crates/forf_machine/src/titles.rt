@@ -24,10 +24,8 @@ fn key_of(word: &[u8]) -> u64
     ensures { result ≡ key_of word.now }
 {
     let mut key: u64 = 1;
-    let mut i = 0;
-    while i < word.len() {
-        key = key * 256 + word[i] as u64;
-        i += 1;
+    for b in word {
+        key = key * 256 + u64::from(*b);
     }
     key
 }

@@ -8,7 +8,6 @@ ghost use Rattle.strings.specs.Strings.{HasBytes, HasRoom, CurrentSize, ReadsByt
 
 use machine::{ITEM_PAYLOAD, Machine};
 use semantics::STACK_WIDTH;
-use token::Unescaped;
 
 // The current length of the string that is item i: its bytes before the first zero, or all of them.
 // Ruled out: the maximum for the length; a byte read past the maximum.
@@ -89,17 +88,10 @@ pub fn fill_at(cells: &mut [u32], h: u32, script: &[u8], start: usize)
 {
     let mut at = start;
     let mut q: u32 = 0;
-    loop {
-        match token::unescape(script, at) {
-            Unescaped::Byte(b, next) => {
-                elements::put_byte_at(cells, h, q, b);
-                q = q + 1;
-                at = next;
-            }
-            Unescaped::Closed => {
-                return;
-            }
-        }
+    while let Some((b, next)) = token::unescape(script, at) {
+        elements::put_byte_at(cells, h, q, b);
+        q += 1;
+        at = next;
     }
 }
 

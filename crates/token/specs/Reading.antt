@@ -4,6 +4,7 @@ use Rattle.std.specs.Prelude.{◌≡◌, List, [], ℕ, ◌+◌, ◌-◌, ◌<�
 use Rattle.semantics.specs.Errors.{fault_text, where_text}
 use Rattle.semantics.specs.Setup.{kind_text}
 use Rattle.semantics.specs.Setup as setup
+use Rattle.semantics.specs.declared.Fault.{Fault}
 use Rattle.semantics.specs.declared.Kind.{Kind}
 use Rattle.semantics.specs.declared.Kind.TheVariants as kind
 use Rattle.token.specs.declared.Token.{Token}
@@ -24,7 +25,7 @@ pub record Answer : Type 0 where
   pub next : ℕ
 
 -- What the code's answer means.
-abbrev pub answer_of : ℕ → Result (Kind × ℕ) Refused → Answer
+abbrev pub answer_of : ℕ → Result (Kind × ℕ) (Refused Fault) → Answer
 answer_of offset (Err TooLong) = record { verdict = refused 1; next = offset }
 answer_of offset (Err PastEnd) = record { verdict = refused 10; next = offset }
 answer_of offset (Err (Faulty f)) = record { verdict = faulty (fault_text f) (where_text f); next = offset }
@@ -43,17 +44,17 @@ part_of script (setup.faulty f) = []
 part_of script (setup.read k n start size) = take size (drop start script)
 
 -- The whole reading, as the code holds it.
-abbrev pub located_is : Result Located Refused → setup.Reading
+abbrev pub located_is : Result (Located Kind) (Refused Fault) → setup.Reading
 located_is (Err TooLong) = setup.refused 1
 located_is (Err PastEnd) = setup.refused 10
 located_is (Err (Faulty f)) = setup.faulty f
 located_is (Ok t) = setup.read t.kind t.next t.start t.size
 
-abbrev pub Within : ℕ → Result Located Refused → Type 0
+abbrev pub Within : ℕ → Result (Located Kind) (Refused Fault) → Type 0
 Within n (Ok t) = t.start + t.size ≤ n
 Within n (Err e) = Unit {0}
 
-pub record LocatedAt (script : List ℕ) (offset : ℕ) (r : Result Located Refused) : Type 0 where
+pub record LocatedAt (script : List ℕ) (offset : ℕ) (r : Result (Located Kind) (Refused Fault)) : Type 0 where
   pub is : located_is r ≡ setup.reading script offset
   pub inside : Within (length script) r
 
@@ -68,7 +69,7 @@ Ordered start next CloseBrace = Unit {0}
 Ordered start next End = Unit {0}
 
 -- A token's kind and own bytes.
-abbrev pub owned_by : ℕ → ℕ → Token → Located
+abbrev pub owned_by : ℕ → ℕ → Token → Located Kind
 owned_by start next (Integer w) = record { kind = kind.Integer; next = next; start = start; size = next - start }
 owned_by start next (String at size) = record { kind = kind.String; next = next; start = at; size = next - at - 1 }
 owned_by start next (ExecutableName at size) = record { kind = kind.ExecutableName; next = next; start = at; size = size }

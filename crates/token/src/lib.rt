@@ -16,8 +16,8 @@ mod bytes;
 mod numbers;
 mod quoted;
 
-pub use bytes::is_space;
 use bytes::{Class, blank_end, class_of, run_end};
+pub use bytes::{first_from, is_space};
 use numbers::{number_of, signs};
 pub use numbers::{numeral_at, starts_number};
 pub use quoted::unescape;
@@ -36,34 +36,34 @@ pub enum Token {
     End,
 }
 
-// Why a reading finds no token: the paper's refusals 1 and 10, or a fault.
+// Why a reading finds no token: the paper's refusals 1 and 10, or a fault. Forf's reading has its own faults and kinds here and below.
 #[derive(Clone, Copy, PartialEq, Eq, Debug)]
-pub enum Refused {
+pub enum Refused<F> {
     TooLong,
     PastEnd,
-    Faulty(Fault),
+    Faulty(F),
 }
 
 // A token's kind, the offset after it, and where its own bytes begin and how many they are.
 #[derive(Clone, Copy, PartialEq, Eq, Debug)]
-pub struct Located {
-    pub kind: Kind,
+pub struct Located<K> {
+    pub kind: K,
     pub next: usize,
     pub start: usize,
     pub size: usize,
 }
 
-impl From<Fault> for Refused {
+impl<F> From<F> for Refused<F> {
     ghost from_gives = { λ f r. r ≡ Faulty f };
 
-    fn from(f: Fault) -> Refused {
+    fn from(f: F) -> Refused<F> {
         Refused::Faulty(f)
     }
 }
 
 // The kind of the next token from `offset` on, and the offset after it.
 // Ruled out: a reader that looks for `#FLOO`, or refuses the offset at the very end; one that answers limitcheck for 99999999999a.
-pub fn read(script: &[u8], offset: usize) -> Result<(Kind, usize), Refused>
+pub fn read(script: &[u8], offset: usize) -> Result<(Kind, usize), Refused<Fault>>
     ensures { answer_of offset result ≡ answer offset (setup.reading script.now offset) }
 {
     let token = locate(script, offset)?;
@@ -83,7 +83,7 @@ pub fn part(script: &[u8], offset: usize) -> &[u8]
 
 // The definition's reading, whole: the kind, the offset after it, and where the token's own bytes are, for a caller that can be handed no slice.
 // Ruled out: the bytes of a string counted after its escapes are read; an end whose part begins at the offset given and not at the length.
-pub fn locate(script: &[u8], offset: usize) -> Result<Located, Refused>
+pub fn locate(script: &[u8], offset: usize) -> Result<Located<Kind>, Refused<Fault>>
     ensures { LocatedAt script.now offset result }
 {
     if SCRIPT_MOST < script.len() {
@@ -184,7 +184,7 @@ fn string_at(script: &[u8], start: usize) -> Result<(Token, usize), Fault>
 }
 
 // A token's kind and its own bytes, for one from `start` to `next`.
-fn own_part(token: Token, start: usize, next: usize) -> Located
+fn own_part(token: Token, start: usize, next: usize) -> Located<Kind>
     requires { Ordered start next token }
     ensures { result ≡ owned_by start next token }
 {

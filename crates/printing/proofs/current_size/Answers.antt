@@ -1,6 +1,5 @@
 -- `current_size` meets its contract: the loop keeps `Scanned`, that no byte before byte q is zero.
 -- Assumes nothing.
-use Prim.Native.Nat.{◌<◌}
 use Rattle.printing.specs.Shown.{CurrentSize}
 use mathlib.Core.Path.{subst}
 use Rattle.printing.proofs.Bytes.{scan_begin, scan_ends, scan_stops, scan_again}
@@ -27,5 +26,7 @@ pub loop-q-preserved : goal.loop-q-preserved
 loop-q-preserved c = scan_again c.loop-q.invariant (omega (arith, c.loop-q-test.true, c.kind-most.ensures)) c.string_byte.ensures c.if-string_byte-eq0.false
 
 pub returns : goal.returns
-returns c = let most = subst (λ q. CurrentSize _ _ q × (q < _)) (omega (arith, c.loop-q-test.false, c.loop-q.auto.q-end)) (scan_ends c.loop-q.invariant (omega (arith, c.loop-q-test.false, c.kind-most.ensures)), c.loop-q.invariant.within) in
-    record { current_size = most.0; upper_bound = most.1 }
+returns c = record {
+  current_size = subst (CurrentSize _ _) (omega (arith, c.loop-q-test.false, c.loop-q.auto.q-end)) (scan_ends c.loop-q.invariant (omega (arith, c.loop-q-test.false, c.kind-most.ensures)));
+  upper_bound = omega (arith, c.loop-q.invariant.within, c.loop-q-test.false, c.loop-q.auto.q-end);
+}

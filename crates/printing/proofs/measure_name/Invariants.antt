@@ -1,7 +1,6 @@
 -- `measure_name` meets its contract: the sum is the length of the text of the first j bytes.
 -- Assumes nothing.
 use Rattle.printing.proofs.Spelling.{NameSum}
-use Prim.Native.Nat.{◌-◌}
 use Rattle.printing.proofs.measure_name.Given as goal
 
 abbrev pub invariant-loop-j : goal.invariant-loop-j

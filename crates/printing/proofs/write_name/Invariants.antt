@@ -1,7 +1,6 @@
 -- `write_name` meets its contract: the text of the first j bytes is written.
 -- Assumes nothing.
 use Rattle.printing.proofs.Spelling.{NameText}
-use Prim.Native.Nat.{◌-◌}
 use Rattle.printing.proofs.write_name.Given as goal
 
 abbrev pub invariant-loop-j : goal.invariant-loop-j

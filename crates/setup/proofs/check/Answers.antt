@@ -1,4 +1,4 @@
--- `refusal` meets its contract: where a test fails the later ones decide, and the first that holds gives its number.
+-- `check` meets its contract: where a test fails the later ones decide, and the first that holds gives its number.
 -- Assumes nothing.
 use borrow.Author.Rules.{rules}
 use borrow.Author.Tests.{lt-ltb, le-ltb}
@@ -14,7 +14,7 @@ use Rattle.semantics.specs.Tokens.{within}
 use Rattle.semantics.specs.Setup.{Lent}
 use Rattle.setup.specs.Lending.{lent_of}
 use Rattle.setup.proofs.Refusing.{Passed, untested, fails, holds, none_holds, from_to}
-use Rattle.setup.proofs.refusal.Goals as goal
+use Rattle.setup.proofs.check.Goals as goal
 
 -- ---- each test fails, after those before it
 
