@@ -38,7 +38,10 @@ pub fn set_array(m: Machine, cells: &mut [u32], c: u32, n: u32) -> Placed
     heap::put(cells, c, 1, t.cell);
     heap::seal(cells, t.cell);
     Placed {
-        machine: Machine { lists: t.lists, ..m },
+        machine: Machine {
+            lists: t.lists,
+            ..m
+        },
         header: t.cell,
     }
 }
@@ -55,7 +58,10 @@ pub fn set_string(m: Machine, cells: &mut [u32], c: u32, n: u32) -> Placed
     heap::put(cells, c, 1, t.cell);
     heap::seal(cells, t.cell);
     Placed {
-        machine: Machine { lists: t.lists, ..m },
+        machine: Machine {
+            lists: t.lists,
+            ..m
+        },
         header: t.cell,
     }
 }

@@ -57,7 +57,15 @@ pub fn build(
             }
             Piece::Open(next) => {
                 let opened = open_group(r, cells, script, next, c, depth);
-                let built = build(opened.machine, dict, cells, script, next, opened.first, depth - 1);
+                let built = build(
+                    opened.machine,
+                    dict,
+                    cells,
+                    script,
+                    next,
+                    opened.first,
+                    depth - 1,
+                );
                 r = built.machine;
                 at = built.next;
                 c = heap::next(cells, c);
@@ -162,5 +170,8 @@ fn open_group(
     let judged = groups::judge(script, next, depth - 1).unwrap();
     let placed = construction::set_array(m, cells, c, judged.size as u32);
     let first = first_cell(cells, placed.header, judged.size);
-    Opened { machine: placed.machine, first }
+    Opened {
+        machine: placed.machine,
+        first,
+    }
 }
