@@ -2,7 +2,8 @@
 // the definition, and the function does to that machine what its contract names.
 #![tactic(auto)]
 
-ghost use Rattle.std.specs.Prelude.{◌≡◌, ◌+◌, ◌*◌, ◌-◌, ◌≤◌, ◌<◌, length, MatchResult};
+ghost use Rattle.std.specs.Prelude.{◌≡◌, ◌+◌, ◌*◌, ◌-◌, ◌≤◌, ◌<◌, length, set, MatchResult};
+ghost use Rattle.machine.specs.Words.{item_tag, item_payload, frame_tag, frame_payload};
 ghost use Rattle.machine.specs.Rep.{Somewhere, MovesStack, MovesHeap};
 ghost use Rattle.machine.specs.Moves.{dropped, copied, copied_over, swapped, retagged, tag_as};
 ghost use Rattle.machine.specs.FrameMoves.{Somewhere as SlotsSomewhere, MovesFrames, MovesItems, ForgetsFrame, frame_dropped, returned};
@@ -10,7 +11,7 @@ ghost use Rattle.machine.specs.Recount.{Placed, Recounts};
 ghost use Rattle.machine.specs.Operands.{FetchesOne, FetchesTwo, one_low, two_low, FetchesOneLogical, FetchesTwoLogical, one_logical_low, two_logical_low, Replaces, Pushes};
 ghost use Rattle.semantics.specs.declared.Error.TheVariants.{StackUnderflow, StackOverflow};
 
-use heap::{FIRST_OBJECT, Lists};
+use heap::{FIRST_OBJECT, Lists, Value};
 use semantics::{EXEC_WIDTH, Error, STACK_WIDTH};
 
 // The words of slots, as specs/Words and specs/Rep have them: a stack item's payload after its tag; an execution slot's value after its kind, and the numbers after that, of a
@@ -51,7 +52,7 @@ pub const LATEST_ERROR: usize = 623;
 
 pub const LATEST_COMMAND: usize = 635;
 
-// A value is two words.
+// What a value is.
 pub const TAG_NULL: u32 = 0;
 
 pub const TAG_INTEGER: u32 = 1;
@@ -74,6 +75,12 @@ pub const TAG_STRING: u32 = 8;
 pub const TAG_ARRAY: u32 = 9;
 
 pub const TAG_PROCEDURE: u32 = 10;
+
+// What a place holds that names nothing.
+pub const NULL: Value = Value {
+    tag: TAG_NULL,
+    pay: 0,
+};
 
 // How much of each lent buffer is in use: stack items, execution slots, names, log bytes; the heap's lists; and whether the run has been stopped.
 #[derive(Clone, Copy)]
@@ -205,9 +212,14 @@ impl Machine {
         requires { (2 * self.depth ≤ length stack.old) × (1 ≤ n) × (n ≤ self.depth) }
         ensures { Replaces n tag payload self result stack.old stack.new }
     {
-        let i = STACK_WIDTH * (self.depth - n);
-        stack[i] = tag;
-        stack[i + ITEM_PAYLOAD] = payload;
+        set_item(
+            stack,
+            self.depth - n,
+            Value {
+                tag,
+                pay: payload,
+            },
+        );
         self.depth = self.depth - n + 1;
         self
     }
@@ -219,8 +231,14 @@ impl Machine {
         ensures depth_value { result.depth ≡ self.depth + 1 }
     {
         let n = self.depth;
-        stack[STACK_WIDTH * n] = tag;
-        stack[STACK_WIDTH * n + ITEM_PAYLOAD] = payload;
+        set_item(
+            stack,
+            n,
+            Value {
+                tag,
+                pay: payload,
+            },
+        );
         self.depth = n + 1;
         self
     }
@@ -245,9 +263,8 @@ impl Machine {
     {
         let k = self.depth - 1;
         let lists = self.lists;
-        let old = stack[STACK_WIDTH * k];
-        let was = stack[STACK_WIDTH * k + ITEM_PAYLOAD];
-        let left = recount(lists, cells, old, was, TAG_NULL, 0);
+        let old = item(stack, k);
+        let left = recount(lists, cells, old, NULL);
         self.depth = k;
         self.lists = left;
         self
@@ -262,11 +279,9 @@ impl Machine {
         let n = self.depth;
         let k = n - 1 - i;
         let lists = self.lists;
-        let tag = stack[STACK_WIDTH * k];
-        let pay = stack[STACK_WIDTH * k + ITEM_PAYLOAD];
-        let left = recount(lists, cells, TAG_NULL, 0, tag, pay);
-        stack[STACK_WIDTH * n] = tag;
-        stack[STACK_WIDTH * n + ITEM_PAYLOAD] = pay;
+        let new = item(stack, k);
+        let left = recount(lists, cells, NULL, new);
+        set_item(stack, n, new);
         self.depth = n + 1;
         self.lists = left;
         self
@@ -282,13 +297,10 @@ impl Machine {
         let k = n - 1 - i;
         let o = n - 1 - j;
         let lists = self.lists;
-        let old = stack[STACK_WIDTH * k];
-        let was = stack[STACK_WIDTH * k + ITEM_PAYLOAD];
-        let tag = stack[STACK_WIDTH * o];
-        let pay = stack[STACK_WIDTH * o + ITEM_PAYLOAD];
-        let left = recount(lists, cells, old, was, tag, pay);
-        stack[STACK_WIDTH * k] = tag;
-        stack[STACK_WIDTH * k + ITEM_PAYLOAD] = pay;
+        let old = item(stack, k);
+        let new = item(stack, o);
+        let left = recount(lists, cells, old, new);
+        set_item(stack, k, new);
         self.lists = left;
         self
     }
@@ -302,14 +314,10 @@ impl Machine {
         let n = self.depth;
         let k = n - 1 - i;
         let o = n - 1 - j;
-        let t = stack[STACK_WIDTH * k];
-        let p = stack[STACK_WIDTH * k + ITEM_PAYLOAD];
-        let u = stack[STACK_WIDTH * o];
-        let q = stack[STACK_WIDTH * o + ITEM_PAYLOAD];
-        stack[STACK_WIDTH * k] = u;
-        stack[STACK_WIDTH * k + ITEM_PAYLOAD] = q;
-        stack[STACK_WIDTH * o] = t;
-        stack[STACK_WIDTH * o + ITEM_PAYLOAD] = p;
+        let a = item(stack, k);
+        let b = item(stack, o);
+        set_item(stack, k, b);
+        set_item(stack, o, a);
         self
     }
 
@@ -321,10 +329,9 @@ impl Machine {
         ensures depth_value { (result.depth ≡ self.depth) × (result.frames ≡ self.frames - 1) }
     {
         let k = self.frames - 1;
-        let old = exec[EXEC_WIDTH * k + FRAME_TAG];
-        let was = exec[EXEC_WIDTH * k + FRAME_PAYLOAD];
+        let old = frame_value(exec, k);
         let lists = self.lists;
-        let left = recount(lists, cells, old, was, TAG_NULL, 0);
+        let left = recount(lists, cells, old, NULL);
         self.frames = k;
         self.lists = left;
         self
@@ -348,8 +355,8 @@ impl Machine {
     {
         let n = self.depth;
         let k = self.frames - 1;
-        stack[STACK_WIDTH * n] = exec[EXEC_WIDTH * k + FRAME_TAG];
-        stack[STACK_WIDTH * n + ITEM_PAYLOAD] = exec[EXEC_WIDTH * k + FRAME_PAYLOAD];
+        let value = frame_value(exec, k);
+        set_item(stack, n, value);
         self.depth = n + 1;
         self.frames = k;
         self
@@ -379,15 +386,62 @@ impl Machine {
     }
 }
 
-// A place that held the words (old, was) holds (tag, pay): the new object is counted before the old one is let go, so that an object that is both
-// stays.
-pub fn recount(s: Lists, cells: &mut [u32], old: u32, was: u32, tag: u32, pay: u32) -> Lists
-    requires { Placed s cells.old old was tag pay }
-    ensures { Recounts s cells.old old was tag pay result cells.new }
+// Item k from the bottom.
+// Ruled out: an item counted from the top; the payload read for the tag.
+#[inline(always)]
+pub fn item(stack: &[u32], k: usize) -> Value
+    requires { 2 * k + 2 ≤ length stack.now }
+    ensures { (result.tag ≡ item_tag stack.now k) × (result.pay ≡ item_payload stack.now k) }
 {
-    heap::increment(cells, tag, pay);
-    if FIRST_OBJECT <= old {
-        return heap::release(s, cells, was);
+    Value {
+        tag: stack[STACK_WIDTH * k],
+        pay: stack[STACK_WIDTH * k + ITEM_PAYLOAD],
+    }
+}
+
+// Item k from the bottom becomes the value; nothing is counted.
+// Ruled out: the tag alone stored; a word of another item changed.
+#[inline(always)]
+pub fn set_item(stack: &mut [u32], k: usize, value: Value)
+    requires { 2 * k + 2 ≤ length stack.old }
+    ensures { stack.new ≡ set (set stack.old (2 * k) value.tag) (2 * k + 1) value.pay }
+{
+    stack[STACK_WIDTH * k] = value.tag;
+    stack[STACK_WIDTH * k + ITEM_PAYLOAD] = value.pay;
+}
+
+// The value of execution slot k from the bottom.
+// Ruled out: the slot's kind read for the tag; the numbers of a loop read for the payload.
+#[inline(always)]
+pub fn frame_value(exec: &[u32], k: usize) -> Value
+    requires { 8 * k + 8 ≤ length exec.now }
+    ensures { (result.tag ≡ frame_tag exec.now k) × (result.pay ≡ frame_payload exec.now k) }
+{
+    Value {
+        tag: exec[EXEC_WIDTH * k + FRAME_TAG],
+        pay: exec[EXEC_WIDTH * k + FRAME_PAYLOAD],
+    }
+}
+
+// The value of execution slot k from the bottom becomes another; nothing is counted.
+// Ruled out: the slot's kind stored over; a word of another slot changed.
+#[inline(always)]
+pub fn set_frame_value(exec: &mut [u32], k: usize, value: Value)
+    requires { 8 * k + 8 ≤ length exec.old }
+    ensures { exec.new ≡ set (set exec.old (8 * k + 1) value.tag) (8 * k + 2) value.pay }
+{
+    exec[EXEC_WIDTH * k + FRAME_TAG] = value.tag;
+    exec[EXEC_WIDTH * k + FRAME_PAYLOAD] = value.pay;
+}
+
+// A place that held the old value holds the new one: the new object is counted before the old one is let go, so that an object that is both stays.
+pub fn recount(s: Lists, cells: &mut [u32], old: Value, new: Value) -> Lists
+    requires { Placed s cells.old old.tag old.pay new.tag new.pay }
+    ensures { Recounts s cells.old old.tag old.pay new.tag new.pay result cells.new }
+{
+    heap::increment(cells, new);
+    if FIRST_OBJECT <= old.tag {
+        return heap::release(s, cells, old.pay);
     }
     s
 }
