@@ -8,6 +8,7 @@ ghost use Rattle.machine.specs.Rep.{Somewhere, MovesStack, MovesHeap};
 ghost use Rattle.machine.specs.Moves.{dropped, copied, copied_over, swapped, retagged, tag_as};
 ghost use Rattle.machine.specs.FrameMoves.{Somewhere as SlotsSomewhere, MovesFrames, MovesItems, ForgetsFrame, frame_dropped, returned};
 ghost use Rattle.machine.specs.Recount.{Placed, Recounts};
+ghost use Rattle.machine.specs.Copies.{HeldItems, PushesValue, PutsValue};
 ghost use Rattle.machine.specs.Operands.{FetchesOne, FetchesTwo, one_low, two_low, FetchesOneLogical, FetchesTwoLogical, one_logical_low, two_logical_low, Replaces, Pushes};
 ghost use Rattle.semantics.specs.declared.Error.TheVariants.{StackUnderflow, StackOverflow};
 
@@ -271,36 +272,55 @@ impl Machine {
     }
 
     // A copy of item i from the top is pushed.
-    pub fn push_copy(mut self, stack: &mut [u32], cells: &mut [u32], i: usize) -> Machine
+    pub fn push_copy(self, stack: &mut [u32], cells: &mut [u32], i: usize) -> Machine
         requires { (i < self.depth) × (2 * self.depth + 2 ≤ length stack.old) × Somewhere self stack.old cells.old }
         ensures moves_heap { MovesHeap (copied i) self result stack.old stack.new cells.old cells.new }
         ensures depth_value { result.depth ≡ self.depth + 1 }
     {
+        let new = item(stack, self.depth - 1 - i);
+        self.push_value(stack, cells, new)
+    }
+
+    // A copy of the value, which some place holds, is pushed.
+    // Ruled out: a copy whose object is not counted; the topmost item stored over.
+    #[inline(always)]
+    pub fn push_value(mut self, stack: &mut [u32], cells: &mut [u32], value: Value) -> Machine
+        requires { (2 * self.depth + 2 ≤ length stack.old) × HeldItems value.tag value.pay self stack.old cells.old }
+        ensures pushes_value { PushesValue value.tag value.pay self result stack.old stack.new cells.old cells.new }
+        ensures depth_value { (result.depth ≡ self.depth + 1) × (result.frames ≡ self.frames) }
+    {
         let n = self.depth;
-        let k = n - 1 - i;
         let lists = self.lists;
-        let new = item(stack, k);
-        let left = recount(lists, cells, NULL, new);
-        set_item(stack, n, new);
+        let left = recount(lists, cells, NULL, value);
+        set_item(stack, n, value);
         self.depth = n + 1;
         self.lists = left;
         self
     }
 
     // Item i gives way to a copy of item j.
-    pub fn copy_over(mut self, stack: &mut [u32], cells: &mut [u32], i: usize, j: usize) -> Machine
+    pub fn copy_over(self, stack: &mut [u32], cells: &mut [u32], i: usize, j: usize) -> Machine
         requires { (i < self.depth) × (j < self.depth) × Somewhere self stack.old cells.old }
         ensures moves_heap { MovesHeap (copied_over i j) self result stack.old stack.new cells.old cells.new }
         ensures depth_value { result.depth ≡ self.depth }
     {
-        let n = self.depth;
-        let k = n - 1 - i;
-        let o = n - 1 - j;
+        let new = item(stack, self.depth - 1 - j);
+        self.put_value(stack, cells, i, new)
+    }
+
+    // Item i gives way to a copy of the value, which some place holds.
+    // Ruled out: the item let go before the value is counted; another item stored over.
+    #[inline(always)]
+    pub fn put_value(mut self, stack: &mut [u32], cells: &mut [u32], i: usize, value: Value) -> Machine
+        requires { (i < self.depth) × HeldItems value.tag value.pay self stack.old cells.old }
+        ensures puts_value { PutsValue i value.tag value.pay self result stack.old stack.new cells.old cells.new }
+        ensures depth_value { result.depth ≡ self.depth }
+    {
+        let k = self.depth - 1 - i;
         let lists = self.lists;
         let old = item(stack, k);
-        let new = item(stack, o);
-        let left = recount(lists, cells, old, new);
-        set_item(stack, k, new);
+        let left = recount(lists, cells, old, value);
+        set_item(stack, k, value);
         self.lists = left;
         self
     }
