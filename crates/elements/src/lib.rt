@@ -2,14 +2,15 @@
 // the machine that they stand for what its contract names. `put_byte_at` takes a string by its header, and shows the world.
 #![tactic(auto)]
 
-ghost use Rattle.std.specs.Prelude.{◌≡◌, List, ℕ, ◌+◌, ◌*◌, ◌/◌, ◌^◌, ◌≤◌, ◌<◌, length};
+ghost use Rattle.std.specs.Prelude.{◌≡◌, List, ℕ, ◌+◌, ◌-◌, ◌*◌, ◌/◌, ◌^◌, ◌≤◌, ◌<◌, length};
 ghost use Rattle.store.specs.Rep.{byte_of, with_byte};
+ghost use Rattle.machine.specs.Words.{item_payload};
 ghost use Rattle.machine.specs.Rep.{Somewhere, MovesHeap};
 ghost use Rattle.elements.specs.Elements.{HasArray, HasElement, HasString, HasByte, HasObject, HasPlain, HasCell, SomewhereThat};
 ghost use Rattle.elements.specs.Elements.{free_cells, ItemTag, ArraySize, StringSize, ByteOf, ItemSealed, item_sealed, element_copied, element_put, byte_put, PutsByte, array_made, string_made};
 
-use machine::{ITEM_PAYLOAD, Machine, TAG_ARRAY, TAG_STRING};
-use semantics::STACK_WIDTH;
+use heap::Value;
+use machine::{Machine, TAG_ARRAY, TAG_STRING};
 
 // The tag of item i.
 // Ruled out: an item counted from the bottom; the payload read for the tag.
@@ -17,8 +18,7 @@ pub fn tag_of(m: Machine, stack: &[u32], i: usize) -> u32
     requires { (i < m.depth) × (2 * m.depth ≤ length stack.now) }
     ensures { ItemTag i m stack.now result }
 {
-    let k = m.depth - 1 - i;
-    stack[STACK_WIDTH * k]
+    machine::item(stack, m.depth - 1 - i).tag
 }
 
 // How many cells are free.
@@ -37,8 +37,7 @@ pub fn size_of(m: Machine, stack: &[u32], cells: &[u32], i: usize) -> u32
     requires { (i < m.depth) × SomewhereThat (HasArray i) m stack.now cells.now }
     ensures { ArraySize i m stack.now cells.now result }
 {
-    let k = m.depth - 1 - i;
-    let h = stack[STACK_WIDTH * k + ITEM_PAYLOAD];
+    let h = header_of(m, stack, i);
     heap::size(cells, h)
 }
 
@@ -48,8 +47,7 @@ pub fn is_sealed(m: Machine, stack: &[u32], cells: &[u32], i: usize) -> bool
     requires { (i < m.depth) × SomewhereThat (HasObject i) m stack.now cells.now }
     ensures { ItemSealed i m stack.now cells.now result }
 {
-    let k = m.depth - 1 - i;
-    let h = stack[STACK_WIDTH * k + ITEM_PAYLOAD];
+    let h = header_of(m, stack, i);
     heap::is_sealed(cells, h)
 }
 
@@ -59,15 +57,14 @@ pub fn seal(m: Machine, stack: &[u32], cells: &mut [u32], i: usize)
     requires { (i < m.depth) × SomewhereThat (HasObject i) m stack.now cells.old }
     ensures { MovesHeap (item_sealed i) m m stack.now stack.now cells.old cells.new }
 {
-    let k = m.depth - 1 - i;
-    let h = stack[STACK_WIDTH * k + ITEM_PAYLOAD];
+    let h = header_of(m, stack, i);
     heap::seal(cells, h);
 }
 
 // Item j gives way to a copy of element q of the array that is item i. The element is counted before the item is let go: the item may be the array itself.
 // Ruled out: the array let go before its element is counted; an element of another place.
 pub fn copy_element(
-    mut m: Machine,
+    m: Machine,
     stack: &mut [u32],
     cells: &mut [u32],
     i: usize,
@@ -78,21 +75,10 @@ pub fn copy_element(
     ensures moves_heap { MovesHeap (element_copied i q j) m result stack.old stack.new cells.old cells.new }
     ensures depth_value { result.depth ≡ m.depth }
 {
-    let n = m.depth;
-    let k = n - 1 - i;
-    let o = n - 1 - j;
-    let lists = m.lists;
-    let h = stack[STACK_WIDTH * k + ITEM_PAYLOAD];
+    let h = header_of(m, stack, i);
     let c = heap::seek(cells, h, q);
-    let tag = heap::get(cells, c, 0);
-    let pay = heap::get(cells, c, 1);
-    let old = stack[STACK_WIDTH * o];
-    let was = stack[STACK_WIDTH * o + ITEM_PAYLOAD];
-    let left = machine::recount(lists, cells, old, was, tag, pay);
-    stack[STACK_WIDTH * o] = tag;
-    stack[STACK_WIDTH * o + ITEM_PAYLOAD] = pay;
-    m.lists = left;
-    m
+    let value = heap::value_of(cells, c);
+    m.put_value(stack, cells, j, value)
 }
 
 // Element q of the array that is item i becomes a copy of item j.
@@ -109,15 +95,11 @@ pub fn put_element(
     ensures moves_heap { MovesHeap (element_put i q j) m result stack.now stack.now cells.old cells.new }
     ensures depth_value { result.depth ≡ m.depth }
 {
-    let n = m.depth;
-    let k = n - 1 - i;
-    let o = n - 1 - j;
     let lists = m.lists;
-    let h = stack[STACK_WIDTH * k + ITEM_PAYLOAD];
-    let tag = stack[STACK_WIDTH * o];
-    let pay = stack[STACK_WIDTH * o + ITEM_PAYLOAD];
+    let h = header_of(m, stack, i);
+    let value = machine::item(stack, m.depth - 1 - j);
     let c = heap::seek(cells, h, q);
-    let left = heap::assign(lists, cells, c, tag, pay);
+    let left = heap::assign(lists, cells, c, value);
     m.lists = left;
     m
 }
@@ -128,8 +110,7 @@ pub fn maximum(m: Machine, stack: &[u32], cells: &[u32], i: usize) -> u32
     requires { (i < m.depth) × SomewhereThat (HasString i) m stack.now cells.now }
     ensures { StringSize i m stack.now cells.now result }
 {
-    let k = m.depth - 1 - i;
-    let h = stack[STACK_WIDTH * k + ITEM_PAYLOAD];
+    let h = header_of(m, stack, i);
     heap::kind(cells, h) - 1
 }
 
@@ -139,8 +120,7 @@ pub fn get_byte(m: Machine, stack: &[u32], cells: &[u32], i: usize, q: u32) -> u
     requires { (i < m.depth) × SomewhereThat (HasByte i q) m stack.now cells.now }
     ensures { ByteOf i q m stack.now cells.now result }
 {
-    let k = m.depth - 1 - i;
-    let h = stack[STACK_WIDTH * k + ITEM_PAYLOAD];
+    let h = header_of(m, stack, i);
     let c = heap::seek(cells, h, q / 8);
     let w = heap::get(cells, c, (q % 8 / 4) as usize);
     byte_of(w, q % 8 % 4)
@@ -152,8 +132,7 @@ pub fn put_byte(m: Machine, stack: &[u32], cells: &mut [u32], i: usize, q: u32, 
     requires { (i < m.depth) × SomewhereThat (HasByte i q) m stack.now cells.old }
     ensures { MovesHeap (byte_put i q b) m m stack.now stack.now cells.old cells.new }
 {
-    let k = m.depth - 1 - i;
-    let h = stack[STACK_WIDTH * k + ITEM_PAYLOAD];
+    let h = header_of(m, stack, i);
     put_byte_at(cells, h, q, b);
 }
 
@@ -189,8 +168,14 @@ pub fn new_array(mut m: Machine, stack: &mut [u32], cells: &mut [u32], i: usize,
     let lists = m.lists;
     let t = heap::allocate(lists, cells, 0, n);
     let left = t.lists;
-    stack[STACK_WIDTH * k] = TAG_ARRAY;
-    stack[STACK_WIDTH * k + ITEM_PAYLOAD] = t.cell;
+    machine::set_item(
+        stack,
+        k,
+        Value {
+            tag: TAG_ARRAY,
+            pay: t.cell,
+        },
+    );
     m.lists = left;
     m
 }
@@ -206,10 +191,25 @@ pub fn new_string(mut m: Machine, stack: &mut [u32], cells: &mut [u32], i: usize
     let lists = m.lists;
     let t = heap::allocate(lists, cells, n + 1, (n + 7) / 8);
     let left = t.lists;
-    stack[STACK_WIDTH * k] = TAG_STRING;
-    stack[STACK_WIDTH * k + ITEM_PAYLOAD] = t.cell;
+    machine::set_item(
+        stack,
+        k,
+        Value {
+            tag: TAG_STRING,
+            pay: t.cell,
+        },
+    );
     m.lists = left;
     m
+}
+
+// The header that item i names.
+#[inline(always)]
+fn header_of(m: Machine, stack: &[u32], i: usize) -> u32
+    requires { (i < m.depth) × (2 * m.depth ≤ length stack.now) }
+    ensures { result ≡ item_payload stack.now (m.depth - 1 - i) }
+{
+    machine::item(stack, m.depth - 1 - i).pay
 }
 
 // The word with b for its byte j.

@@ -1,7 +1,6 @@
 -- `new_string` meets its contract: the object that is made takes the item's place (`string_moves`).
 -- Assumes nothing.
 use Rattle.elements.proofs.Making.{string_moves, room_to_make, few_cells}
-use lib.ListN.{length-set}
 use native.Mathlib.Omega.{arith}
 use mathlib.Core.Path.{refl}
 use Rattle.elements.proofs.new_string.Goals as goal
@@ -15,8 +14,5 @@ overflow_add-n-2 c = omega (arith, few_cells c.requires.2.4, c.requires.1)
 pub allocate-t-requires : goal.allocate-t-requires
 allocate-t-requires c = let R = c.requires.2.4 in record { full = (_, R.world.ghost, R.stored.full); room = room_to_make R _ c.requires.1 }
 
-pub bounds-stack-k-2 : goal.bounds-stack-k-2
-bounds-stack-k-2 c = simp length-set (omega (arith, c.requires.0, c.requires.2.4.rooms.stack_fits))
-
 pub returns : goal.returns
-returns c = record { moves_heap = string_moves c.requires.2.4 c.args.i _ (omega (arith, c.requires.0)) c.requires.2.5 c.args.n _ c.allocate-t.ensures.2 c.allocate-t.ensures.1; depth_value = refl }
+returns c = record { moves_heap = rw c.set_item.ensures (string_moves c.requires.2.4 c.args.i _ (omega (arith, c.requires.0)) c.requires.2.5 c.args.n _ c.allocate-t.ensures.2 c.allocate-t.ensures.1); depth_value = refl }
