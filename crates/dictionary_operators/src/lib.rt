@@ -11,7 +11,7 @@ ghost use Rattle.dictionary_operators.specs.Binding.{HasProcedure, HasElementAt,
 ghost use Rattle.dictionary_operators.specs.Interning.{item_named};
 
 use machine::{
-    ITEM_PAYLOAD, Machine, TAG_EXECUTABLE, TAG_LITERAL, TAG_OPERATOR, TAG_PROCEDURE,
+    Machine, TAG_EXECUTABLE, TAG_LITERAL, TAG_OPERATOR, TAG_PROCEDURE,
     TAG_STRING, TAG_UNBOUND};
 use semantics::{DICTIONARY_WIDTH, Error, NAME_MOST, STACK_WIDTH};
 
