@@ -7,7 +7,7 @@ ghost use Rattle.store.specs.Rep.{byte_of, with_byte};
 ghost use Rattle.machine.specs.Words.{item_payload};
 ghost use Rattle.machine.specs.Rep.{Somewhere, MovesHeap};
 ghost use Rattle.elements.specs.Elements.{HasArray, HasElement, HasString, HasByte, HasObject, HasPlain, HasCell, SomewhereThat};
-ghost use Rattle.elements.specs.Elements.{free_cells, ItemTag, ArraySize, StringSize, ByteOf, ItemSealed, item_sealed, element_copied, element_put, byte_put, PutsByte, array_made, string_made};
+ghost use Rattle.elements.specs.Elements.{free_cells, ItemTag, ArraySize, StringSize, ByteOf, ItemSealed, item_sealed, element_copied, element_put, byte_put, PutsByte, array_made, string_made, MakesObject};
 
 use heap::Value;
 use machine::{Machine, TAG_ARRAY, TAG_STRING};
@@ -158,47 +158,45 @@ pub fn byte_of(w: u32, j: u32) -> u8
 
 // Item i, which names no object, gives way to a new array of n nulls.
 // Ruled out: an array that no place names; one of another length; a cell taken that is not its own.
-pub fn new_array(mut m: Machine, stack: &mut [u32], cells: &mut [u32], i: usize, n: u32) -> Machine
+pub fn new_array(m: Machine, stack: &mut [u32], cells: &mut [u32], i: usize, n: u32) -> Machine
     requires { (i < m.depth) × (n + 1 ≤ free_cells m cells.old) × SomewhereThat (HasPlain i) m stack.old cells.old }
     ensures moves_heap { MovesHeap (array_made i n) m result stack.old stack.new cells.old cells.new }
     ensures depth_value { result.depth ≡ m.depth }
     ensures room { free_cells result cells.new + (n + 1) ≡ free_cells m cells.old }
 {
-    let k = m.depth - 1 - i;
-    let lists = m.lists;
-    let t = heap::allocate(lists, cells, 0, n);
-    let left = t.lists;
-    machine::set_item(
-        stack,
-        k,
-        Value {
-            tag: TAG_ARRAY,
-            pay: t.cell,
-        },
-    );
-    m.lists = left;
-    m
+    new_object(m, stack, cells, i, 0, n, TAG_ARRAY)
 }
 
 // Item i, which names no object, gives way to a new string of maximum n, all zeros.
 // Ruled out: a last cell that is missing where n is no multiple of 8; bytes left from before.
-pub fn new_string(mut m: Machine, stack: &mut [u32], cells: &mut [u32], i: usize, n: u32) -> Machine
+pub fn new_string(m: Machine, stack: &mut [u32], cells: &mut [u32], i: usize, n: u32) -> Machine
     requires { (i < m.depth) × ((n + 7) / 8 + 1 ≤ free_cells m cells.old) × SomewhereThat (HasPlain i) m stack.old cells.old }
     ensures moves_heap { MovesHeap (string_made i n) m result stack.old stack.new cells.old cells.new }
     ensures depth_value { result.depth ≡ m.depth }
 {
+    new_object(m, stack, cells, i, n + 1, (n + 7) / 8, TAG_STRING)
+}
+
+// Item i, which names no object, gives way to a new object of this kind and so many cells. What the tag has to do with the kind is the caller's.
+fn new_object(
+    mut m: Machine,
+    stack: &mut [u32],
+    cells: &mut [u32],
+    i: usize,
+    kind: u32,
+    size: u32,
+    tag: u32,
+) -> Machine
+    requires { (i < m.depth) × (size + 1 ≤ free_cells m cells.old) × Somewhere m stack.old cells.old }
+    ensures makes_object { MakesObject i kind size tag m result stack.old stack.new cells.old cells.new }
+    ensures depth_value { result.depth ≡ m.depth }
+    ensures room { free_cells result cells.new + (size + 1) ≡ free_cells m cells.old }
+{
     let k = m.depth - 1 - i;
     let lists = m.lists;
-    let t = heap::allocate(lists, cells, n + 1, (n + 7) / 8);
+    let t = heap::allocate(lists, cells, kind, size);
     let left = t.lists;
-    machine::set_item(
-        stack,
-        k,
-        Value {
-            tag: TAG_STRING,
-            pay: t.cell,
-        },
-    );
+    machine::set_item(stack, k, Value { tag, pay: t.cell });
     m.lists = left;
     m
 }
@@ -226,14 +224,5 @@ fn unit(j: u32) -> u32
     requires { j < 4 }
     ensures { result ≡ 2 ^ (8 * j) }
 {
-    if j == 0 {
-        return 1;
-    }
-    if j == 1 {
-        return 256;
-    }
-    if j == 2 {
-        return 65536;
-    }
-    16777216
+    1 << (8 * j)
 }
