@@ -11,13 +11,19 @@ ghost use Rattle.elements.specs.Elements.{HasString, ByteOf, SomewhereThat};
 ghost use Rattle.equality.specs.Comparing.{Compares, HasStrings, SameBytes, answered, name_of, turned_by};
 
 use machine::{
-    ITEM_PAYLOAD, Machine, TAG_ARRAY, TAG_BOOLEAN, TAG_EXECUTABLE, TAG_LITERAL, TAG_MARK,
-    TAG_NULL, TAG_PROCEDURE, TAG_STRING};
+    ITEM_PAYLOAD, Machine, TAG_ARRAY, TAG_BOOLEAN, TAG_EXECUTABLE, TAG_LITERAL, TAG_MARK, TAG_NULL,
+    TAG_PROCEDURE, TAG_STRING,
+};
 use semantics::{Error, STACK_WIDTH};
 
 // eq, or ne where `negated` holds. In one, so that the comparison stands once in the code.
 // Ruled out: a literal and an executable name that differ; two strings that are equal only where they are one; an error for operands of two kinds.
-pub fn compare(m: Machine, stack: &mut [u32], cells: &mut [u32], negated: bool) -> Result<Machine, Error>
+pub fn compare(
+    m: Machine,
+    stack: &mut [u32],
+    cells: &mut [u32],
+    negated: bool,
+) -> Result<Machine, Error>
     requires { Somewhere m stack.old cells.old }
     ensures { DoesHeap (perform (name_of negated)) m stack.old stack.new cells.old cells.new result }
 {

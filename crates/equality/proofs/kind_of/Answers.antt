@@ -16,4 +16,4 @@ returns-in-10 c = rw c.in-10.is refl
 
 pub returns-in_default : goal.returns-in_default
 unfolding tag_as
-returns-in_default c = rw (ne_eqb _ 6 (search rules), ne_eqb _ 10 (search rules)) refl
+returns-in_default c = rw (ne_eqb c.args.tag 6 (search rules), ne_eqb c.args.tag 10 (search rules)) refl
