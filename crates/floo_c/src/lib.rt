@@ -6,7 +6,6 @@ ghost use Rattle.semantics.specs.Setup as setup;
 ghost use Rattle.floo_c.specs.Reply.{Replies};
 ghost use Rattle.floo_c.specs.TokenReply.{token_reply_of, refusal_number, fault_number, fault_place, number_of, place_of, kind_number};
 
-use runner::Answer;
 use semantics::{Fault, Kind};
 use token::Located;
 
@@ -52,13 +51,13 @@ pub extern "C" fn floo_run(
     match runner::run(
         script, fuel, stack, execution, dictionary, cells, log, outcome,
     ) {
-        Answer::Refused(number) => Reply {
-            refused: number,
+        Err(refusal) => Reply {
+            refused: refusal.number(),
             steps: 0,
             log: 0,
             outcome: 0,
         },
-        Answer::Ran(report) => Reply {
+        Ok(report) => Reply {
             refused: 0,
             steps: report.steps,
             log: report.log,
