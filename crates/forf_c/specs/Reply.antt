@@ -1,6 +1,6 @@
 -- The answers by their numbers, as C has them.
 -- Assumes nothing.
-use Rattle.std.specs.Prelude.{◌≡◌, List, ℕ}
+use Rattle.std.specs.Prelude.{◌≡◌, Option, Some, None, Ok, Err, List, ℕ}
 use Rattle.forf_semantics.specs.Setup as setup
 use Rattle.forf_semantics.specs.declared.Kind.{Kind}
 use Rattle.forf_semantics.specs.declared.Kind.TheVariants.{Integer, Word, OpenBrace, CloseBrace, End}
