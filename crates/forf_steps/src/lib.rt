@@ -89,14 +89,8 @@ pub fn run(
 fn finished(st: State, end: usize) -> Ended
     ensures { result ≡ record { state = record { machine = st.machine; next = st.next; at = end; steps = st.steps }; ending = Finished } }
 {
-    let m = st.machine;
     Ended {
-        state: State {
-            machine: m,
-            next: st.next,
-            at: end,
-            steps: st.steps,
-        },
+        state: State { at: end, ..st },
         ending: Ending::Finished,
     }
 }
@@ -234,8 +228,8 @@ fn no_item(st: State, start: usize) -> Result<State, Failure>
         });
     }
     let dropped = Machine {
-        depth: m.depth,
         frames: m.frames - 1,
+        ..m
     };
     Ok(after(st, dropped, start, start))
 }
@@ -256,9 +250,8 @@ fn after(st: State, m: Machine, start: usize, next: usize) -> State
     }
     State {
         machine: m,
-        next: st.next,
-        at: st.at,
         steps: st.steps + 1,
+        ..st
     }
 }
 
