@@ -10,12 +10,17 @@ use Rattle.forf_token.specs.declared.Located.{Located}
 use Rattle.forf_token.specs.Reading.{LocatedAt, located_is}
 use Rattle.forf_token.specs.declared.Located.TheVariants.{At}
 use Rattle.forf_token.proofs.Readings.{without_token}
-use Rattle.forf_runner.specs.declared.Answer.{Answer}
-use Rattle.forf_c.specs.Reply.{reply_of, refusal_number, fault_number, token_reply_of}
+use Rattle.std.specs.Prelude.{Option, Err}
+use Rattle.forf_runner.specs.Promise.{Answer, number_of}
+use Rattle.forf_runner.specs.declared.Refusal.{Refusal}
+use Rattle.forf_c.specs.Reply.{refusal_reply, reply_of, refusal_number, fault_number, token_reply_of}
 use Rattle.forf_c.specs.declared.TokenReply.{TokenReply}
 
 pub reply_as : {a b : Answer} → a ≡ b → reply_of b ≡ reply_of a
 reply_as e = ap reply_of (sym e)
+
+pub refusal_as : {a : Answer} {r : Refusal} {m n : Option ℕ} → a ≡ Err r → m ≡ number_of r → m ≡ n → refusal_reply n ≡ reply_of a
+refusal_as e p k = ap refusal_reply (sym k ∙ p) ∙ reply_as e
 
 -- What is replied of the case that the reading is.
 pub replied : {script : List ℕ} {offset : ℕ} {r : Located} → LocatedAt script offset r → (l : Located) → r ≡ l

@@ -5,7 +5,7 @@ ghost use Rattle.std.specs.Prelude.{◌≡◌, ◌+◌, ◌≤◌, length};
 ghost use Rattle.forf_semantics.specs.Setup as setup;
 ghost use Rattle.forf_c.specs.Reply.{Replies, reply_of, token_reply_of, refusal_number, fault_number, kind_number};
 
-use forf_runner::Answer;
+use forf_runner::{Refusal, Report};
 use forf_semantics::Kind;
 use forf_token::Located;
 
@@ -71,27 +71,29 @@ pub extern "C" fn forf_token(script: &[u8], offset: usize) -> TokenReply
 }
 
 // An answer by its numbers: C has no name for the enum.
-fn reply_of(answer: Answer) -> Reply
+fn reply_of(answer: Result<Report, Refusal>) -> Reply
     ensures { result ≡ reply_of answer }
 {
     match answer {
-        Answer::Refused(number) => Reply {
-            refused: number,
-            memory: 0,
-            steps: 0,
-            outcome: 0,
-        },
-        Answer::MemorySlots => Reply {
-            refused: 0,
-            memory: 1,
-            steps: 0,
-            outcome: 0,
-        },
-        Answer::Ran(report) => Reply {
+        Ok(report) => Reply {
             refused: 0,
             memory: 0,
             steps: report.steps,
             outcome: report.outcome,
+        },
+        Err(refusal) => match refusal.number() {
+            Some(refused) => Reply {
+                refused,
+                memory: 0,
+                steps: 0,
+                outcome: 0,
+            },
+            None => Reply {
+                refused: 0,
+                memory: 1,
+                steps: 0,
+                outcome: 0,
+            },
         },
     }
 }

@@ -2,7 +2,7 @@
 -- or is none; and what primitives do one after another.
 -- Assumes nothing.
 use Rattle.std.specs.Prelude.{Ok, Err}
-use mathlib.Core.Path.{◌≡◌, refl, ap, ◌∙◌, subst}
+use mathlib.Core.Path.{◌≡◌, refl, sym, ap, ◌∙◌, subst}
 use mathlib.Core.List.{List, [], ◌∷◌}
 use Prim.Native.Nat.{ℕ, ◌/◌, ◌≤◌, ◌<◌}
 use native.Mathlib.Omega.{arith}
@@ -17,12 +17,11 @@ use Rattle.semantics.specs.declared.Error.{Error}
 use Rattle.semantics.specs.declared.Error.TheVariants.{StackOverflow}
 use Rattle.machine.specs.Operands.{one_int, two_ints, one_low, two_low}
 pub use Rattle.machine.specs.Operands.{on_one, on_two}
-use Rattle.machine.specs.Rep.{Rep, Somewhere, MovesStack, MovesHeap}
+use Rattle.machine.specs.Rep.{Rep, Answer, Somewhere, MovesStack, MovesHeap}
 use Rattle.machine.specs.Moves.{dropped, copied, copied_over, swapped}
 use Rattle.machine.specs.Room.{lent, fitted, DoesStack, DoesHeap}
 use Rattle.machine.specs.declared.Machine.{Machine}
-use Rattle.machine.specs.Answers.{OneInt}
-use Rattle.machine.specs.Answers.{TwoInts}
+use Rattle.machine.specs.Answers.{Did, OneInt, TwoInts}
 use Rattle.machine.proofs.Items.{items_length}
 use Rattle.machine.proofs.Operands.{pop1_some, pop2_some}
 use Rattle.machine.proofs.Rooms.{dictionary_fits, exec_fits, room_stack, rep_passes}
@@ -101,6 +100,17 @@ module _ {f : Floo.Machine → Result Floo.Machine} {m : Machine} {s : List ℕ}
               let t = h e d l μ R in
               (ap (λ q. q >>= room_for (lent s e d c l) μ) t.1 ∙ room_stack (lent s e d c l) μ (with_stack t.0 μ) (dictionary_fits R) (exec_fits R) t.2, (refl, refl));
         }
+
+-- An operator of another name that does the same.
+pub named : {f g : Floo.Machine → Result Floo.Machine} {m : Machine} {s s' : List ℕ} {r : Did}
+    → ((μ : Floo.Machine) → f μ ≡ g μ)
+    → DoesStack g m s s' r
+    → DoesStack f m s s' r
+unfolding fitted
+named {s} {s'} {r} is D =
+    record {
+      does = λ e d c l μ R. subst (λ q. Answer (λ m'. Rep m' s' e d c l) (s' ≡ s) r (fitted (lent s e d c l) (λ τ. q) μ)) (sym (is μ)) (D.does e d c l μ R);
+    }
 
 -- ---- one primitive after another
 

@@ -107,10 +107,8 @@ impl Machine {
     // Whether n items more fit onto the stack. Ruled out: the error where they just fit.
     pub fn has_room(self, stack: &[u32], n: usize) -> Result<(), Error>
         requires { 2 * self.depth ≤ length stack.now }
-        ensures {
-            MatchResult result (λ u. 2 * (self.depth + n) ≤ length stack.now)
-                (λ e. (length stack.now < 2 * (self.depth + n)) × (e ≡ StackOverflow))
-        }
+        ensures { MatchResult result (λ u. 2 * (self.depth + n) ≤ length stack.now)
+            (λ e. (length stack.now < 2 * (self.depth + n)) × (e ≡ StackOverflow)) }
     {
         if stack.len() / STACK_WIDTH - self.depth < n {
             return Err(Error::StackOverflow);

@@ -8,7 +8,7 @@ use Prim.Native.Nat.{ℕ, suc, ◌-◌, ◌+◌, ◌*◌, ◌/◌, ◌≤◌, �
 use native.Mathlib.Omega.{arith}
 use lib.ListN.{length, get_or, set, length-set}
 use Rattle.semantics.specs.Text.{bytes, textual}
-use Rattle.semantics.specs.Values.{Value, mark, null, Result, ok, ◌>>=◌}
+use Rattle.semantics.specs.Values.{Value, mark, null, ok, ◌>>=◌}
 use Rattle.semantics.specs.Machine as Floo
 use Rattle.semantics.specs.Machine.{with_stack, push}
 use Rattle.semantics.specs.Steps.{room_for}
@@ -59,19 +59,19 @@ converted x μ s =
     ap (λ r. r >>= λ p. ok (push (as_executable x p.0) p.1)) (pop1_some μ s)
     ∙ ap (λ t. ok (with_stack (set t 0 (as_executable x (get_or t 0 null))) μ)) (sym s)
 
-module _ (x : Bool) {m : Machine} {st : List ℕ} (op : Floo.Machine → Result Floo.Machine) (named : (μ : Floo.Machine) → op μ ≡ convert x μ) where
-  pub convert_under : m.depth < 1 → DoesStack op m st st (Err StackUnderflow)
+module _ (x : Bool) {m : Machine} {st : List ℕ} where
+  pub convert_under : m.depth < 1 → DoesStack (convert x) m st st (Err StackUnderflow)
   unfolding convert ◌>>=◌
   convert_under h = record {
-    does = λ e d c l μ R. (fitted_fails (lent st e d c l) op μ (named μ ∙ ap (λ r. r >>= λ p. ok (push (as_executable x p.0) p.1)) (pop1_none μ (no_items R.items h))), refl);
+    does = λ e d c l μ R. (fitted_fails (lent st e d c l) (convert x) μ (ap (λ r. r >>= λ p. ok (push (as_executable x p.0) p.1)) (pop1_none μ (no_items R.items h))), refl);
   }
 
-  pub convert_done : {r : Machine} {st' : List ℕ} (k : ℕ) → m.depth ≡ suc k → MovesStack (retagged x) m r st st' → DoesStack op m st st' (Ok r)
+  pub convert_done : {r : Machine} {st' : List ℕ} (k : ℕ) → m.depth ≡ suc k → MovesStack (retagged x) m r st st' → DoesStack (convert x) m st st' (Ok r)
   unfolding fitted retagged ◌>>=◌
   convert_done k h P = record {
     does = λ e d c l μ R.
         let t = top R.items k h in
         let new = as_executable x (get_or μ.stack 0 null) in
         let few : length (set μ.stack 0 new) ≤ length μ.stack = omega (arith, length-set μ.stack 0 new) in
-        (retagged x μ, ap (λ q. q >>= room_for (lent st e d c l) μ) (named μ ∙ converted x μ t.split) ∙ stack_passes R (set μ.stack 0 new) few, P.moves e d c l μ R);
+        (retagged x μ, ap (λ q. q >>= room_for (lent st e d c l) μ) (converted x μ t.split) ∙ stack_passes R (set μ.stack 0 new) few, P.moves e d c l μ R);
   }

@@ -1,8 +1,6 @@
 -- `put_text` meets its contract: the loop keeps `Putting`, that the first q bytes of the text stand in front.
 -- Assumes nothing.
 use Rattle.conversions.proofs.Putting.{Putting}
-use lib.ListN.{length}
-use Prim.Native.Nat.{◌-◌}
 use Rattle.conversions.proofs.put_text.Given as goal
 
 abbrev pub invariant-loop-q : goal.invariant-loop-q

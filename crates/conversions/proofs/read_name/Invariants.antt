@@ -1,7 +1,6 @@
 -- `read_name` meets its contract: the loop keeps `Reads`, that the first j bytes are the name's.
 -- Assumes nothing.
 use Rattle.conversions.proofs.Reading.{Reads}
-use Prim.Native.Nat.{◌-◌}
 use Rattle.conversions.proofs.read_name.Given as goal
 
 abbrev pub invariant-loop-j : goal.invariant-loop-j
