@@ -8,7 +8,7 @@ ghost use Rattle.forf_steps.specs.Stepping.{Acting, Acts, Ready, Steps, is_pendi
 ghost use Rattle.forf_steps.specs.Running.{Begun, Ends};
 ghost use Rattle.forf_steps.specs.declared.Ending.TheVariants.{Finished, OutOfFuel, Failed};
 
-use forf_groups::{Item, Read};
+use forf_groups::Item;
 use forf_machine::{Machine, PENDING, RUNNING, TAG_INTEGER, TAG_SUBSTACK};
 use forf_semantics::Error;
 use semantics::EXEC_WIDTH;
@@ -150,8 +150,7 @@ fn step(
         return Ok(after(st, m, place, place));
     }
     let start = forf_token::skip(script, place);
-    let read = forf_groups::read_item(script, start);
-    let Read::Item(item, next) = read else {
+    let Some((item, next)) = forf_groups::read_item(script, start) else {
         return no_item(st, start);
     };
     move_on(m, exec, next);

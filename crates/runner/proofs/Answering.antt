@@ -1,5 +1,6 @@
 -- The public operation: a refusal by setup, or the run with the words of whole slots. What is past them comes back as it was.
 -- Assumes nothing.
+use Rattle.std.specs.Prelude.{Result, Ok, Err}
 use mathlib.Core.Path.{◌≡◌, refl, sym, ap, ◌∙◌, subst}
 use mathlib.Core.List.{List, ◌++◌}
 use Prim.Native.Nat.{ℕ, ◌+◌, ◌*◌, ◌/◌, ◌≤◌, ◌<◌}
@@ -13,16 +14,22 @@ use Rattle.semantics.specs.AsciiLaws.{Ascii}
 use Rattle.semantics.specs.Setup.{limits, refusal}
 use Rattle.semantics.proofs.RunLaws.{run_steps}
 use Rattle.text.specs.Writing.{Written}
-use Rattle.setup.proofs.Accepting.{accepted}
+use Rattle.setup.specs.Lending.{number_told}
+use Rattle.setup.specs.declared.Refusal.{Refusal}
+use Rattle.setup.proofs.Accepting.{accepted, number_some}
 use Rattle.exactness.proofs.Lists.{along_length}
 use Rattle.exactness.proofs.Tracing.{trace_length}
 use Rattle.run_loop.specs.History.{limits_of}
 use Rattle.runner.specs.Promise.{lent_of, the_run, whole, past, RunIs, Runs, Ready, CarriesOut}
-use Rattle.runner.specs.declared.Answer.TheVariants.{Refused, Ran}
 use Rattle.runner.specs.declared.Report.{Report}
 
-pub refused : {script : List ℕ} {fuel : ℕ} {s e d c l o : List ℕ} {n : ℕ} → n ≡ refusal script fuel (lent_of s e d c l o) → 0 < n → Runs script fuel s s e e d d c c l l o o (Refused n)
-refused q some = record { answers = (sym q, some, refl, refl, refl, refl, refl, refl) }
+-- What setup tells, where it accepts or refuses.
+pub accepts : {t : Result (Unit {0}) Refusal} {u : Unit {0}} {n : ℕ} → number_told t ≡ n → t ≡ Ok u → 0 ≡ n
+accepts q k = sym (ap number_told k) ∙ q
+
+pub refused : {script : List ℕ} {fuel : ℕ} {s e d c l o : List ℕ} {t : Result (Unit {0}) Refusal} {r : Refusal}
+    → number_told t ≡ refusal script fuel (lent_of s e d c l o) → t ≡ Err r → Runs script fuel s s e e d d c c l l o o (Err r)
+refused {r = r} q k = record { answers = (sym q ∙ ap number_told k, number_some r, refl, refl, refl, refl, refl, refl) }
 
 -- ---- whole slots
 
@@ -59,10 +66,9 @@ module _ (script : List ℕ) (fuel : ℕ) (s e d c l o : List ℕ) where
   long_c : length (whole 4 c) ≡ length c / 4 * 4
   long_c = length-take-le (length c / 4 * 4) c (omega arith)
 
-  pub ready : {n : ℕ} → n ≡ refusal script fuel (lent_of s e d c l o) → (0 < n → ⊥) → Ready script fuel (whole 2 s) (whole 8 e) (whole 12 d) (whole 4 c) l o
-  ready {n} q none =
-      let zero : n ≡ 0 = omega (arith, none) in
-      let A = accepted script fuel (lent_of s e d c l o) (sym q ∙ zero) in
+  pub ready : 0 ≡ refusal script fuel (lent_of s e d c l o) → Ready script fuel (whole 2 s) (whole 8 e) (whole 12 d) (whole 4 c) l o
+  ready q =
+      let A = accepted script fuel (lent_of s e d c l o) (sym q) in
       record {
         short = A.short;
         fueled = A.fueled;
@@ -126,7 +132,7 @@ module _ (script : List ℕ) (fuel : ℕ) (s e d c l o : List ℕ) where
           state = C.state;
         }
 
-  pub answered : {n : ℕ} → n ≡ refusal script fuel (lent_of s e d c l o) → (0 < n → ⊥)
+  pub answered : 0 ≡ refusal script fuel (lent_of s e d c l o)
       → {ys ye yd yc l' o' : List ℕ}
       → length ys ≡ length (whole 2 s)
       → length ye ≡ length (whole 8 e)
@@ -134,7 +140,5 @@ module _ (script : List ℕ) (fuel : ℕ) (s e d c l o : List ℕ) where
       → length yc ≡ length (whole 4 c)
       → {r : Report}
       → CarriesOut script fuel initial 0 0 (whole 2 s) ys (whole 8 e) ye (whole 12 d) yd (whole 4 c) yc l l' o o' r
-      → Runs script fuel s (ys ++ past 2 s) e (ye ++ past 8 e) d (yd ++ past 12 d) c (yc ++ past 4 c) l l' o o' (Ran r)
-  answered {n} q none ks ke kd kc C =
-      let zero : n ≡ 0 = omega (arith, none) in
-      record { answers = (sym q ∙ zero, whole_run initial 0 0 ks ke kd kc C) }
+      → Runs script fuel s (ys ++ past 2 s) e (ye ++ past 8 e) d (yd ++ past 12 d) c (yc ++ past 4 c) l l' o o' (Ok r)
+  answered q ks ke kd kc C = record { answers = (sym q, whole_run initial 0 0 ks ke kd kc C) }
