@@ -22,9 +22,9 @@ returns-in-Err-TooLong c =
 pub returns-in-Err-PastEnd : goal.returns-in-Err-PastEnd
 returns-in-Err-PastEnd c =
     let L = rw c.in-Err-PastEnd.field-0-is at c.in-Err-PastEnd.ensures in
-    record { value = c.no_token.ensures ∙ ap (token_reply_of c.args.offset) L.is; size_in_bounds = inside c.no_token.ensures refl }
+    record { value = c.no_token-in-Err-PastEnd.ensures ∙ ap (token_reply_of c.args.offset) L.is; size_in_bounds = inside c.no_token-in-Err-PastEnd.ensures refl }
 
 pub returns-in-Err-Faulty : goal.returns-in-Err-Faulty
 returns-in-Err-Faulty c =
     let L = rw c.in-Err-Faulty.field-0-is at c.in-Err-Faulty.ensures in
-    record { value = c.no_token.ensures ∙ rw (c.number_of.ensures, c.place_of.ensures) (ap (token_reply_of c.args.offset) L.is); size_in_bounds = inside c.no_token.ensures refl }
+    record { value = c.no_token-in-Err-Faulty.ensures ∙ rw (c.number_of.ensures, c.place_of.ensures) (ap (token_reply_of c.args.offset) L.is); size_in_bounds = inside c.no_token-in-Err-Faulty.ensures refl }
