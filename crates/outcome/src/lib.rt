@@ -93,7 +93,8 @@ fn write_fault(out: &mut [u8], at: usize, fault: Fault) -> usize
     text::copy(out, at, fault_name(fault))
 }
 
-// The paper's name of a fault.
+// The same as bytes.
+#[tactic(auto, unfolding(semantics::specs::Errors::fault_text, semantics::specs::Text::bytes))]
 fn fault_name(fault: Fault) -> &'static [u8]
     ensures { result.now ≡ fault_text fault }
 {
@@ -114,7 +115,8 @@ fn write_error(out: &mut [u8], at: usize, error: Error) -> usize
     text::copy(out, at, error_name(error))
 }
 
-// The paper's name of an error.
+// The same as bytes.
+#[tactic(auto, unfolding(semantics::specs::Errors::error_text, semantics::specs::Text::bytes))]
 fn error_name(error: Error) -> &'static [u8]
     ensures { result.now ≡ error_text error }
 {
@@ -281,8 +283,10 @@ fn write_kind(out: &mut [u8], at: usize, tag: u32) -> usize
 }
 
 // The same as bytes. Null is a word by itself.
+#[tactic(auto, unfolding(crate::specs::Reports::kind_text, semantics::specs::Text::bytes))]
 fn kind_name(tag: u32) -> &'static [u8]
-    ensures { result.now ≡ kind_text tag }
+    ensures is_text { result.now ≡ kind_text tag }
+    ensures short { length result.now ≤ 10 }
 {
     match tag {
         TAG_INTEGER => b"integer:",

@@ -74,16 +74,15 @@ module _ {k : ℕ} {m : Machine} {e d c : List ℕ} where
 
 -- ---- a name by its bytes
 
-module _ {n : List ℕ} {k : ℕ} {m : Machine} {e d c : List ℕ} (F : Finds m d n k) where
-  module _ (low : k < m.names) where
-    pub name_there : Bindings m e d c → NamedBindings k m e d c
-    name_there (s, l, μ, R) = (s, l, μ, n, find_key R F low, R)
+module _ {n : List ℕ} {k : ℕ} {m : Machine} {e d c : List ℕ} (F : Finds m d n k) (low : k < m.names) where
+  pub name_there : Bindings m e d c → NamedBindings k m e d c
+  name_there (s, l, μ, R) = (s, l, μ, n, find_key R F low, R)
 
-    pub name_taken : {e' c' : List ℕ} {r : Did} → DoesNamed k m e e' d c c' r → DoesBinding (executable_taken n) m e e' d c c' r
-    name_taken D = record { does = λ s l μ R. D.does s l μ R n (find_key R F low) }
+  pub name_taken : {e' c' : List ℕ} {r : Did} → DoesNamed k m e e' d c c' r → DoesBinding (executable_taken n) m e e' d c c' r
+  name_taken D = record { does = λ s l μ R. D.does s l μ R n (find_key R F low) }
 
-  pub name_missing : m.names ≤ k → k ≤ m.names → DoesBinding (executable_taken n) m e e d c c (Err Undefined)
-  name_missing high low = record {
-    does = λ s l μ R.
-        (fitted_fails (lent s e d c l) (executable_taken n) μ (undefined n μ (lookup_missing n μ.dictionary (find_none R F high low))), (refl, refl));
-  }
+pub name_missing : {n : List ℕ} {m : Machine} {e d c : List ℕ} → Finds m d n m.names → DoesBinding (executable_taken n) m e e d c c (Err Undefined)
+name_missing {n} {m} {e} {d} {c} F = record {
+  does = λ s l μ R.
+      (fitted_fails (lent s e d c l) (executable_taken n) μ (undefined n μ (lookup_missing n μ.dictionary (find_none R F (omega arith) (omega arith)))), (refl, refl));
+}

@@ -241,7 +241,7 @@ unfoldable negation : Lexing ℕ → Lexing ℕ
 negation r = r >>= λ n. ok (word (neg_ℤ (pos n)))
 
 -- Two numbers whose sum is 0 modulo 2 ^ 32 are each other's negation.
-negation_is : (w m : ℕ) → w < 2 ^ 32 → m < 2 ^ 32 → (m + w) % 2 ^ 32 ≡ 0 → m ≡ word (neg_ℤ (pos w))
+pub negation_is : (w m : ℕ) → w < 2 ^ 32 → m < 2 ^ 32 → (m + w) % 2 ^ 32 ≡ 0 → m ≡ word (neg_ℤ (pos w))
 unfolding word
 negation_is zero m h k e = omega arith
 negation_is (suc w) m h k e = omega arith
