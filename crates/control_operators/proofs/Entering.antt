@@ -127,15 +127,14 @@ module _ {m : Machine} {s e d c l : List ℕ} {μ : Floo.Machine} (R : Rep m s e
       unfolding repeat ◌>>=◌ int
       repeat_range l b = repeat_is μ ∙ rw (pop2_some μ counted, count_high (item_payload s k) l b) refl
 
-      pub repeat_into : item_payload s k < 2 ^ 31
-          → Into (perform (bytes "repeat")) (repeating (item_payload s k)) (integer (item_payload s k) ∷ []) μ
+      pub repeat_into : {w : ℕ} → w ≡ item_payload s k → w < 2 ^ 31 → Into (perform (bytes "repeat")) (repeating w) (integer w ∷ []) μ
       unfolding repeat ◌>>=◌ int
-      repeat_into l =
+      repeat_into e l =
           record {
             value = (upper R k (suc k) h refl).value;
             rest = (lower R k (suc k) h refl).rest;
-            split = counted;
-            gives = repeat_is μ ∙ rw (pop2_some μ counted, count_low (item_payload s k) l) refl;
+            split = rw e counted;
+            gives = repeat_is μ ∙ rw (pop2_some μ counted, count_low (item_payload s k) (omega (arith, e)), e) refl;
           }
 
 -- ---- for
@@ -183,15 +182,20 @@ module _ {m : Machine} {s e d c l : List ℕ} {μ : Floo.Machine} (R : Rep m s e
           numbered =
               four ∙ rw (is_integer first.words.stands i, is_integer second.words.stands j, is_integer third.words.stands q) refl
 
-          pub for_into : item_payload s y < 2 ^ 32
-              → item_payload s z < 2 ^ 32
-              → Into (perform (bytes "for")) (counting (signed (item_payload s x)) (item_payload s y) (item_payload s z))
-              (integer (item_payload s z) ∷ integer (item_payload s y) ∷ integer (item_payload s x) ∷ []) μ
+          pub for_into : {a b g : ℕ}
+              → a ≡ item_payload s x
+              → b ≡ item_payload s y
+              → g ≡ item_payload s z
+              → b < 2 ^ 32
+              → g < 2 ^ 32
+              → Into (perform (bytes "for")) (counting (signed a) b g) (integer g ∷ integer b ∷ integer a ∷ []) μ
           unfolding for ◌>>=◌ int
-          for_into b g =
+          for_into ea eb eg lb lg =
               record {
                 value = last.value;
                 rest = first.rest;
-                split = numbered;
-                gives = for_is μ ∙ rw (pop4_some μ numbered, word_signed (item_payload s y) b, word_signed (item_payload s z) g) refl;
+                split = rw (ea, eb, eg) numbered;
+                gives =
+                    for_is μ
+                    ∙ rw (pop4_some μ numbered, word_signed (item_payload s y) (omega (arith, eb)), word_signed (item_payload s z) (omega (arith, eg)), ea, eb, eg) refl;
               }

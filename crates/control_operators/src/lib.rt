@@ -2,7 +2,7 @@
 // their order included; where it fails, no word has changed.
 #![tactic(auto)]
 
-ghost use Rattle.std.specs.Prelude.{◌≡◌, ◌+◌, ◌-◌, ◌*◌, ◌≤◌, length};
+ghost use Rattle.std.specs.Prelude.{◌≡◌, ◌+◌, ◌-◌, ◌*◌, ◌≤◌, ◌<◌, length, IfSome};
 ghost use Rattle.semantics.specs.Text.{bytes};
 ghost use Rattle.semantics.specs.Operators.{perform};
 ghost use Rattle.control_operators.specs.Promises.{Represented, DoesState, DoesSlots, DoesCells, DoesFrames, Forgets, FindsLoop, cut_by};
@@ -10,19 +10,16 @@ ghost use Rattle.machine.specs.FrameMoves.{Somewhere, MovesFrames};
 ghost use Rattle.frames.specs.Moves.{SomewhereAll};
 
 use frames::{FOR, LOOP, REPEAT};
-use machine::{ITEM_PAYLOAD, Machine, TAG_BOOLEAN, TAG_INTEGER};
+use machine::{ITEM_PAYLOAD, Machine, TAG_BOOLEAN};
 use semantics::{EXEC_WIDTH, Error, STACK_WIDTH};
+use word::SIGN;
 
 pub fn exec_(m: Machine, stack: &[u32], exec: &mut [u32]) -> Result<Machine, Error>
     requires { Represented m stack.now exec.old }
     ensures { DoesSlots (perform (bytes "exec")) m stack.now exec.old exec.new result }
 {
-    if m.depth < 1 {
-        return Err(Error::StackUnderflow);
-    }
-    if exec.len() < EXEC_WIDTH * m.frames + EXEC_WIDTH {
-        return Err(Error::ExecStackOverflow);
-    }
+    m.needs(1)?;
+    m.has_slot(exec)?;
     Ok(frames::pend_top(m, stack, exec))
 }
 
@@ -30,12 +27,8 @@ pub fn loop_(m: Machine, stack: &[u32], exec: &mut [u32]) -> Result<Machine, Err
     requires { Represented m stack.now exec.old }
     ensures { DoesSlots (perform (bytes "loop")) m stack.now exec.old exec.new result }
 {
-    if m.depth < 1 {
-        return Err(Error::StackUnderflow);
-    }
-    if exec.len() < EXEC_WIDTH * m.frames + EXEC_WIDTH {
-        return Err(Error::ExecStackOverflow);
-    }
+    m.needs(1)?;
+    m.has_slot(exec)?;
     Ok(frames::enter_loop(m, stack, exec, LOOP, 0, 0, 0))
 }
 
@@ -44,20 +37,12 @@ pub fn repeat_(m: Machine, stack: &[u32], exec: &mut [u32]) -> Result<Machine, E
     requires { Represented m stack.now exec.old }
     ensures { DoesSlots (perform (bytes "repeat")) m stack.now exec.old exec.new result }
 {
-    if m.depth < 2 {
-        return Err(Error::StackUnderflow);
-    }
-    let i = STACK_WIDTH * (m.depth - 2);
-    if stack[i] != TAG_INTEGER {
-        return Err(Error::TypeCheck);
-    }
-    let n = stack[i + ITEM_PAYLOAD];
-    if 2147483648 <= n {
+    m.needs(2)?;
+    let n = m.int_at(stack, 1)?;
+    if SIGN <= n {
         return Err(Error::RangeCheck);
     }
-    if exec.len() < EXEC_WIDTH * m.frames + EXEC_WIDTH {
-        return Err(Error::ExecStackOverflow);
-    }
+    m.has_slot(exec)?;
     let r = frames::enter_loop(m, stack, exec, REPEAT, n, 0, 0);
     Ok(forget(r, 1))
 }
@@ -66,33 +51,12 @@ pub fn for_(m: Machine, stack: &[u32], exec: &mut [u32]) -> Result<Machine, Erro
     requires { Represented m stack.now exec.old }
     ensures { DoesSlots (perform (bytes "for")) m stack.now exec.old exec.new result }
 {
-    if m.depth < 4 {
-        return Err(Error::StackUnderflow);
-    }
-    let i = STACK_WIDTH * (m.depth - 4);
-    let j = STACK_WIDTH * (m.depth - 3);
-    let k = STACK_WIDTH * (m.depth - 2);
-    if stack[i] != TAG_INTEGER {
-        return Err(Error::TypeCheck);
-    }
-    if stack[j] != TAG_INTEGER {
-        return Err(Error::TypeCheck);
-    }
-    if stack[k] != TAG_INTEGER {
-        return Err(Error::TypeCheck);
-    }
-    if exec.len() < EXEC_WIDTH * m.frames + EXEC_WIDTH {
-        return Err(Error::ExecStackOverflow);
-    }
-    let r = frames::enter_loop(
-        m,
-        stack,
-        exec,
-        FOR,
-        stack[i + ITEM_PAYLOAD],
-        stack[j + ITEM_PAYLOAD],
-        stack[k + ITEM_PAYLOAD],
-    );
+    m.needs(4)?;
+    let initial = m.int_at(stack, 3)?;
+    let increment = m.int_at(stack, 2)?;
+    let last = m.int_at(stack, 1)?;
+    m.has_slot(exec)?;
+    let r = frames::enter_loop(m, stack, exec, FOR, initial, increment, last);
     Ok(forget(r, 3))
 }
 
@@ -101,9 +65,7 @@ pub fn if_(m: Machine, stack: &[u32], exec: &mut [u32], cells: &mut [u32]) -> Re
     requires { SomewhereAll m stack.now exec.old cells.old }
     ensures { DoesFrames (perform (bytes "if")) m stack.now stack.now exec.old exec.new cells.old cells.new result }
 {
-    if m.depth < 2 {
-        return Err(Error::StackUnderflow);
-    }
+    m.needs(2)?;
     let i = STACK_WIDTH * (m.depth - 2);
     if stack[i] != TAG_BOOLEAN {
         return Err(Error::TypeCheck);
@@ -112,27 +74,26 @@ pub fn if_(m: Machine, stack: &[u32], exec: &mut [u32], cells: &mut [u32]) -> Re
         let r = m.drop(stack, cells);
         return Ok(forget(r, 1));
     }
-    if exec.len() < EXEC_WIDTH * m.frames + EXEC_WIDTH {
-        return Err(Error::ExecStackOverflow);
-    }
+    m.has_slot(exec)?;
     let r = frames::pend_top(m, stack, exec);
     Ok(forget(r, 1))
 }
 
-pub fn ifelse(m: Machine, stack: &[u32], exec: &mut [u32], cells: &mut [u32]) -> Result<Machine, Error>
+pub fn ifelse(
+    m: Machine,
+    stack: &[u32],
+    exec: &mut [u32],
+    cells: &mut [u32],
+) -> Result<Machine, Error>
     requires { SomewhereAll m stack.now exec.old cells.old }
     ensures { DoesFrames (perform (bytes "ifelse")) m stack.now stack.now exec.old exec.new cells.old cells.new result }
 {
-    if m.depth < 3 {
-        return Err(Error::StackUnderflow);
-    }
+    m.needs(3)?;
     let i = STACK_WIDTH * (m.depth - 3);
     if stack[i] != TAG_BOOLEAN {
         return Err(Error::TypeCheck);
     }
-    if exec.len() < EXEC_WIDTH * m.frames + EXEC_WIDTH {
-        return Err(Error::ExecStackOverflow);
-    }
+    m.has_slot(exec)?;
     if stack[i + ITEM_PAYLOAD] == 0 {
         let p = frames::pend_top(m, stack, exec);
         let r = p.drop(stack, cells);
@@ -148,30 +109,26 @@ pub fn exit(m: Machine, exec: &[u32], cells: &mut [u32]) -> Result<Machine, Erro
     requires { Somewhere m exec.now cells.old }
     ensures { DoesCells (perform (bytes "exit")) m exec.now cells.old cells.new result }
 {
-    let k = find_loop(m, exec);
-    if k < 1 {
-        return stop(m);
+    match find_loop(m, exec) {
+        None => stop(m),
+        Some(k) => Ok(drop_to(m, exec, cells, k)),
     }
-    Ok(drop_to(m, exec, cells, k - 1))
 }
 
 pub fn continue_(m: Machine, exec: &[u32], cells: &mut [u32]) -> Result<Machine, Error>
     requires { Somewhere m exec.now cells.old }
     ensures { DoesCells (perform (bytes "continue")) m exec.now cells.old cells.new result }
 {
-    let k = find_loop(m, exec);
-    if k < 1 {
-        return stop(m);
+    match find_loop(m, exec) {
+        None => stop(m),
+        Some(k) => Ok(drop_to(m, exec, cells, k + 1)),
     }
-    Ok(drop_to(m, exec, cells, k))
 }
 
 pub fn stop(m: Machine) -> Result<Machine, Error>
     ensures { DoesState (perform (bytes "stop")) m result }
 {
-    let mut r = m;
-    r.stopped = true;
-    Ok(r)
+    Ok(Machine { stopped: true, ..m })
 }
 
 // The topmost n items, which name no object, go.
@@ -183,19 +140,18 @@ fn forget(mut m: Machine, n: usize) -> Machine
     m
 }
 
-// How many slots there are from the innermost loop down, 0 where there is none.
-fn find_loop(m: Machine, exec: &[u32]) -> usize
+// The place of the innermost loop's slot, counted from the bottom, where there is one.
+fn find_loop(m: Machine, exec: &[u32]) -> Option<usize>
     requires { 8 * m.frames ≤ length exec.now }
-    ensures { (result ≤ m.frames) × FindsLoop m exec.now result }
+    ensures inside { IfSome result (λ k. k < m.frames) }
+    ensures finds { FindsLoop m exec.now result }
 {
-    let mut k = m.frames;
-    while 0 < k {
-        if LOOP <= exec[EXEC_WIDTH * (k - 1)] {
-            return k;
+    for k in (0..m.frames).rev() {
+        if LOOP <= exec[EXEC_WIDTH * k] {
+            return Some(k);
         }
-        k = k - 1;
     }
-    k
+    None
 }
 
 // Slots go until k are left.
@@ -204,7 +160,7 @@ fn drop_to(m: Machine, exec: &[u32], cells: &mut [u32], k: usize) -> Machine
     ensures { MovesFrames (cut_by (m.frames - k)) m result exec.now exec.now cells.old cells.new }
 {
     let mut r = m;
-    while k < r.frames {
+    for _ in k..m.frames {
         r = r.drop_frame(exec, cells);
     }
     r

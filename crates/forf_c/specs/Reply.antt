@@ -1,13 +1,10 @@
 -- The answers by their numbers, as C has them.
 -- Assumes nothing.
-use Rattle.std.specs.Prelude.{◌≡◌, List, ℕ}
+use Rattle.std.specs.Prelude.{◌≡◌, Option, Some, None, Ok, Err, List, ℕ}
 use Rattle.forf_semantics.specs.Setup as setup
 use Rattle.forf_semantics.specs.declared.Kind.{Kind}
 use Rattle.forf_semantics.specs.declared.Kind.TheVariants.{Integer, Word, OpenBrace, CloseBrace, End}
-use Rattle.forf_token.specs.declared.Located.{Located}
-use Rattle.forf_token.specs.declared.Located.TheVariants.{TooLong, PastEnd, Faulty, At}
 use Rattle.forf_runner.specs.Promise.{Answer, number_of, Runs}
-use Rattle.std.specs.Prelude.{Option, Some, None, Ok, Err}
 use Rattle.forf_c.specs.declared.Reply.{Reply}
 use Rattle.forf_c.specs.declared.TokenReply.{TokenReply}
 
@@ -33,18 +30,6 @@ kind_number Word = 2
 kind_number OpenBrace = 3
 kind_number CloseBrace = 4
 kind_number End = 5
-
-abbrev pub refusal_number : Located → ℕ
-refusal_number TooLong = 1
-refusal_number PastEnd = 10
-refusal_number Faulty = 0
-refusal_number (At k n start size) = 0
-
-abbrev pub fault_number : Located → ℕ
-fault_number TooLong = 0
-fault_number PastEnd = 0
-fault_number Faulty = 1
-fault_number (At k n start size) = 0
 
 abbrev pub token_reply_of : ℕ → setup.Reading → TokenReply
 token_reply_of offset (setup.refused n) = record { refused = n; fault = 0; kind = 0; next = offset; start = 0; size = 0 }

@@ -3,11 +3,11 @@
 
 ghost use Rattle.std.specs.Prelude.{◌≡◌, ◌+◌, ◌≤◌, length};
 ghost use Rattle.forf_semantics.specs.Setup as setup;
-ghost use Rattle.forf_c.specs.Reply.{Replies, reply_of, token_reply_of, refusal_number, fault_number, kind_number};
+ghost use Rattle.forf_c.specs.Reply.{Replies, reply_of, token_reply_of, kind_number};
 
 use forf_runner::{Refusal, Report};
 use forf_semantics::Kind;
-use forf_token::Located;
+use forf_token::Refused;
 
 // The number of the refusal, or 0; 1 where the memory has not 32 slots, or 0; and what the run came to.
 #[repr(C)]
@@ -56,17 +56,18 @@ pub extern "C" fn forf_token(script: &[u8], offset: usize) -> TokenReply
     ensures value { result ≡ token_reply_of offset (setup.reading script.now offset) }
     ensures size_in_bounds { result.start + result.size ≤ length script.now }
 {
-    let located = forf_token::locate(script, offset);
-    let Located::At(kind, next, start, size) = located else {
-        return no_token(refusal_number(located), fault_number(located), offset);
-    };
-    TokenReply {
-        refused: 0,
-        fault: 0,
-        kind: kind_number(kind),
-        next,
-        start,
-        size,
+    match forf_token::locate(script, offset) {
+        Ok(token) => TokenReply {
+            refused: 0,
+            fault: 0,
+            kind: kind_number(token.kind),
+            next: token.next,
+            start: token.start,
+            size: token.size,
+        },
+        Err(Refused::TooLong) => no_token(1, 0, offset),
+        Err(Refused::PastEnd) => no_token(10, 0, offset),
+        Err(Refused::Faulty(_)) => no_token(0, 1, offset),
     }
 }
 
@@ -109,30 +110,6 @@ fn no_token(refused: u32, fault: u32, offset: usize) -> TokenReply
         next: offset,
         start: 0,
         size: 0,
-    }
-}
-
-// The number of the refusal; 0 where there is none.
-fn refusal_number(located: Located) -> u32
-    ensures { result ≡ refusal_number located }
-{
-    match located {
-        Located::TooLong => 1,
-        Located::PastEnd => 10,
-        Located::Faulty => 0,
-        Located::At(_, _, _, _) => 0,
-    }
-}
-
-// 1 where the token is a syntaxerror.
-fn fault_number(located: Located) -> u32
-    ensures { result ≡ fault_number located }
-{
-    match located {
-        Located::TooLong => 0,
-        Located::PastEnd => 0,
-        Located::Faulty => 1,
-        Located::At(_, _, _, _) => 0,
     }
 }
 

@@ -51,10 +51,7 @@ impl Machine {
     pub fn with_depth(self, depth: usize) -> Machine
         ensures { result ≡ record { depth = depth; frames = self.frames } }
     {
-        Machine {
-            depth,
-            frames: self.frames,
-        }
+        Machine { depth, ..self }
     }
 
     // A value on the top of the stack.
@@ -227,8 +224,8 @@ fn pend(m: Machine, exec: &mut [u32], body: u32) -> Result<Machine, Error>
     }
     put(exec, EXEC_WIDTH, frames, PENDING, body);
     Ok(Machine {
-        depth: m.depth,
         frames: frames + 1,
+        ..m
     })
 }
 

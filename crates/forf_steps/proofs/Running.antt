@@ -12,7 +12,6 @@ use Rattle.semantics.specs.Sizes.{script_most, fuel_most}
 use Rattle.semantics.specs.ListLaws.{nil}
 use Rattle.forf_semantics.specs.Steps.{Limits, Step, goes, fails, step, finished, out_of_fuel, failed, Run, is_empty, is_finished, finish, go_on, run, initial}
 use Rattle.forf_semantics.specs.Steps as F
-use Rattle.forf_semantics.specs.declared.Error.{Error}
 use Rattle.forf_machine.specs.Slots.{slots}
 use Rattle.forf_machine.specs.Rep.{frame_of, machine_from, machine_of, limits_of}
 use Rattle.forf_steps.specs.Stepping.{Stepped, state_of, is_done, Ready, Stands, Steps}

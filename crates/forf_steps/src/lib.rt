@@ -8,7 +8,7 @@ ghost use Rattle.forf_steps.specs.Stepping.{Acting, Acts, Ready, Steps, is_pendi
 ghost use Rattle.forf_steps.specs.Running.{Begun, Ends};
 ghost use Rattle.forf_steps.specs.declared.Ending.TheVariants.{Finished, OutOfFuel, Failed};
 
-use forf_groups::{Item, Read};
+use forf_groups::Item;
 use forf_machine::{Machine, PENDING, RUNNING, TAG_INTEGER, TAG_SUBSTACK};
 use forf_semantics::Error;
 use semantics::EXEC_WIDTH;
@@ -89,14 +89,8 @@ pub fn run(
 fn finished(st: State, end: usize) -> Ended
     ensures { result ≡ record { state = record { machine = st.machine; next = st.next; at = end; steps = st.steps }; ending = Finished } }
 {
-    let m = st.machine;
     Ended {
-        state: State {
-            machine: m,
-            next: st.next,
-            at: end,
-            steps: st.steps,
-        },
+        state: State { at: end, ..st },
         ending: Ending::Finished,
     }
 }
@@ -150,8 +144,7 @@ fn step(
         return Ok(after(st, m, place, place));
     }
     let start = forf_token::skip(script, place);
-    let read = forf_groups::read_item(script, start);
-    let Read::Item(item, next) = read else {
+    let Some((item, next)) = forf_groups::read_item(script, start) else {
         return no_item(st, start);
     };
     move_on(m, exec, next);
@@ -235,8 +228,8 @@ fn no_item(st: State, start: usize) -> Result<State, Failure>
         });
     }
     let dropped = Machine {
-        depth: m.depth,
         frames: m.frames - 1,
+        ..m
     };
     Ok(after(st, dropped, start, start))
 }
@@ -257,9 +250,8 @@ fn after(st: State, m: Machine, start: usize, next: usize) -> State
     }
     State {
         machine: m,
-        next: st.next,
-        at: st.at,
         steps: st.steps + 1,
+        ..st
     }
 }
 

@@ -67,11 +67,6 @@ end_token script start h k = record { lexes = rw (drop_of_length-le script k, ze
 abbrev between : List ℕ → ℕ → ℕ → List ℕ
 between script a e = take (e - a) (drop a script)
 
-pub between_short : (script : List ℕ) (a e : ℕ) → a ≤ e → e ≤ length script → length script ≤ script_most → length (between script a e) ≤ script_most
-between_short script a e h k l =
-    let q = length-take-le (e - a) (drop a script) (rw (length-drop a script) (omega arith)) in
-    omega (arith, q)
-
 -- A run as a token: a number, its fault, a word, one that is too long.
 module _ (n : List ℕ) (t : Bool) (is : t ≡ starts_number n) where
   run_number : t ≡ true → (w : ℕ) → tokens.number n ≡ ok w → run_token n ≡ ok (tokens.integer w)
@@ -112,9 +107,6 @@ module _ {script : List ℕ} {start end : ℕ} (R : RunAt script start) (e : end
 
   length_run : length (between script start end) ≡ end - start
   length_run = length-take-le (end - start) (drop start script) left
-
-  pub some_run : start ≤ end
-  some_run = omega arith
 
   module _ (t : Bool) (is : t ≡ starts_number (between script start end)) where
     pub integer_token : t ≡ true → {w : ℕ} → read_number (Ok w) ≡ tokens.number (between script start end) → Lexes script start (Integer w) end

@@ -73,23 +73,3 @@ module _ {script : List ℕ} {offset start : ℕ} (B : Begun script offset start
 
   pub located_token : (next : ℕ) (t : Token) (r : Located Kind) → Lexes script start t next → r ≡ owned_by start next t → LocatedAt script offset (Ok r)
   located_token next t r T e = rw e (record { is = token_is next t T; inside = let p = T.later in let i = T.inside in omega arith })
-
--- ---- what the public functions make of it
-
-module _ {script : List ℕ} {offset : ℕ} where
-  pub told : {t : Located Kind} → LocatedAt script offset (Ok t) → answer_of offset (Ok (t.kind, t.next)) ≡ answer offset (reading script offset)
-  told L = ap (answer offset) L.is
-
-  pub told_none : (e : Refused Bad) → LocatedAt script offset (Err e) → answer_of offset (Err e) ≡ answer offset (reading script offset)
-  told_none TooLong L = ap (answer offset) L.is
-  told_none PastEnd L = ap (answer offset) L.is
-  told_none (Faulty e) L = ap (answer offset) L.is
-
-  pub part_is : {t : Located Kind} → LocatedAt script offset (Ok t)
-      → take (t.start + t.size - t.start) (drop t.start script) ≡ part_of script (reading script offset)
-  part_is {t} L = rw (add-sub_cancel_left t.start t.size) (ap (part_of script) L.is)
-
-  pub part_none : (e : Refused Bad) → LocatedAt script offset (Err e) → [] ≡ part_of script (reading script offset)
-  part_none TooLong L = ap (part_of script) L.is
-  part_none PastEnd L = ap (part_of script) L.is
-  part_none (Faulty e) L = ap (part_of script) L.is

@@ -1,6 +1,6 @@
 -- What the definition makes of a group, against what is judged, named and tested: a fault, no room in the order of errors, or the procedure.
 -- Assumes nothing.
-use Rattle.std.specs.Prelude.{Result, Ok, Err}
+use Rattle.std.specs.Prelude.{Ok, Err}
 use mathlib.Core.Path.{◌≡◌, refl, sym, ap, ◌∙◌, subst}
 use mathlib.Core.Bool.{true}
 use mathlib.Core.List.{List, [], ◌∷◌, ◌++◌}
@@ -15,7 +15,7 @@ use Rattle.semantics.specs.Groups.{taken, opened}
 use Rattle.semantics.specs.Held.{sum_of}
 use Rattle.semantics.specs.declared.Fault.{Fault}
 use Rattle.semantics.specs.declared.Error.{Error}
-use Rattle.semantics.specs.declared.Error.TheVariants.{LimitCheck, StackOverflow, VmError}
+use Rattle.semantics.specs.declared.Error.TheVariants.{StackOverflow, VmError}
 use Rattle.machine.specs.Rep.{Rep}
 use Rattle.machine.specs.Room.{lent}
 use Rattle.machine.specs.declared.Machine.{Machine}

@@ -2,7 +2,7 @@
 // the definition, and the function does to that machine what its contract names.
 #![tactic(auto)]
 
-ghost use Rattle.std.specs.Prelude.{◌≡◌, ◌+◌, ◌*◌, ◌-◌, ◌≤◌, ◌<◌, length, set, MatchResult};
+ghost use Rattle.std.specs.Prelude.{◌≡◌, ◌≢◌, ◌+◌, ◌*◌, ◌-◌, ◌≤◌, ◌<◌, length, set, MatchResult};
 ghost use Rattle.machine.specs.Words.{item_tag, item_payload, frame_tag, frame_payload};
 ghost use Rattle.machine.specs.Rep.{Somewhere, MovesStack, MovesHeap};
 ghost use Rattle.machine.specs.Moves.{dropped, copied, copied_over, swapped, retagged, tag_as};
@@ -10,7 +10,7 @@ ghost use Rattle.machine.specs.FrameMoves.{Somewhere as SlotsSomewhere, MovesFra
 ghost use Rattle.machine.specs.Recount.{Placed, Recounts};
 ghost use Rattle.machine.specs.Copies.{HeldItems, PushesValue, PutsValue};
 ghost use Rattle.machine.specs.Operands.{FetchesOne, FetchesTwo, one_low, two_low, FetchesOneLogical, FetchesTwoLogical, one_logical_low, two_logical_low, Replaces, Pushes};
-ghost use Rattle.semantics.specs.declared.Error.TheVariants.{StackUnderflow, StackOverflow};
+ghost use Rattle.semantics.specs.declared.Error.TheVariants.{StackUnderflow, StackOverflow, ExecStackOverflow, TypeCheck};
 
 use heap::{FIRST_OBJECT, Lists, Value};
 use semantics::{EXEC_WIDTH, Error, STACK_WIDTH};
@@ -122,6 +122,31 @@ impl Machine {
             return Err(Error::StackOverflow);
         }
         Ok(())
+    }
+
+    // Whether one execution slot more fits. Ruled out: the error where it just fits.
+    pub fn has_slot(self, exec: &[u32]) -> Result<(), Error>
+        ensures { MatchResult result (λ u. 8 * self.frames + 8 ≤ length exec.now)
+            (λ e. (length exec.now < 8 * self.frames + 8) × (e ≡ ExecStackOverflow)) }
+    {
+        if exec.len() / EXEC_WIDTH <= self.frames {
+            return Err(Error::ExecStackOverflow);
+        }
+        Ok(())
+    }
+
+    // Item i from the top, where it is an integer.
+    pub fn int_at(self, stack: &[u32], i: usize) -> Result<u32, Error>
+        requires { (i < self.depth) × (2 * self.depth ≤ length stack.now) }
+        ensures { MatchResult result
+            (λ w. (item_tag stack.now (self.depth - 1 - i) ≡ 1) × (w ≡ item_payload stack.now (self.depth - 1 - i)))
+            (λ e. (item_tag stack.now (self.depth - 1 - i) ≢ 1) × (e ≡ TypeCheck)) }
+    {
+        let k = self.depth - 1 - i;
+        if stack[STACK_WIDTH * k] != TAG_INTEGER {
+            return Err(Error::TypeCheck);
+        }
+        Ok(stack[STACK_WIDTH * k + ITEM_PAYLOAD])
     }
 
     // An integer operand, or what is wrong with it.

@@ -3,7 +3,7 @@
 use mathlib.Core.Path.{◌≡◌, refl, sym, ap, subst, ◌∙◌}
 use mathlib.Core.Bool.{Bool, true, false, cond, ◌||◌}
 use mathlib.Core.List.{List, [], ◌∷◌}
-use Prim.Native.Nat.{ℕ, suc, ◌+◌, ◌-◌, ◌^◌, ◌≤◌, ◌<◌}
+use Prim.Native.Nat.{ℕ, suc, ◌+◌, ◌-◌, ◌≤◌, ◌<◌}
 use native.Mathlib.Numerals.{add-one}
 use native.Mathlib.Omega.{arith}
 use lib.Dec.{eqb}
@@ -152,11 +152,6 @@ module _ {script : List ℕ} {start : ℕ} where
 -- The bytes of a script from a to e.
 abbrev between : List ℕ → ℕ → ℕ → List ℕ
 between script a e = take (e - a) (drop a script)
-
-pub between_short : (script : List ℕ) (a e : ℕ) → a ≤ e → e ≤ length script → length script < 2 ^ 32 → a + length (between script a e) < 2 ^ 32
-between_short script a e h k l =
-    let q = length-take-le (e - a) (drop a script) (rw (length-drop a script) (omega arith)) in
-    omega (arith, q)
 
 word_list : (at b : ℕ) (s : List ℕ) (k : ℕ) → run (b ∷ s) ≡ k → lex_as tokens.name_byte at b s ≡ (run_token at (take k (b ∷ s)) >>= λ t. lexeme t k)
 unfolding lex_as

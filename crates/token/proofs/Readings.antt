@@ -1,11 +1,10 @@
 -- The public reading: each answer of the code is the definition's, and the part lies inside the script.
 -- Assumes nothing.
-use mathlib.Core.Path.{◌≡◌, refl, sym, ap, ◌∙◌}
-use mathlib.Core.List.{List, []}
-use Prim.Native.Nat.{ℕ, ◌+◌, ◌-◌, ◌≤◌, ◌<◌}
-use native.Mathlib.Nat.{add-sub_cancel_left}
+use mathlib.Core.Path.{◌≡◌, refl, sym, ◌∙◌}
+use mathlib.Core.List.{List}
+use Prim.Native.Nat.{ℕ, ◌≤◌, ◌<◌}
 use native.Mathlib.Omega.{arith}
-use lib.ListN.{length, take, drop}
+use lib.ListN.{length, drop}
 use borrow.Author.Tests.{lt-ltb, le-ltb}
 use Rattle.semantics.specs.Sizes.{script_most}
 use Rattle.semantics.specs.Values.{fault}
@@ -17,11 +16,10 @@ use Rattle.semantics.specs.Setup as setup
 use Rattle.semantics.specs.declared.Fault.{Fault}
 use Rattle.semantics.specs.declared.Kind.{Kind}
 use Rattle.token.specs.Lexing.{TokenAt}
-use Rattle.token.specs.Reading.{LocatedAt, Within, Ordered, owned_by, answer_of, answer, located_is, part_of}
+use Rattle.token.specs.Reading.{LocatedAt, Within, owned_by, located_is}
 use Rattle.token.specs.declared.Token.{Token}
 use Rattle.token.specs.declared.Token.TheVariants.{Integer, String, ExecutableName, LiteralName, OpenBrace, CloseBrace, End}
 use Rattle.std.specs.Prelude.{Ok, Err}
-use Rattle.token.specs.declared.Refused.{Refused}
 use Rattle.token.specs.declared.Refused.TheVariants.{TooLong, PastEnd, Faulty}
 use Rattle.token.specs.declared.Located.{Located}
 
@@ -36,16 +34,6 @@ unfolding reading is_too_long
 past_end {script} {offset} h k = record { is = rw (le-ltb script_most (length script) h, reading, lt-ltb (length script) offset k); inside = tt }
 
 -- ---- tokens
-
--- A token has its bytes between its ends.
-pub ordered : (script : List ℕ) (start next : ℕ) (t : Token) → TokenAt script start next t → Ordered start next t
-ordered script start next (Integer w) T = let h = T.past in omega arith
-ordered script start next (String at size) T = T.own.past
-ordered script start next (ExecutableName at size) T = tt
-ordered script start next (LiteralName at size) T = tt
-ordered script start next OpenBrace T = tt
-ordered script start next CloseBrace T = tt
-ordered script start next End T = tt
 
 same_reading : (k : Kind) {a a' b b' c c' : ℕ} → a ≡ a' → b ≡ b' → c ≡ c' → setup.read k a b c ≡ setup.read k a' b' c'
 same_reading k p q r = cc
@@ -109,23 +97,3 @@ module _ {script : List ℕ} {offset start : ℕ} (B : Begun script offset start
 
   pub located_token : (next : ℕ) (t : Token) (r : Located Kind) → TokenAt script start next t → r ≡ owned_by start next t → LocatedAt script offset (Ok r)
   located_token next t r T e = rw e (record { is = token_is next t T; inside = token_inside next t T })
-
--- ---- what the public functions make of it
-
-module _ {script : List ℕ} {offset : ℕ} where
-  pub told : {t : Located Kind} → LocatedAt script offset (Ok t) → answer_of offset (Ok (t.kind, t.next)) ≡ answer offset (reading script offset)
-  told L = ap (answer offset) L.is
-
-  pub told_none : (e : Refused Fault) → LocatedAt script offset (Err e) → answer_of offset (Err e) ≡ answer offset (reading script offset)
-  told_none TooLong L = ap (answer offset) L.is
-  told_none PastEnd L = ap (answer offset) L.is
-  told_none (Faulty f) L = ap (answer offset) L.is
-
-  pub part_is : {t : Located Kind} → LocatedAt script offset (Ok t)
-      → take (t.start + t.size - t.start) (drop t.start script) ≡ part_of script (reading script offset)
-  part_is {t} L = rw (add-sub_cancel_left t.start t.size) (ap (part_of script) L.is)
-
-  pub part_none : (e : Refused Fault) → LocatedAt script offset (Err e) → [] ≡ part_of script (reading script offset)
-  part_none TooLong L = ap (part_of script) L.is
-  part_none PastEnd L = ap (part_of script) L.is
-  part_none (Faulty f) L = ap (part_of script) L.is

@@ -1,7 +1,6 @@
 -- `forf_outcome::write_items` meets its contract: each way to an answer by its law.
 -- Assumes nothing.
 use Rattle.forf_outcome.proofs.Lining.{list_begin, list_room, list_again, list_ends}
-use native.Mathlib.Omega.{arith}
 use Rattle.forf_outcome.proofs.write_items.Goals as goal
 
 pub loop-i-init : goal.loop-i-init
