@@ -1,7 +1,7 @@
 -- A frequent operator that is pending, or is a procedure's next element, is found and executed: what it promises on the words then is what the step promises, and
 -- three words put the slot back where it fails. What is left to the other ways to act is a rare operator or none.
 -- Assumes nothing.
-use Rattle.std.specs.Prelude.{Ok, Err}
+use Rattle.std.specs.Prelude.{Option, Some, None, Ok, Err}
 use mathlib.Core.Path.{◌≡◌, refl, sym, ap, ◌∙◌, subst}
 use mathlib.Core.List.{List}
 use Prim.Native.Nat.{ℕ, ◌+◌, ◌-◌, ◌*◌, ◌≤◌, ◌<◌}
@@ -22,8 +22,6 @@ use Rattle.frames.specs.Moves.{reset_words, Turned, Advances}
 use Rattle.operators.specs.Titles.{perform_at, Everywhere, DoesAll, EverywhereButLog, DoesButLog}
 use Rattle.turns.specs.Turns.{resumed}
 use Rattle.acting.specs.Nexts.{Executes, Infrequent, NextIs}
-use Rattle.acting.specs.declared.Next.{Next}
-use Rattle.acting.specs.declared.Next.TheVariants.{Frequent, Other}
 use Rattle.acting.proofs.Executing.{alike, operator_fits, back, after, stands, fits}
 
 -- ---- found
@@ -90,8 +88,8 @@ pending_other kind rare c = (refl, record { pending = λ k. rare; element = λ k
 
 -- ---- executed
 
-module _ {m : Machine} {e e₁ c : List ℕ} {next : Next} (N : NextIs m e e₁ c next) where
-  module _ {number : ℕ} {left : Machine} (q : next ≡ Frequent number left) where
+module _ {m : Machine} {e e₁ c : List ℕ} {next : Option (ℕ × Machine)} (N : NextIs m e e₁ c next) where
+  module _ {number : ℕ} {left : Machine} (q : next ≡ Some (number, left)) where
     executes : Executes number m left e e₁ c
     executes = subst (NextIs m e e₁ c) q N
 
@@ -126,7 +124,7 @@ module _ {m : Machine} {e e₁ c : List ℕ} {next : Next} (N : NextIs m e e₁ 
 
   -- ---- otherwise
 
-  module _ (q : next ≡ Other) where
+  module _ (q : next ≡ None) where
     otherwise : (e₁ ≡ e) × Infrequent m e c
     otherwise = subst (NextIs m e e₁ c) q N
 

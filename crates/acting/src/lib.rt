@@ -18,14 +18,7 @@ use machine::{
     FRAME_CELL, FRAME_LEFT, FRAME_PAYLOAD, FRAME_TAG, Machine, TAG_EXECUTABLE, TAG_OPERATOR,
     TAG_PROCEDURE};
 use operators::RARE;
-use semantics::EXEC_WIDTH;
-
-// The operator that a step executes, if it is one of the frequent, with the state in which it does: its slot has gone, or the procedure has moved on.
-#[derive(Clone, Copy)]
-enum Next {
-    Frequent(u32, Machine),
-    Other,
-}
+use semantics::{EXEC_WIDTH, Error};
 
 // The topmost slot acts.
 // Ruled out: a slot that acts twice; an operator's operands gone where it fails.
@@ -47,7 +40,7 @@ pub fn act(
     let c = exec[EXEC_WIDTH * k + FRAME_CELL];
     let left = exec[EXEC_WIDTH * k + FRAME_LEFT];
     match next_frequent(m, exec, cells) {
-        Next::Frequent(number, after) => {
+        Some((number, after)) => {
             match operators::frequent(number, after, stack, exec, dict, cells) {
                 Ok(r) => Ok(r),
                 // a procedure that has moved on is put back
@@ -57,12 +50,12 @@ pub fn act(
                 }
             }
         }
-        Next::Other => other(m, stack, exec, dict, cells, log),
+        None => other(m, stack, exec, dict, cells, log),
     }
 }
 
-// The frequent operator that the topmost slot executes.
-fn next_frequent(m: Machine, exec: &mut [u32], cells: &[u32]) -> Next
+// The operator that the topmost slot executes, if it is one of the frequent, with the state in which it does: its slot has gone, or the procedure has moved on.
+fn next_frequent(m: Machine, exec: &mut [u32], cells: &[u32]) -> Option<(u32, Machine)>
     requires { (1 ≤ m.frames) × Somewhere m exec.old cells.now }
     ensures { NextIs m exec.old exec.new cells.now result }
 {
@@ -74,27 +67,27 @@ fn next_frequent(m: Machine, exec: &mut [u32], cells: &[u32]) -> Next
     if kind == RUNNING {
         return frequent_element(m, exec, cells);
     }
-    Next::Other
+    None
 }
 
 // One that is pending.
-fn frequent_pending(m: Machine, exec: &[u32]) -> Next
+fn frequent_pending(m: Machine, exec: &[u32]) -> Option<(u32, Machine)>
     requires { (1 ≤ m.frames) × (frame_kind exec.now (m.frames - 1) ≡ 0) × ((c : List ℕ) × Somewhere m exec.now c) }
     ensures { (c : List ℕ) → NextIs m exec.now exec.now c result }
 {
     let k = m.frames - 1;
     let number = exec[EXEC_WIDTH * k + FRAME_PAYLOAD];
     if exec[EXEC_WIDTH * k + FRAME_TAG] != TAG_OPERATOR {
-        return Next::Other;
+        return None;
     }
     if RARE <= number {
-        return Next::Other;
+        return None;
     }
-    Next::Frequent(number, m.forget_frame())
+    Some((number, m.forget_frame()))
 }
 
 // One that is the next element of the running procedure, which moves on.
-fn frequent_element(m: Machine, exec: &mut [u32], cells: &[u32]) -> Next
+fn frequent_element(m: Machine, exec: &mut [u32], cells: &[u32]) -> Option<(u32, Machine)>
     requires { (1 ≤ m.frames) × (frame_kind exec.old (m.frames - 1) ≡ 1) × Somewhere m exec.old cells.now }
     ensures { NextIs m exec.old exec.new cells.now result }
 {
@@ -102,17 +95,17 @@ fn frequent_element(m: Machine, exec: &mut [u32], cells: &[u32]) -> Next
     let c = exec[EXEC_WIDTH * k + FRAME_CELL];
     let left = exec[EXEC_WIDTH * k + FRAME_LEFT];
     if left == 0 {
-        return Next::Other;
+        return None;
     }
     if heap::get(cells, c, 0) != TAG_OPERATOR {
-        return Next::Other;
+        return None;
     }
     let number = heap::get(cells, c, 1);
     if RARE <= number {
-        return Next::Other;
+        return None;
     }
     frames::advance(m, exec, cells);
-    Next::Frequent(number, m)
+    Some((number, m))
 }
 
 // The slot acts otherwise.

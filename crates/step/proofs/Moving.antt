@@ -1,6 +1,6 @@
 -- The definition's step, by what the runner did: from the promise of a token's function or of the topmost slot to the step's end.
 -- Assumes nothing.
-use Rattle.std.specs.Prelude.{Ok, Err}
+use Rattle.std.specs.Prelude.{Result as Answered, Some, None, Ok, Err}
 use mathlib.Core.Path.{◌≡◌, refl, sym, ap, ◌∙◌, subst}
 use mathlib.Core.Bool.{Bool, true, false}
 use mathlib.Core.List.{List, [], ◌∷◌}
@@ -33,11 +33,9 @@ use Rattle.machine.specs.declared.Machine.{Machine}
 use Rattle.machine.specs.Answers.{Did}
 use Rattle.machine.specs.FrameMoves.{top_frame, frame_dropped}
 use Rattle.token.specs.Lexing.{Lexes}
-use Rattle.handover.specs.Handover.{left_of, Passable, handed_over, HandedAs, MayHand, HandsOver}
-use Rattle.handover.specs.declared.Handed.{Handed}
-use Rattle.handover.specs.declared.Handed.TheVariants as handed
+use Rattle.handover.specs.Handover.{left_of, Passable, handed_over, Handed, HandedAs, MayHand, HandsOver}
 use Rattle.step.specs.Stepping.{state_of, SteppedAs, TriedAs, LogLeft, Steps, Tries, ended_by, handed_by}
-use Rattle.step.specs.declared.Stepped.TheVariants.{Fails}
+use Rattle.step.specs.declared.Stop.TheVariants.{Failed, Misread}
 use Rattle.step.specs.declared.State.{State}
 
 -- What is left of a token that could not be read.
@@ -147,8 +145,8 @@ tries_step {script} {σ} {s} {e = e} {d = d} {c = c} {l = l} {μ = μ} {at = at}
 
 -- The error is handed over, or is not: then the step is the definition's.
 module _ {script : List ℕ} {σ τ : State} {s s' e e' d d' c c' l l' : List ℕ} {x : Error} {command : Command}
-    (T : Tries script σ s s' e e' d d' c c' l l' (Fails τ x command)) (exec-long : length e' ≡ length e) (dict_long : length d' ≡ length d) where
-  module _ {μ : Floo.Machine} (A : TriedAs script σ s s' e e' d d' c c' l l' μ (Fails τ x command)) where
+    (T : Tries script σ s s' e e' d d' c c' l l' (Err (Failed τ x command))) (exec-long : length e' ≡ length e) (dict_long : length d' ≡ length d) where
+  module _ {μ : Floo.Machine} (A : TriedAs script σ s s' e e' d d' c c' l l' μ (Err (Failed τ x command))) where
     abbrev text : List ℕ
     text = command_text script (keys μ) command
 
@@ -164,7 +162,7 @@ module _ {script : List ℕ} {σ τ : State} {s s' e e' d d' c c' l l' : List �
     settled_as : (e'' d'' c'' : List ℕ) (h : Handed)
         → HandedAs (λ m. Rep m s' e'' d'' c'' l') ((e'' ≡ e') × (d'' ≡ d') × (c'' ≡ c')) h (handed_over (lent s e d c l) x text μ)
         → SteppedAs script σ s s' e e'' d d'' c c'' l l' μ (handed_by τ x command h)
-    settled_as e'' d'' c'' (handed.Over q) H = (
+    settled_as e'' d'' c'' (Some q) H = (
       H.0,
       A.0 ∙ handed_goes (lent s e d c l) (state_of σ μ) τ.at (after_of σ.next command) x text H.1
           ∙ ap (λ n. steps.goes (record { machine = H.0; next = after_of σ.next command; at = τ.at; steps = n })) (sym same_steps)
@@ -173,7 +171,7 @@ module _ {script : List ℕ} {σ τ : State} {s s' e e' d d' c c' l l' : List �
       subst (λ n. after_of n command ≤ length script) (sym same_next) A.4,
       A.5,
     )
-    settled_as e'' d'' c'' handed.Not H = (
+    settled_as e'' d'' c'' None H = (
       A.0 ∙ handed_fails (lent s e d c l) (state_of σ μ) τ.at (after_of σ.next command) x text H.0
           ∙ ap (λ n. steps.fails x text (record { machine = μ; next = σ.next; at = τ.at; steps = n })) (sym same_steps)
           ∙ ap (λ n. steps.fails x text (record { machine = μ; next = n; at = τ.at; steps = τ.steps })) (sym same_next),
@@ -184,8 +182,8 @@ module _ {script : List ℕ} {σ τ : State} {s s' e e' d d' c c' l l' : List �
     )
 
   log_left : (h : Handed) → LogLeft l l' (handed_by τ x command h)
-  log_left (handed.Over r) = ap (drop r.written) T.left
-  log_left handed.Not = T.left
+  log_left (Some r) = ap (drop r.written) T.left
+  log_left None = T.left
 
   pub settled : {e'' d'' c'' : List ℕ} (h : Handed)
       → HandsOver script x command τ.machine e' e'' d' d'' c' c'' h
@@ -212,13 +210,8 @@ module _ {script : List ℕ} {σ τ : State} {s s' e e' d d' c c' l l' : List �
         is = A.2;
       }
 
--- Whether it failed.
-abbrev failed : Did → ℕ
-failed (Ok r) = 0
-failed (Err x) = 1
-
-pub never : {q : Machine} {x : Error} {A : Type 0} → Ok q ≡ Err x → A
-never u = let z : ◌≡◌ {A = ℕ} 0 1 = ap failed u in absurd (omega arith)
+pub never : {q : Machine} {x : Error} {A : Type 0} → ◌≡◌ {A = Did} (Ok q) (Err x) → A
+never u = absurd (cc)
 
 -- The answer of what kept the words where it failed.
 pub kept_answer : (R : Machine → Floo.Machine → Type 0) (S T : Type 0) (did : Did) (q : Result Floo.Machine) → (S → T) → Answer R S did q → Answer R T did q
