@@ -13,9 +13,9 @@ ghost use Rattle.strings.specs.Strings.{HasBytes, bytes_filled};
 ghost use Rattle.names.specs.Names.{Named};
 ghost use Rattle.conversions.specs.Texts.{SomewhereNamed, DoesNamedHeap, converted, ended, Known, TextOf, NameRead};
 
-use machine::{
-    ITEM_PAYLOAD, Machine, TAG_BOOLEAN, TAG_EXECUTABLE, TAG_INTEGER, TAG_LITERAL, TAG_STRING};
-use semantics::{Error, NAME_MOST, STACK_WIDTH};
+use heap::Value;
+use machine::{Machine, TAG_BOOLEAN, TAG_EXECUTABLE, TAG_INTEGER, TAG_LITERAL, TAG_STRING};
+use semantics::{Error, NAME_MOST};
 
 // Ruled out: rangecheck where the text fills the string exactly, or where the string is read only; bytes after the text and its zero that are lost.
 pub fn cvs(m: Machine, stack: &mut [u32], dict: &[u32], cells: &mut [u32]) -> Result<Machine, Error>
@@ -31,14 +31,12 @@ pub fn cvs(m: Machine, stack: &mut [u32], dict: &[u32], cells: &mut [u32]) -> Re
     if elements::is_sealed(m, stack, cells, 0) {
         return Err(Error::InvalidAccess);
     }
-    let k = m.depth - 2;
-    let tag = stack[STACK_WIDTH * k];
-    let pay = stack[STACK_WIDTH * k + ITEM_PAYLOAD];
-    if tag == TAG_STRING {
+    let value = machine::item(stack, m.depth - 2);
+    if value.tag == TAG_STRING {
         return convert_string(m, stack, cells);
     }
     let mut text = [0u8; NAME_MOST];
-    let n = write_value(dict, tag, pay, &mut text);
+    let n = write_value(dict, value, &mut text);
     convert(m, stack, cells, &text[0..n])
 }
 
@@ -101,11 +99,12 @@ fn put_zero(m: Machine, stack: &[u32], cells: &mut [u32], n: u32)
 }
 
 // The text of a value that is no string, at the front of out.
-fn write_value(dict: &[u32], tag: u32, pay: u32, out: &mut [u8]) -> usize
-    requires { (name_most ≤ length out.old) × (tag ≡ 8 → ⊥) × Known dict.now tag pay }
-    ensures text_of { TextOf dict.now tag pay out.new result }
+fn write_value(dict: &[u32], value: Value, out: &mut [u8]) -> usize
+    requires { (name_most ≤ length out.old) × (value.tag ≡ 8 → ⊥) × Known dict.now value.tag value.pay }
+    ensures text_of { TextOf dict.now value.tag value.pay out.new result }
     ensures upper_bound { result ≤ name_most }
 {
+    let Value { tag, pay } = value;
     if tag == TAG_INTEGER {
         return text::write_integer(out, 0, pay);
     }
