@@ -4,4 +4,5 @@ pub mod Rep
 pub mod Does
 pub mod Operands
 pub mod Numbers
+pub mod Steps
 pub mod Titles
