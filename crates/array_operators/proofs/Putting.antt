@@ -7,7 +7,7 @@ use mathlib.Core.List.{List, []}
 use mathlib.Core.Logic.{⊎_elim}
 use Prim.Native.Nat.{ℕ, suc, ◌+◌, ◌-◌, ◌^◌, ◌≤◌, ◌<◌}
 use native.Mathlib.Omega.{arith}
-use borrow.Author.Tests.{le-leb, lt-leb, lt-ltb, le-ltb, eq-eqb, ne_eqb}
+use borrow.Author.Tests.{le-leb, lt-leb, lt-ltb, le-ltb}
 use lib.IntN.{ℤ}
 use lib.ListN.{length, get_or, set, drop, length-set}
 use lib.Seq.{set_out, set-get_or}
@@ -277,34 +277,6 @@ module _ {m : Machine} {s c : List ℕ} {n : ℕ} (deep : 3 ≤ m.depth) (I : In
               checked e d l μ R a
               ∙ ap (λ y. (check y RangeCheck >>= λ u. ok (text (set (bytes_of (object μ a.id)) n b))) >>= λ o. ok (change a.id o (popped 3 μ))) t
               ∙ sym (ap (λ i. ok (with_stack (drop 3 μ.stack) (change i (text (set (bytes_of (object μ i)) n b)) μ))) (string_id_lem a)))
-
--- ---- whether a byte may be put
-
-pub zero_reach : (n most b : ℕ) → b ≡ 0 → leb n most ≡ in_reach n most b
-zero_reach n most b z =
-    ⊎_elim
-    (λ (h : n < most). le-leb n most (omega arith) ∙ sym (ap (λ x. x || (eqb n most && eqb b 0)) (lt-ltb n most h)))
-    (λ (h : most ≤ n).
-    ⊎_elim
-    (λ (g : most < n). lt-leb n most g ∙ sym (ap (λ x. x || (eqb n most && eqb b 0)) (le-ltb n most h) ∙ ap (λ x. x && eqb b 0) (ne_eqb n most (λ q. omega arith))))
-    (λ (g : n ≤ most).
-    let same : n ≡ most = omega arith in
-    le-leb n most g ∙ sym (ap (λ x. x || (eqb n most && eqb b 0)) (le-ltb n most h) ∙ ap (λ x. x && eqb b 0) (eq-eqb n most same) ∙ eq-eqb b 0 z))
-    (lt_or_le most n))
-    (lt_or_le n most)
-
-pub byte_reach : (n most b : ℕ) → (b ≡ 0 → ⊥) → ltb n most ≡ in_reach n most b
-byte_reach n most b z =
-    ⊎_elim
-    (λ (h : n < most). lt-ltb n most h ∙ sym (ap (λ x. x || (eqb n most && eqb b 0)) (lt-ltb n most h)))
-    (λ (h : most ≤ n).
-    le-ltb n most h
-    ∙ sym (ap (λ x. x || (eqb n most && eqb b 0)) (le-ltb n most h) ∙ ap (λ x. eqb n most && x) (ne_eqb b 0 z) ∙ neither (eqb n most)))
-    (lt_or_le n most)
-  where
-    neither : (x : Bool) → (x && false) ≡ false
-    neither true = refl
-    neither false = refl
 
 -- ---- past the end nothing changes
 

@@ -1,6 +1,6 @@
 -- What the parts of the operators on arrays and strings read of items, and what they do to a machine of the definition. Items are counted from the top, from 0.
 -- Assumes nothing.
-use Rattle.std.specs.Prelude.{◌≡◌, false, List, ◌∷◌, ◌++◌, reverse, ℕ, ◌-◌, ◌≤◌, ◌<◌, length, get_or, take, drop, Ok, Err}
+use Rattle.std.specs.Prelude.{◌≡◌, false, List, ◌∷◌, ◌++◌, reverse, ℕ, ◌-◌, ◌≤◌, length, get_or, take, drop, Option, Some, None, Ok, Err}
 use Rattle.semantics.specs.Values.{Value, integer, null, mark, elements, Result, ok, fault, ◌>>=◌, int, object_id}
 use Rattle.semantics.specs.Machine as Floo
 use Rattle.semantics.specs.Machine.{with_stack, pop1, object, elements_of, change}
@@ -65,12 +65,13 @@ pub record HasFirst (i n : ℕ) (μ : Floo.Machine) : Type 0 where
   pub array : HasArray i μ
   pub inside : n ≤ length (elements_of (object μ array.id))
 
--- The first n items are no marks, and the next one is one, where there is one.
-pub record MarkAbove (m : Machine) (s : List ℕ) (n : ℕ) : Type 0 where
-  pub few : n ≤ m.depth
-  pub says : (e d c l : List ℕ) (μ : Floo.Machine)
-      → Rep m s e d c l μ
-      → All (λ v. is_mark v ≡ false) (take n μ.stack) × (n < m.depth → get_or μ.stack n null ≡ mark)
+-- No item is a mark, or the first n are none and the next one is one.
+abbrev pub MarkIs : Floo.Machine → Option ℕ → Type 0
+MarkIs μ None = All (λ v. is_mark v ≡ false) μ.stack
+MarkIs μ (Some n) = All (λ v. is_mark v ≡ false) (take n μ.stack) × (get_or μ.stack n null ≡ mark)
+
+pub record MarkAbove (m : Machine) (s : List ℕ) (r : Option ℕ) : Type 0 where
+  pub says : (e d c l : List ℕ) (μ : Floo.Machine) → Rep m s e d c l μ → MarkIs μ r
 
 -- ---- what is done
 

@@ -5,7 +5,7 @@
 ghost use Rattle.std.specs.Prelude.{◌≡◌, List, ℕ, ◌+◌, ◌*◌, ◌/◌, ◌≤◌, ◌<◌, length};
 ghost use Rattle.machine.specs.Rep.{Somewhere};
 ghost use Rattle.elements.specs.Elements.{free_cells};
-ghost use Rattle.construction.specs.Growth.{SetsPlain, SetsArray, SetsString, SameBut};
+ghost use Rattle.construction.specs.Growth.{SetsPlain, SetsArray, SetsString, SetsObject, SameBut};
 
 use machine::{Machine, TAG_PROCEDURE, TAG_STRING};
 
@@ -33,17 +33,7 @@ pub fn set_array(m: Machine, cells: &mut [u32], c: u32, n: u32) -> Placed
     ensures sets_array { SetsArray c n m cells.old result.machine result.header cells.new }
     ensures same_but { SameBut m result.machine × (free_cells result.machine cells.new + (n + 1) ≡ free_cells m cells.old) }
 {
-    let t = heap::allocate(m.lists, cells, 0, n);
-    heap::put(cells, c, 0, TAG_PROCEDURE);
-    heap::put(cells, c, 1, t.cell);
-    heap::seal(cells, t.cell);
-    Placed {
-        machine: Machine {
-            lists: t.lists,
-            ..m
-        },
-        header: t.cell,
-    }
+    set_object(m, cells, c, 0, n, TAG_PROCEDURE)
 }
 
 // The element that cell c is, null so far, becomes a new string of maximum n, all zeros.
@@ -53,8 +43,17 @@ pub fn set_string(m: Machine, cells: &mut [u32], c: u32, n: u32) -> Placed
     ensures sets_string { SetsString c n m cells.old result.machine result.header cells.new }
     ensures same_but { SameBut m result.machine × (free_cells result.machine cells.new + ((n + 7) / 8 + 1) ≡ free_cells m cells.old) }
 {
-    let t = heap::allocate(m.lists, cells, n + 1, (n + 7) / 8);
-    heap::put(cells, c, 0, TAG_STRING);
+    set_object(m, cells, c, n + 1, (n + 7) / 8, TAG_STRING)
+}
+
+// The element that cell c is, null so far, becomes a new object of this kind and so many cells. What the tag has to do with the kind is the caller's.
+fn set_object(m: Machine, cells: &mut [u32], c: u32, kind: u32, size: u32, tag: u32) -> Placed
+    requires { (size + 1 ≤ free_cells m cells.old) × (c * 4 + 4 ≤ length cells.old) × ((s : List ℕ) × Somewhere m s cells.old) }
+    ensures sets_object { SetsObject c kind size tag m cells.old result.machine result.header cells.new }
+    ensures same_but { SameBut m result.machine × (free_cells result.machine cells.new + (size + 1) ≡ free_cells m cells.old) }
+{
+    let t = heap::allocate(m.lists, cells, kind, size);
+    heap::put(cells, c, 0, tag);
     heap::put(cells, c, 1, t.cell);
     heap::seal(cells, t.cell);
     Placed {

@@ -11,7 +11,7 @@ ghost use Rattle.dictionary_operators.specs.Binding.{HasProcedure, HasElementAt,
 ghost use Rattle.dictionary_operators.specs.Interning.{item_named};
 
 use machine::{
-    ITEM_PAYLOAD, Machine, TAG_EXECUTABLE, TAG_LITERAL, TAG_OPERATOR, TAG_PROCEDURE,
+    Machine, TAG_EXECUTABLE, TAG_LITERAL, TAG_OPERATOR, TAG_PROCEDURE,
     TAG_STRING, TAG_UNBOUND};
 use semantics::{DICTIONARY_WIDTH, Error, NAME_MOST, STACK_WIDTH};
 
@@ -23,11 +23,11 @@ pub fn def(m: Machine, stack: &[u32], dict: &mut [u32], cells: &mut [u32]) -> Re
     if m.depth < 2 {
         return Err(Error::StackUnderflow);
     }
-    let i = STACK_WIDTH * (m.depth - 2);
-    if stack[i] != TAG_LITERAL {
+    let name = machine::item(stack, m.depth - 2);
+    if name.tag != TAG_LITERAL {
         return Err(Error::TypeCheck);
     }
-    let slot = stack[i + ITEM_PAYLOAD] as usize;
+    let slot = name.pay as usize;
     let bound = dictionary::bind_item(m, stack, dict, cells, slot, 0);
     let one = bound.drop(stack, cells);
     Ok(one.drop(stack, cells))
@@ -41,12 +41,13 @@ pub fn load(m: Machine, stack: &mut [u32], dict: &[u32], cells: &mut [u32]) -> R
     if m.depth < 1 {
         return Err(Error::StackUnderflow);
     }
-    let i = STACK_WIDTH * (m.depth - 1);
-    if stack[i] != TAG_LITERAL {
+    let name = machine::item(stack, m.depth - 1);
+    if name.tag != TAG_LITERAL {
         return Err(Error::TypeCheck);
     }
-    let slot = stack[i + ITEM_PAYLOAD] as usize;
-    if dictionary::binding_tag(dict, slot) == TAG_UNBOUND {
+    let slot = name.pay as usize;
+    let bound = dictionary::binding(dict, slot);
+    if bound.tag == TAG_UNBOUND {
         return Err(Error::Undefined);
     }
     Ok(dictionary::load_binding(m, stack, dict, cells, slot, 0))
@@ -115,24 +116,24 @@ fn bind_elements(m: Machine, stack: &[u32], dict: &[u32], cells: &mut [u32]) -> 
 }
 
 // Element q of the procedure that is item 0, where it is an executable name that is bound to an operator, becomes the operator.
-fn bind_element(m: Machine, stack: &[u32], dict: &[u32], cells: &mut [u32], q: u32) -> Machine
+fn bind_element(mut m: Machine, stack: &[u32], dict: &[u32], cells: &mut [u32], q: u32) -> Machine
     requires { (1 ≤ m.depth) × HasElementAt q m stack.now dict.now cells.old }
     ensures binds_element { BindsElement q m result stack.now dict.now cells.old cells.new }
     ensures depth_value { result.depth ≡ m.depth }
 {
-    let h = stack[STACK_WIDTH * (m.depth - 1) + ITEM_PAYLOAD];
+    let h = machine::item(stack, m.depth - 1).pay;
     let c = heap::seek(cells, h, q);
-    if heap::get(cells, c, 0) != TAG_EXECUTABLE {
+    let name = heap::value_of(cells, c);
+    if name.tag != TAG_EXECUTABLE {
         return m;
     }
-    let slot = heap::get(cells, c, 1) as usize;
-    if dictionary::binding_tag(dict, slot) != TAG_OPERATOR {
+    let slot = name.pay as usize;
+    let bound = dictionary::binding(dict, slot);
+    if bound.tag != TAG_OPERATOR {
         return m;
     }
-    let pay = dictionary::binding_payload(dict, slot);
     let lists = m.lists;
-    let left = heap::assign(lists, cells, c, TAG_OPERATOR, pay);
-    let mut r = m;
-    r.lists = left;
-    r
+    let left = heap::assign(lists, cells, c, bound);
+    m.lists = left;
+    m
 }

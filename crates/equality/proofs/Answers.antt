@@ -2,7 +2,7 @@
 -- Assumes nothing.
 use Rattle.std.specs.Prelude.{Ok, Err}
 use mathlib.Core.Path.{◌≡◌, refl, sym, ap, ◌∙◌, subst}
-use mathlib.Core.Bool.{Bool, true, false}
+use mathlib.Core.Bool.{Bool, true, false, not, beq}
 use mathlib.Core.List.{List, ◌∷◌}
 use Prim.Native.Nat.{ℕ, ◌-◌, ◌+◌, ◌*◌, ◌≤◌, ◌<◌}
 use native.Mathlib.Omega.{arith}
@@ -28,6 +28,14 @@ pub named_is : (negated : Bool) (μ : Floo.Machine) → perform (name_of negated
 unfolding textual perform find table ◌is◌ name_of turned_by
 named_is false μ = refl
 named_is true μ = refl
+
+-- The answer differs from `negated` where the turned answer holds.
+pub turned : (b negated : Bool) → not (beq b negated) ≡ turned_by negated b
+unfolding turned_by
+turned true true = refl
+turned true false = refl
+turned false true = refl
+turned false false = refl
 
 answered_store : (b : Bool) → KeepsStore (answered b)
 unfolding answered dropped push with_stack

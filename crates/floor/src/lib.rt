@@ -4,7 +4,8 @@
 
 ghost use Rattle.std.specs.Prelude.{◌≡◌, Err};
 ghost use Rattle.semantics.specs.Text.{bytes};
-ghost use Rattle.setup.specs.Lending.{lent_of};
+ghost use Rattle.setup.specs.Lending.{lent_of, number_of};
+ghost use Rattle.floor.specs.declared.Answer.TheVariants.{Refused};
 ghost use Rattle.machine.specs.Rep.{Somewhere};
 ghost use Rattle.floor.specs.Floor.{before, answer_for};
 ghost use Rattle.floor.specs.Promise.{asked, Scans, before_of, Labelled, CarriesLabel, ReadsEntry, Nothing};
@@ -15,7 +16,7 @@ use ending::Ending;
 use machine::{ITEM_PAYLOAD, Machine, TAG_INTEGER, TAG_STRING};
 use runner::Report;
 use semantics::{CELL_WIDTH, DICTIONARY_WIDTH, EXEC_WIDTH, NAME_COUNT, STACK_WIDTH};
-use setup::Lent;
+use setup::{Lent, Refusal};
 
 // A label has at most so many bytes, and a place; numbers and times are at most this.
 const LABEL_MOST: usize = 512;
@@ -25,7 +26,7 @@ const PLACE_MOST: usize = 31;
 const GREATEST: u32 = 2147483647;
 
 // What a scan came to: a refusal of setup by its number, or by its name; the place in the book where a record was replaced or added.
-#[derive(Clone, Copy)]
+#[derive(Clone, Copy, PartialEq, Eq, Debug)]
 pub enum Answer {
     Refused(u32),
     BookMalformed,
@@ -53,6 +54,14 @@ pub struct Scanned {
 pub struct Ran {
     pub report: Report,
     pub entry: Result<Record, Answer>,
+}
+
+impl From<Refusal> for Answer {
+    ghost from_gives = { λ r a. a ≡ Refused (number_of r) };
+
+    fn from(refusal: Refusal) -> Answer {
+        Answer::Refused(refusal.number())
+    }
 }
 
 // A scan: the label is lent, the script is run, and its entry goes into the book.
@@ -141,9 +150,7 @@ pub fn run_labelled(
 fn check(script: &[u8], fuel: u32, label: &[u8], sound: bool, lent: Lent) -> Result<(), Answer>
     ensures { before_of result ≡ before (record { script = script.now; fuel = fuel; label = label.now; lent = lent_of lent }) sound }
 {
-    if let Err(refusal) = setup::check(script, fuel, lent) {
-        return Err(Answer::Refused(refusal.number()));
-    }
+    setup::check(script, fuel, lent)?;
     if !sound {
         return Err(Answer::BookMalformed);
     }

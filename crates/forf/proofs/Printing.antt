@@ -8,12 +8,12 @@ use lib.Seq.{take_at}
 use native.Mathlib.Nat.{zero-add}
 use native.Mathlib.Omega.{arith}
 use Rattle.semantics.specs.Sizes.{fuel_most, stack_most, head_room, item_room}
-use Rattle.semantics.specs.Text.{bytes, decimal}
+use Rattle.semantics.specs.Text.{bytes}
 use Rattle.semantics.specs.Outcome.{line}
 use Rattle.semantics.specs.ObjectOperators.{pasted}
 use Rattle.text.specs.Writing.{Written}
 use Rattle.text.proofs.Pasting.{respelt}
-use Rattle.forf_semantics.specs.Setup.{Lent, verdict, refused, memory_slots, printed}
+use Rattle.forf_semantics.specs.Setup.{Lent, verdict, printed}
 use Rattle.forf_runner.specs.Promise.{Answer, number_of, verdict_of, Runs, AnswerIs, lent_of, the_run}
 use Rattle.std.specs.Prelude.{Option, Some, None, Ok, Err}
 use Rattle.forf_runner.specs.declared.Refusal.{Refusal}

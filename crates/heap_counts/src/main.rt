@@ -76,7 +76,7 @@ ghost use Rattle.std.specs.Prelude.{◌≡◌, ◌+◌, ◌-◌, ◌≤◌, leng
 ghost use Rattle.heap.specs.Shape.{cells};
 ghost use Rattle.heap_counts.specs.Slots.{Slots, Found};
 
-use heap::Lists;
+use heap::{FIRST_OBJECT, Lists, Value};
 use std::io;
 use std::io::Write;
 use steps::Step;
@@ -173,7 +173,13 @@ fn share(s: Lists, slots: &mut [u32], m: &mut [u32], a: usize, b: usize) -> List
     if slots[b] != 0 {
         return s;
     }
-    heap::increment(m, heap::FIRST_OBJECT, named - 1);
+    heap::increment(
+        m,
+        Value {
+            tag: FIRST_OBJECT,
+            pay: named - 1,
+        },
+    );
     slots[b] = named;
     s
 }
@@ -229,9 +235,17 @@ fn set(s: Lists, slots: &[u32], m: &mut [u32], a: usize, i: u32, b: usize) -> Li
     }
     let named = slots[b];
     if named == 0 {
-        return heap::assign(s, m, c, 0, 0);
+        return heap::assign(s, m, c, Value { tag: 0, pay: 0 });
     }
-    heap::assign(s, m, c, heap::FIRST_OBJECT, named - 1)
+    heap::assign(
+        s,
+        m,
+        c,
+        Value {
+            tag: FIRST_OBJECT,
+            pay: named - 1,
+        },
+    )
 }
 
 // Element i of slot a's array becomes its element j.
@@ -245,9 +259,8 @@ fn copy(s: Lists, slots: &[u32], m: &mut [u32], a: usize, i: u32, j: u32) -> Lis
     let Some(d) = find_element(s, slots, m, a, j) else {
         return s;
     };
-    let tag = heap::get(m, d, 0);
-    let pay = heap::get(m, d, 1);
-    heap::assign(s, m, c, tag, pay)
+    let new = heap::value_of(m, d);
+    heap::assign(s, m, c, new)
 }
 
 // One array of 1 more in front of the chain of slot 0. Slot 1 is empty before and after.

@@ -19,28 +19,22 @@ pub fn getinterval(m: Machine, stack: &mut [u32], cells: &mut [u32]) -> Result<M
     requires { Somewhere m stack.old cells.old }
     ensures { DoesHeap (perform (bytes "getinterval")) m stack.old stack.new cells.old cells.new result }
 {
-    if m.depth < 3 {
-        return Err(Error::StackUnderflow);
-    }
+    m.needs(3)?;
     let tag = elements::tag_of(m, stack, 2);
     if tag < TAG_STRING {
         return Err(Error::TypeCheck);
     }
-    match m.two_ints(stack) {
-        Err(e) => Err(e),
-        Ok((start, n)) => {
-            if SIGN <= start {
-                return Err(Error::RangeCheck);
-            }
-            if SIGN <= n {
-                return Err(Error::RangeCheck);
-            }
-            if tag == TAG_STRING {
-                return get_bytes(m, stack, cells, start, n);
-            }
-            get_elements(m, stack, cells, tag, start, n)
-        }
+    let (start, n) = m.two_ints(stack)?;
+    if SIGN <= start {
+        return Err(Error::RangeCheck);
     }
+    if SIGN <= n {
+        return Err(Error::RangeCheck);
+    }
+    if tag == TAG_STRING {
+        return get_bytes(m, stack, cells, start, n);
+    }
+    get_elements(m, stack, cells, tag, start, n)
 }
 
 // Ruled out: rangecheck for a negative start where the operands are of two kinds or the target is read only, and bytes after those written that are lost.
@@ -48,9 +42,7 @@ pub fn putinterval(m: Machine, stack: &mut [u32], cells: &mut [u32]) -> Result<M
     requires { Somewhere m stack.old cells.old }
     ensures { DoesHeap (perform (bytes "putinterval")) m stack.old stack.new cells.old cells.new result }
 {
-    if m.depth < 3 {
-        return Err(Error::StackUnderflow);
-    }
+    m.needs(3)?;
     let into = elements::tag_of(m, stack, 2);
     if into < TAG_STRING {
         return Err(Error::TypeCheck);
@@ -75,7 +67,13 @@ pub fn putinterval(m: Machine, stack: &mut [u32], cells: &mut [u32]) -> Result<M
 }
 
 // getinterval of a string.
-fn get_bytes(m: Machine, stack: &mut [u32], cells: &mut [u32], start: u32, n: u32) -> Result<Machine, Error>
+fn get_bytes(
+    m: Machine,
+    stack: &mut [u32],
+    cells: &mut [u32],
+    start: u32,
+    n: u32,
+) -> Result<Machine, Error>
     requires { (3 ≤ m.depth) × (start < 2 ^ 31) × (n < 2 ^ 31) × ItemTag 2 m stack.old 8 × Integers start n m stack.old × Somewhere m stack.old cells.old }
     ensures { DoesHeap (perform (bytes "getinterval")) m stack.old stack.new cells.old cells.new result }
 {
@@ -172,11 +170,9 @@ fn copy_elements(
     ensures depth_value { result.depth ≡ m.depth }
 {
     let mut r = m;
-    let mut q = 0;
-    while q < n {
+    for q in 0..n {
         r = elements::copy_element(r, stack, cells, from, start + q, 1);
         r = elements::put_element(r, stack, cells, to, at + q, 1);
-        q = q + 1;
     }
     r
 }

@@ -20,7 +20,7 @@ use Rattle.ledger_fields.specs.declared.Mode.TheVariants.{Fresh, Begins}
 use Rattle.ledger_fields.specs.declared.Field.{Field}
 use Rattle.ledger_fields.specs.Fields.{mode_is, close_is, unseen, seen_from, FieldAt}
 use Rattle.ledger_reader.specs.declared.Line.{Line}
-use Rattle.std.specs.Prelude.{Option, Some, None, Result, Ok, Err}
+use Rattle.std.specs.Prelude.{Option, Some, None, Result, Err}
 use Rattle.ledger_reader.specs.declared.Flaw.{Flaw}
 use Rattle.ledger_reader.specs.declared.Flaw.TheVariants.{FieldCount}
 use Rattle.ledger_reader.specs.Lines.{record_by, rank_is, entry_is, uneven, line, LineAt}

@@ -8,7 +8,6 @@ use Prim.Native.Nat.{ℕ, ◌+◌, ◌-◌, ◌≤◌, ◌<◌}
 use native.Mathlib.Omega.{arith}
 use lib.ListN.{length, drop}
 use lib.Dec.{ltb}
-use borrow.Author.Tests.{lt-ltb, le-ltb}
 use Rattle.book.specs.declared.Record.{Record}
 use Rattle.ledger.specs.Reading.{fresh, Lines, read_from}
 use Rattle.ledger.specs.Pieces.{is_there}

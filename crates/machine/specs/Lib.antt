@@ -7,3 +7,4 @@ pub mod Recount
 pub mod Moves
 pub mod Room
 pub mod FrameMoves
+pub mod Copies

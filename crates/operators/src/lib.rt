@@ -13,7 +13,8 @@ ghost use Rattle.dictionary_operators.specs.Promises.{Represented, DoesDictionar
 ghost use Rattle.output_operators.specs.Output.{SomewhereLog, DoesLog};
 ghost use Rattle.operators.specs.Titles.{perform_at, Everywhere, DoesAll, EverywhereButLog, DoesButLog};
 
-use machine::{Machine};
+use machine::Machine;
+use semantics::Error;
 
 // The number of getinterval, the first of the operators that a run meets seldom.
 pub const RARE: u32 = 42;
@@ -299,8 +300,5 @@ pub fn rare(
 pub fn settled(did: Result<Machine, Error>) -> Result<Machine, Error>
     ensures { result ≡ did }
 {
-    match did {
-        Ok(m) => Ok(m.fields()),
-        Err(e) => Err(e),
-    }
+    did.map(|m| m.fields())
 }

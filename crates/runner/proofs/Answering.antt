@@ -1,6 +1,5 @@
 -- The public operation: a refusal by setup, or the run with the words of whole slots. What is past them comes back as it was.
 -- Assumes nothing.
-use Rattle.std.specs.Prelude.{Result, Ok, Err}
 use mathlib.Core.Path.{◌≡◌, refl, sym, ap, ◌∙◌, subst}
 use mathlib.Core.List.{List, ◌++◌}
 use Prim.Native.Nat.{ℕ, ◌+◌, ◌*◌, ◌/◌, ◌≤◌, ◌<◌}
@@ -14,8 +13,9 @@ use Rattle.semantics.specs.AsciiLaws.{Ascii}
 use Rattle.semantics.specs.Setup.{limits, refusal}
 use Rattle.semantics.proofs.RunLaws.{run_steps}
 use Rattle.text.specs.Writing.{Written}
-use Rattle.setup.specs.Lending.{number_told}
+use Rattle.std.specs.Prelude.{Result, Ok, Err, IsErrAnd}
 use Rattle.setup.specs.declared.Refusal.{Refusal}
+use Rattle.setup.specs.Lending.{number_of}
 use Rattle.setup.proofs.Accepting.{accepted, number_some}
 use Rattle.exactness.proofs.Lists.{along_length}
 use Rattle.exactness.proofs.Tracing.{trace_length}
@@ -23,13 +23,14 @@ use Rattle.run_loop.specs.History.{limits_of}
 use Rattle.runner.specs.Promise.{lent_of, the_run, whole, past, RunIs, Runs, Ready, CarriesOut}
 use Rattle.runner.specs.declared.Report.{Report}
 
--- What setup tells, where it accepts or refuses.
-pub accepts : {t : Result (Unit {0}) Refusal} {u : Unit {0}} {n : ℕ} → number_told t ≡ n → t ≡ Ok u → 0 ≡ n
-accepts q k = sym (ap number_told k) ∙ q
+refused : {script : List ℕ} {fuel : ℕ} {s e d c l o : List ℕ} (x : Refusal) → number_of x ≡ refusal script fuel (lent_of s e d c l o) → Runs script fuel s s e e d d c c l l o o (Err x)
+refused x q = record { answers = (sym q, number_some x, refl, refl, refl, refl, refl, refl) }
 
-pub refused : {script : List ℕ} {fuel : ℕ} {s e d c l o : List ℕ} {t : Result (Unit {0}) Refusal} {r : Refusal}
-    → number_told t ≡ refusal script fuel (lent_of s e d c l o) → t ≡ Err r → Runs script fuel s s e e d d c c l l o o (Err r)
-refused {r = r} q k = record { answers = (sym q ∙ ap number_told k, number_some r, refl, refl, refl, refl, refl, refl) }
+-- The refusal is passed on.
+pub passed_on : {script : List ℕ} {fuel : ℕ} {s e d c l o : List ℕ} (r : Result Report Refusal) (x : Refusal)
+    → number_of x ≡ refusal script fuel (lent_of s e d c l o) → IsErrAnd r (λ y. y ≡ x) → Runs script fuel s s e e d d c c l l o o r
+passed_on (Ok k) x q h = absurd h
+passed_on {script} {fuel} {s} {e} {d} {c} {l} {o} (Err y) x q h = subst (λ (z : Refusal). Runs script fuel s s e e d d c c l l o o (Err z)) (sym h) (refused x q)
 
 -- ---- whole slots
 

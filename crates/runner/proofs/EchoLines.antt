@@ -27,6 +27,7 @@ use Rattle.echo_laws.proofs.RunEchoes.{echoes_alike, integer_echoes_alike, lines
 use Rattle.echo_laws.proofs.LogLines.{next_machine, line_stands}
 use Rattle.setup.proofs.Accepting.{accepted}
 use Rattle.runner.specs.Promise.{lent_of, the_run, RunIs, Runs}
+use Rattle.std.specs.Prelude.{Ok}
 use Rattle.runner.specs.declared.Report.{Report}
 
 -- ---- runs that are promised

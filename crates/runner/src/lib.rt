@@ -81,8 +81,7 @@ fn carry_out(
         at: 0,
         steps: 0,
     };
-    let done = proceed(st, script, fuel, stack, exec, dict, cells, log, outcome);
-    done.report
+    proceed(st, script, fuel, stack, exec, dict, cells, log, outcome).report
 }
 
 // What a run from a state came to: the report, the state at its end, and how it ended.
@@ -116,15 +115,14 @@ pub fn proceed(
     let n = outcome::write(
         last, ending, st.at, st.steps, script, stack, dict, cells, outcome,
     );
-    let report = Report {
-        steps: st.steps,
-        log: last.written,
-        outcome: n,
-        machine: last,
-    };
     Proceeded {
-        report: report,
+        report: Report {
+            steps: st.steps,
+            log: last.written,
+            outcome: n,
+            machine: last,
+        },
         state: st,
-        ending: ending,
+        ending,
     }
 }

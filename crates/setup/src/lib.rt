@@ -2,7 +2,7 @@
 // script, fuel and lent lengths. It reads the script's first five bytes and lengths only, so no lent byte changes.
 #![tactic(auto)]
 
-ghost use Rattle.std.specs.Prelude.{◌≡◌, ◌*◌, ◌/◌, ◌<◌, not, length, take};
+ghost use Rattle.std.specs.Prelude.{◌≡◌, not, take};
 ghost use Rattle.semantics.specs.Text.{bytes, same};
 ghost use Rattle.semantics.specs.Tokens.{within};
 ghost use Rattle.semantics.specs.Setup as setup;
@@ -23,39 +23,6 @@ pub struct Lent {
     pub cells: usize,
     pub log: usize,
     pub outcome: usize,
-}
-
-impl Lent {
-    // What these buffers are.
-    // Ruled out: the execution stack's length for the stack's.
-    pub fn of(
-        stack: &[u32],
-        exec: &[u32],
-        dict: &[u32],
-        cells: &[u32],
-        log: &[u8],
-        outcome: &[u8],
-    ) -> Lent
-        ensures { result ≡ record { stack = length stack.now; exec = length exec.now; dict = length dict.now; cells = length cells.now; log = length log.now; outcome = length outcome.now } }
-    {
-        Lent {
-            stack: stack.len(),
-            exec: exec.len(),
-            dict: dict.len(),
-            cells: cells.len(),
-            log: log.len(),
-            outcome: outcome.len(),
-        }
-    }
-}
-
-// The words of whole slots: those past them are not lent on.
-// Ruled out: a slot that is begun.
-pub fn whole(words: usize, width: usize) -> usize
-    requires { 0 < width }
-    ensures { result ≡ words / width * width }
-{
-    words - words % width
 }
 
 // The refusals of the paper's table, in its order.

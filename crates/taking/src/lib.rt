@@ -14,7 +14,7 @@ ghost use Rattle.taking.specs.Flat.{Dictionary, Group, Ahead, AddsNames, AddsNam
 use machine::{
     BINDING_TAG, ITEM_PAYLOAD, Machine, TAG_INTEGER, TAG_LITERAL, TAG_NULL, TAG_UNBOUND,
 };
-use semantics::{DICTIONARY_WIDTH, EXEC_WIDTH, Error, STACK_WIDTH};
+use semantics::{DICTIONARY_WIDTH, Error, STACK_WIDTH};
 use token::Token;
 
 // An integer is pushed.
@@ -66,7 +66,7 @@ pub fn take_literal(
         m.has_room(stack, 1)?;
         return Ok(push_name(m, stack, slot));
     }
-    has_slot(m, dict)?;
+    has_free_name(m, dict)?;
     m.has_room(stack, 1)?;
     let added = dictionary::add(m, dict, name);
     Ok(push_name(added, stack, m.names))
@@ -104,9 +104,7 @@ pub fn take_name(
     if dict[DICTIONARY_WIDTH * slot + BINDING_TAG] == TAG_UNBOUND {
         return Err(Error::Undefined);
     }
-    if exec.len() < EXEC_WIDTH * m.frames + EXEC_WIDTH {
-        return Err(Error::ExecStackOverflow);
-    }
+    m.has_slot(exec)?;
     Ok(dictionary::pend_binding(m, exec, dict, cells, slot))
 }
 
@@ -168,13 +166,13 @@ fn add_name(m: Machine, dict: &mut [u32], name: &[u8]) -> Result<Machine, Error>
     if dictionary::find(m, dict, name).is_some() {
         return Ok(m);
     }
-    has_slot(m, dict)?;
+    has_free_name(m, dict)?;
     Ok(dictionary::add(m, dict, name))
 }
 
-// Whether the dictionary has a slot left for one name more.
+// Whether the dictionary has a slot for one name more.
 // Ruled out: limitcheck where the last slot is free.
-fn has_slot(m: Machine, dict: &[u32]) -> Result<(), Error>
+fn has_free_name(m: Machine, dict: &[u32]) -> Result<(), Error>
     requires { (12 * m.names ≤ length dict.now) × (length dict.now ≤ dictionary_words_most) }
     ensures { MatchResult result (λ u. 12 * m.names + 12 ≤ length dict.now) (λ e. (length dict.now < 12 * m.names + 12) × (e ≡ LimitCheck)) }
 {

@@ -81,10 +81,3 @@ next at i t {old} {new} h room w =
 pub put : (at k : ℕ) (t : List ℕ) {old part : List ℕ} → part ≡ t → k ≡ length t → Written at t old (put_mid at k old part) (at + length t)
 unfolding pasted
 put at k t e f = record { end = refl; bytes = rw (e, f, drop-drop) (simp append_assoc) }
-
--- a turn of a loop that copies t
-pub next : (at i : ℕ) (t : List ℕ) {old new : List ℕ} → i < length t → at + length t ≤ length old → Written at (take i t) old new (at + i) → Written at (take (i + 1) t) old (set new (at + i) (get_or t i 0)) (at + (i + 1))
-next at i t {old} {new} h room w =
-    let few : length (take i t) ≡ i = length-take-le i t (omega arith) in
-    let same : length new ≡ length old = kept (omega arith) w in
-    rw (add-one i, take-suc t i 0, ← add-one i, ← add_assoc) (last (get_or t i 0) (omega arith) (omega arith) w)

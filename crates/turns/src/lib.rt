@@ -14,7 +14,7 @@ ghost use Rattle.turns.specs.Turns.{resumed, IsNot, Quiet, DoesTurn, DoesItems};
 
 use frames::{FOR, PAST, REPEAT};
 use machine::{FRAME_FINAL, FRAME_INCREMENT, FRAME_NEXT, Machine, TAG_INTEGER};
-use semantics::{EXEC_WIDTH, Error, STACK_WIDTH};
+use semantics::{EXEC_WIDTH, Error};
 use word::SIGN;
 
 // The body of `loop` becomes pending once more.
@@ -23,9 +23,7 @@ pub fn loop_turn(m: Machine, exec: &mut [u32], cells: &mut [u32]) -> Result<Mach
     requires { (1 ≤ m.frames) × (frame_kind exec.old (m.frames - 1) ≡ 2) × Somewhere m exec.old cells.old }
     ensures { DoesTurn resumed m exec.old exec.new cells.old cells.new result }
 {
-    if exec.len() < EXEC_WIDTH * m.frames + EXEC_WIDTH {
-        return Err(Error::ExecStackOverflow);
-    }
+    m.has_slot(exec)?;
     Ok(frames::pend_body(m, exec, cells))
 }
 
@@ -40,9 +38,7 @@ pub fn repeat_turn(m: Machine, exec: &mut [u32], cells: &mut [u32]) -> Result<Ma
     if n == 0 {
         return Ok(m.drop_frame(exec, cells));
     }
-    if exec.len() < EXEC_WIDTH * m.frames + EXEC_WIDTH {
-        return Err(Error::ExecStackOverflow);
-    }
+    m.has_slot(exec)?;
     let spare = exec[EXEC_WIDTH * k + FRAME_INCREMENT];
     frames::reset_top(m, exec, REPEAT, n - 1, spare);
     Ok(frames::pend_body(m, exec, cells))
@@ -50,7 +46,12 @@ pub fn repeat_turn(m: Machine, exec: &mut [u32], cells: &mut [u32]) -> Result<Ma
 
 // `for` pushes its number and its body becomes pending, or it goes where the number is beyond the final one or has left 32 bits.
 // Ruled out: a loop that ends one late; the number pushed where the body has no slot.
-pub fn for_turn(m: Machine, stack: &mut [u32], exec: &mut [u32], cells: &mut [u32]) -> Result<Machine, Error>
+pub fn for_turn(
+    m: Machine,
+    stack: &mut [u32],
+    exec: &mut [u32],
+    cells: &mut [u32],
+) -> Result<Machine, Error>
     requires { (1 ≤ m.frames) × (4 ≤ frame_kind exec.old (m.frames - 1)) × SomewhereAll m stack.old exec.old cells.old }
     ensures { DoesFrames resumed m stack.old stack.new exec.old exec.new cells.old cells.new result }
 {
@@ -65,12 +66,8 @@ pub fn for_turn(m: Machine, stack: &mut [u32], exec: &mut [u32], cells: &mut [u3
     ) {
         return Ok(m.drop_frame(exec, cells));
     }
-    if exec.len() < EXEC_WIDTH * m.frames + EXEC_WIDTH {
-        return Err(Error::ExecStackOverflow);
-    }
-    if stack.len() < STACK_WIDTH * m.depth + STACK_WIDTH {
-        return Err(Error::StackOverflow);
-    }
+    m.has_slot(exec)?;
+    m.has_room(stack, 1)?;
     let pushed = m.push_scalar(stack, TAG_INTEGER, n);
     let kind = kind_after(n, increment);
     frames::reset_top(pushed, exec, kind, word::add(n, increment), increment);
@@ -83,9 +80,7 @@ pub fn push_top(m: Machine, stack: &mut [u32], exec: &[u32]) -> Result<Machine, 
     requires { (1 ≤ m.frames) × (frame_kind exec.now (m.frames - 1) ≡ 0) × Quiet (frame_tag exec.now (m.frames - 1)) × IsNot 10 (frame_tag exec.now (m.frames - 1)) × Represented m stack.old exec.now }
     ensures { DoesItems resumed m stack.old stack.new exec.now result }
 {
-    if stack.len() < STACK_WIDTH * m.depth + STACK_WIDTH {
-        return Err(Error::StackOverflow);
-    }
+    m.has_room(stack, 1)?;
     Ok(m.push_pending(stack, exec))
 }
 
@@ -108,13 +103,16 @@ pub fn finish(m: Machine, exec: &[u32], cells: &mut [u32]) -> Result<Machine, Er
 
 // The next element of a running procedure is pushed, and the procedure goes on.
 // Ruled out: an element that is skipped or pushed twice; a procedure inside that runs at once.
-pub fn push_next(m: Machine, stack: &mut [u32], exec: &mut [u32], cells: &mut [u32]) -> Result<Machine, Error>
+pub fn push_next(
+    m: Machine,
+    stack: &mut [u32],
+    exec: &mut [u32],
+    cells: &mut [u32],
+) -> Result<Machine, Error>
     requires { (1 ≤ m.frames) × (frame_kind exec.old (m.frames - 1) ≡ 1) × (1 ≤ frame_left exec.old (m.frames - 1)) × Quiet (word cells.old (frame_cell exec.old (m.frames - 1)) 0) × SomewhereAll m stack.old exec.old cells.old }
     ensures { DoesFrames resumed m stack.old stack.new exec.old exec.new cells.old cells.new result }
 {
-    if stack.len() < STACK_WIDTH * m.depth + STACK_WIDTH {
-        return Err(Error::StackOverflow);
-    }
+    m.has_room(stack, 1)?;
     let r = frames::push_element(m, stack, exec, cells);
     frames::advance(r, exec, cells);
     Ok(r)

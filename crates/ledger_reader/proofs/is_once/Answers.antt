@@ -1,6 +1,6 @@
 -- `is_once` meets its contract: the numbers that are kept are compared with all that follow (Resting).
 -- Assumes nothing.
-use Rattle.std.proofs.Common.{arith, ap, sym, ◌∙◌}
+use Rattle.std.proofs.Common.{arith}
 use Rattle.ledger_reader.proofs.Resting.{alone_starts, alone_all, not_flawed, alone_not, alone_met, alone_next, alone_again, alone_less}
 use Rattle.ledger_reader.proofs.is_once.Goals as goal
 use Rattle.ledger_reader.proofs.is_once.Goals.{then-n-eq-RECORDS_MOST+else-meets, else-n-eq-RECORDS_MOST}

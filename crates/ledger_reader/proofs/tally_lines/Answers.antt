@@ -1,6 +1,6 @@
 -- `tally_lines` meets its contract: the flaw that is told so far and those that are left tell the stage that the text does not pass (Tallying).
 -- Assumes nothing.
-use Rattle.std.proofs.Common.{◌∙◌, sym, ap, Err, arith}
+use Rattle.std.proofs.Common.{◌∙◌, ap, Err}
 use Rattle.ledger_reader.proofs.Tallying.{tallying_starts, tallying_ends, tallied_flaw, tallied_all, tallying_uneven, tallying_flawed, tallying_good}
 use Rattle.ledger_reader.proofs.tally_lines.Goals as goal
 use Rattle.ledger_reader.proofs.tally_lines.Goals.{in-Err+in_default-flaw, in_default-entry}

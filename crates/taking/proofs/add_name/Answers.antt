@@ -8,10 +8,10 @@ use Rattle.taking.proofs.add_name.Goals as goal
 pub returns-then-is_some : goal.returns-then-is_some
 returns-then-is_some c = one_there _ c.find.ensures.finds c.find.ensures.upper_bound (sym c.if-is_some.ensures)
 
-pub returns-in_err-has_slot : goal.returns-in_err-has_slot
-returns-in_err-has_slot c =
+pub returns-in_err-has_free_name : goal.returns-in_err-has_free_name
+returns-in_err-has_free_name c =
     let p = err_from_is_err_and c.from_residual.result c.from_residual.ensures.1 in
-    rw (p.1, p.2, c.in_err-has_slot.ensures.1) (one_full (none_there _ c.find.ensures.finds (sym c.if-is_some.ensures)) c.in_err-has_slot.ensures.0)
+    rw (p.1, p.2, c.in_err-has_free_name.ensures.1) (one_full (none_there _ c.find.ensures.finds (sym c.if-is_some.ensures)) c.in_err-has_free_name.ensures.0)
 
 pub returns : goal.returns
 returns c = let A = c.add.ensures in

@@ -13,15 +13,15 @@ returns-in_err-has_room c =
 pub returns-in-Some : goal.returns-in-Some
 returns-in-Some c = known_done c.in-Some.ensures.finds c.in-Some.ensures.upper_bound c.push_name.ensures.pushes_name c.push_name.auto.stack
 
-pub returns-in_err-has_slot : goal.returns-in_err-has_slot
-returns-in_err-has_slot c =
-    let p = err_from_is_err_and c.from_residual-in_err-has_slot.result c.from_residual-in_err-has_slot.ensures.1 in
-    rw (p.1, p.2, c.in_err-has_slot.ensures.1) (new_full c.in_default.ensures.finds c.in_err-has_slot.ensures.0)
+pub returns-in_err-has_free_name : goal.returns-in_err-has_free_name
+returns-in_err-has_free_name c =
+    let p = err_from_is_err_and c.from_residual-in_err-has_free_name.result c.from_residual-in_err-has_free_name.ensures.1 in
+    rw (p.1, p.2, c.in_err-has_free_name.ensures.1) (new_full c.in_default.ensures.finds c.in_err-has_free_name.ensures.0)
 
 pub returns-in_err-has_room-2 : goal.returns-in_err-has_room-2
 returns-in_err-has_room-2 c =
     let p = err_from_is_err_and c.from_residual-in_err-has_room-2.result c.from_residual-in_err-has_room-2.ensures.1 in
-    rw (p.1, p.2, c.in_err-has_room-2.ensures.1) (new_over c.in_default.ensures.finds c.in_ok-has_slot.ensures (omega (arith, c.in_err-has_room-2.ensures.0)))
+    rw (p.1, p.2, c.in_err-has_room-2.ensures.1) (new_over c.in_default.ensures.finds c.in_ok-has_free_name.ensures (omega (arith, c.in_err-has_room-2.ensures.0)))
 
 pub returns : goal.returns
-returns c = new_done c.in_default.ensures.finds c.in_ok-has_slot.ensures c.add-added.ensures.adds c.push_name-2.ensures.pushes_name c.push_name-2.auto.stack
+returns c = new_done c.in_default.ensures.finds c.in_ok-has_free_name.ensures c.add-added.ensures.adds c.push_name-2.ensures.pushes_name c.push_name-2.auto.stack
