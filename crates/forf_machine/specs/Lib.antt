@@ -6,3 +6,4 @@ pub mod Operands
 pub mod Numbers
 pub mod Steps
 pub mod Titles
+pub mod WordLaws
