@@ -16,7 +16,8 @@ ghost use Rattle.acting.specs.Nexts.{NextIs, Infrequent};
 use frames::{LOOP, PENDING, REPEAT, RUNNING};
 use machine::{
     FRAME_CELL, FRAME_LEFT, FRAME_PAYLOAD, FRAME_TAG, Machine, TAG_EXECUTABLE, TAG_OPERATOR,
-    TAG_PROCEDURE};
+    TAG_PROCEDURE,
+};
 use operators::RARE;
 use semantics::{EXEC_WIDTH, Error};
 
@@ -160,7 +161,12 @@ fn pending(
 }
 
 // The pending name's binding takes its place.
-fn name_pending(m: Machine, exec: &mut [u32], dict: &[u32], cells: &mut [u32]) -> Result<Machine, Error>
+fn name_pending(
+    m: Machine,
+    exec: &mut [u32],
+    dict: &[u32],
+    cells: &mut [u32],
+) -> Result<Machine, Error>
     requires { (1 ≤ m.frames) × (frame_kind exec.old (m.frames - 1) ≡ 0) × (frame_tag exec.old (m.frames - 1) ≡ 6) × Bindings m exec.old dict.now cells.old }
     ensures { DoesBinding resumed m exec.old exec.new dict.now cells.old cells.new result }
 {
@@ -227,7 +233,12 @@ fn perform_element(
 }
 
 // The same of an executable name.
-fn name_element(m: Machine, exec: &mut [u32], dict: &[u32], cells: &mut [u32]) -> Result<Machine, Error>
+fn name_element(
+    m: Machine,
+    exec: &mut [u32],
+    dict: &[u32],
+    cells: &mut [u32],
+) -> Result<Machine, Error>
     requires { (1 ≤ m.frames) × (frame_kind exec.old (m.frames - 1) ≡ 1) × (1 ≤ frame_left exec.old (m.frames - 1)) × (word cells.old (frame_cell exec.old (m.frames - 1)) 0 ≡ 6) × Bindings m exec.old dict.now cells.old }
     ensures { DoesBinding resumed m exec.old exec.new dict.now cells.old cells.new result }
 {
@@ -246,7 +257,12 @@ fn name_element(m: Machine, exec: &mut [u32], dict: &[u32], cells: &mut [u32]) -
 }
 
 // A loop turns.
-fn looping(m: Machine, stack: &mut [u32], exec: &mut [u32], cells: &mut [u32]) -> Result<Machine, Error>
+fn looping(
+    m: Machine,
+    stack: &mut [u32],
+    exec: &mut [u32],
+    cells: &mut [u32],
+) -> Result<Machine, Error>
     requires { (1 ≤ m.frames) × (2 ≤ frame_kind exec.old (m.frames - 1)) × SomewhereAll m stack.old exec.old cells.old }
     ensures { DoesFrames resumed m stack.old stack.new exec.old exec.new cells.old cells.new result }
 {

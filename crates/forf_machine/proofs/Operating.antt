@@ -22,6 +22,7 @@ use Rattle.forf_semantics.specs.declared.Error.TheVariants.{StackUnderflow, Type
 use Rattle.forf_machine.specs.Slots.{Slot, slots, put_slot}
 use Rattle.forf_machine.specs.Rep.{value_as, value_of, SoundValue, SoundFrame, machine_from, machine_of, Rep}
 use Rattle.forf_machine.specs.Does.{Does}
+use Rattle.forf_machine.specs.Steps.{TwoShape}
 use Rattle.forf_machine.specs.Operands.{int_as, int_of, offset_as, offset_of, one_int, two_ints, result_of}
 use Rattle.forf_machine.specs.declared.Machine.{Machine}
 use Rattle.std.specs.Prelude.{Ok, Err}
@@ -256,11 +257,6 @@ module _ {f : Operator} {g : List ℕ → ℕ → Result ℕ} (shape : OneShape 
       }
 
 -- ---- two integers give one, or are stored
-
--- The shape of a word that takes two integers.
-pub record TwoShape (f : Operator) (g : ℕ → ℕ → Result ℕ) : Type 0 where
-  pub gives : (script : List ℕ) (vs fs : List Slot) (mem : List ℕ)
-      → f (machine_from script vs fs mem) ≡ (two_ints vs >>= λ (t : ℕ × ℕ). g t.0 t.1 >>= λ w. ok (machine_from script ((0, w) ∷ drop 2 vs) fs mem))
 
 module _ (m : Machine) (s : List ℕ) (r : std.Result (ℕ × ℕ) Error) (is : result_of r ≡ two_ints (slots 2 m.depth s)) (e mem : List ℕ) where
   pub two_depth : {b a : ℕ} → r ≡ Ok (b, a) → 2 ≤ m.depth

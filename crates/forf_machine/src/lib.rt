@@ -7,15 +7,15 @@ ghost use Rattle.forf_semantics.specs.Operators.{if', ifelse, pop, dup, exch, ms
 ghost use Rattle.forf_machine.specs.Slots.{slots, put_slot};
 ghost use Rattle.forf_machine.specs.Does.{Does, OnDepth, OnStack, OnExec, OnMemory, Pushes, Pends, Lent};
 ghost use Rattle.forf_machine.specs.Operands.{one_int, two_ints, result_of};
-ghost use Rattle.forf_machine.specs.Titles.{action_at};
+ghost use Rattle.forf_machine.specs.Steps.{StepsOne, StepsTwo};
+ghost use Rattle.forf_machine.specs.Titles.{action_at, place_of};
 
 use forf_semantics::Error;
 use semantics::{EXEC_WIDTH, STACK_WIDTH};
 
-mod numbers;
 mod titles;
 
-pub use titles::operator_of;
+pub use titles::{Word, operator_of};
 
 // What the first word of a stack slot says that the second is: an integer's 32 bits, or the offset after a substack's brace.
 pub const TAG_INTEGER: u32 = 0;
@@ -104,62 +104,75 @@ impl Machine {
     }
 }
 
-// ---- the words by their numbers, which are their places in the definition's table
+// ---- the words
 
-// A word acts.
+// A word acts; no word is undefined.
 pub fn perform(
-    k: u32,
+    word: Option<Word>,
     m: Machine,
     stack: &mut [u32],
     exec: &mut [u32],
     memory: &mut [u32],
 ) -> Result<Machine, Error>
     requires { Lent m stack.old exec.old memory.old }
-    ensures { Does (action_at k) m stack.old stack.new exec.old exec.new memory.old memory.new result }
+    ensures { Does (action_at (place_of word)) m stack.old stack.new exec.old exec.new memory.old memory.new result }
 {
-    if k < 3 {
-        return one_to_one(k, m, stack);
-    }
-    if k < 19 {
-        return two_to_one(k, m, stack);
-    }
-    if 25 < k {
+    let Some(word) = word else {
         return Err(Error::Undefined);
-    }
-    match k {
-        19 => branch(m, stack, exec),
-        20 => choose(m, stack, exec),
-        21 => discard(m),
-        22 => duplicate(m, stack),
-        23 => exchange(m, stack),
-        24 => store(m, stack, memory),
-        _ => fetch(m, stack, memory),
+    };
+    match word {
+        Word::Not => one_to_one(m, stack, |a| word::bit_not(a)),
+        Word::IsZero => one_to_one(m, stack, |a| u32::from(word::eq(a, 0))),
+        Word::Abs => one_to_one(m, stack, |a| word::abs(a)),
+        Word::Add => two_to_one(m, stack, |b, a| Some(word::add(b, a))),
+        Word::Sub => two_to_one(m, stack, |b, a| Some(word::sub(b, a))),
+        Word::Mul => two_to_one(m, stack, |b, a| Some(word::mul(b, a))),
+        Word::Div => two_to_one(m, stack, |b, a| word::idiv(b, a)),
+        Word::Rem => two_to_one(m, stack, |b, a| word::rem(b, a)),
+        Word::And => two_to_one(m, stack, |b, a| Some(word::bit_and(b, a))),
+        Word::Or => two_to_one(m, stack, |b, a| Some(word::bit_or(b, a))),
+        Word::Xor => two_to_one(m, stack, |b, a| Some(word::bit_xor(b, a))),
+        Word::Left => two_to_one(m, stack, |b, a| Some(word::shift_left(b, a))),
+        Word::Right => two_to_one(m, stack, |b, a| Some(word::shift_right(b, a))),
+        Word::Gt => two_to_one(m, stack, |b, a| Some(u32::from(word::gt(b, a)))),
+        Word::Ge => two_to_one(m, stack, |b, a| Some(u32::from(word::ge(b, a)))),
+        Word::Lt => two_to_one(m, stack, |b, a| Some(u32::from(word::lt(b, a)))),
+        Word::Le => two_to_one(m, stack, |b, a| Some(u32::from(word::le(b, a)))),
+        Word::Eq => two_to_one(m, stack, |b, a| Some(u32::from(word::eq(b, a)))),
+        Word::Ne => two_to_one(m, stack, |b, a| Some(u32::from(word::ne(b, a)))),
+        Word::If => branch(m, stack, exec),
+        Word::Ifelse => choose(m, stack, exec),
+        Word::Pop => discard(m),
+        Word::Dup => duplicate(m, stack),
+        Word::Exch => exchange(m, stack),
+        Word::Mset => store(m, stack, memory),
+        Word::Mget => fetch(m, stack, memory),
     }
 }
 
-// ~, ! and abs.
-fn one_to_one(k: u32, m: Machine, stack: &mut [u32]) -> Result<Machine, Error>
-    requires { (k < 3) × (2 * m.depth ≤ length stack.old) }
-    ensures { OnStack (action_at k) m stack.old stack.new result }
+// An integer gives way to what f makes of it.
+fn one_to_one<F: FnOnce(u32) -> u32>(m: Machine, stack: &mut [u32], f: F) -> Result<Machine, Error>
+    requires callable { F.IsAlwaysCallable f }
+    requires deep { 2 * m.depth ≤ length stack.old }
+    ensures { StepsOne (F.post f) m stack.old stack.new result }
 {
     let a = m.one_int(stack)?;
-    put(
-        stack,
-        STACK_WIDTH,
-        m.depth - 1,
-        TAG_INTEGER,
-        numbers::unary(k, a),
-    );
+    put(stack, STACK_WIDTH, m.depth - 1, TAG_INTEGER, f(a));
     Ok(m)
 }
 
-// + to <>.
-fn two_to_one(k: u32, m: Machine, stack: &mut [u32]) -> Result<Machine, Error>
-    requires { (3 ≤ k) × (k < 19) × (2 * m.depth ≤ length stack.old) }
-    ensures { OnStack (action_at k) m stack.old stack.new result }
+// Two give way to what f makes of them, the lower first. None by zero, which only / and % know.
+fn two_to_one<F: FnOnce(u32, u32) -> Option<u32>>(
+    m: Machine,
+    stack: &mut [u32],
+    f: F,
+) -> Result<Machine, Error>
+    requires callable { F.IsAlwaysCallable f }
+    requires deep { 2 * m.depth ≤ length stack.old }
+    ensures { StepsTwo (F.post f) m stack.old stack.new result }
 {
     let (b, a) = m.two_ints(stack)?;
-    let w = numbers::binary(k - 3, b, a).ok_or(Error::UndefinedResult)?;
+    let w = f(b, a).ok_or(Error::UndefinedResult)?;
     put(stack, STACK_WIDTH, m.depth - 2, TAG_INTEGER, w);
     Ok(m.with_depth(m.depth - 1))
 }

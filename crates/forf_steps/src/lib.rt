@@ -173,8 +173,8 @@ fn act(
     match item {
         Item::Number(w) => m.push(stack, TAG_INTEGER, w),
         Item::Word(start, size) => {
-            let k = forf_machine::operator_of(&script[start..start + size]);
-            forf_machine::perform(k, m, stack, exec, memory)
+            let word = forf_machine::operator_of(&script[start..start + size]);
+            forf_machine::perform(word, m, stack, exec, memory)
         }
         Item::Substack(body) => m.push(stack, TAG_SUBSTACK, body as u32),
     }

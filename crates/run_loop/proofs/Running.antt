@@ -1,5 +1,6 @@
 -- The loop's invariant, and each way on or out of a turn: what has been run so far is a beginning of the definition's run, and the moments so far are exact.
 -- Assumes nothing.
+use Rattle.std.specs.Prelude.{Some, None, Ok, Err}
 use mathlib.Core.Path.{◌≡◌, refl, sym, ap, ◌∙◌, subst}
 use mathlib.Core.Bool.{Bool, true, false}
 use mathlib.Core.List.{List, [], ◌∷◌, ◌++◌}
@@ -29,15 +30,12 @@ use Rattle.exactness.proofs.Lists.{along_snoc}
 use Rattle.exactness.proofs.Reaching.{Reached, reached_start, reached_goes, over_finished, over_spent, over_fails, over_misreads, over_stops, Over}
 use Rattle.growth.proofs.Logs.{rest_on}
 use Rattle.growth.proofs.StepGrowth.{step_log_length}
-use Rattle.handover.specs.Handover.{MayHand, HandsOver}
-use Rattle.handover.specs.declared.Handed.{Handed}
-use Rattle.handover.specs.declared.Handed.TheVariants as handed
+use Rattle.handover.specs.Handover.{Handed, MayHand, HandsOver}
 use Rattle.machine.specs.declared.Machine.{Machine}
-use Rattle.step.specs.Stepping.{state_of, SteppedAs, LogLeft, Steps, Tries, Ready, Finished, handed_by}
+use Rattle.step.specs.Stepping.{state_of, Stepped, SteppedAs, LogLeft, Steps, Tries, Ready, Finished, handed_by}
 use Rattle.step.proofs.Moving.{settled, may_hand}
 use Rattle.step.specs.declared.State.{State}
-use Rattle.step.specs.declared.Stepped.{Stepped}
-use Rattle.step.specs.declared.Stepped.TheVariants.{Goes, Fails, Misreads}
+use Rattle.step.specs.declared.Stop.TheVariants as stop
 use Rattle.run_loop.specs.History.{Moment, moment, left_by, Leads, start, then, Exactly, Begun, EndsFrom, Ends}
 use Rattle.run_loop.specs.Halting.{RunningFrom, Running, Fell, HaltsAs, MayHalt, Halts}
 
@@ -80,12 +78,12 @@ module _ {script : List ℕ} {st : State} {s s' e e' d d' c c' l l' : List ℕ} 
   told : {a : Stepped} → answer ≡ a → Attempt script st s s' e e' d d' c c' l l' a
   told g = subst (Attempt script st s s' e e' d d' c c' l l') g A
 
-  pub went_goes : {τ : State} → answer ≡ Goes τ → Went script st s s' e e' d d' c c' l l' (Goes τ)
+  pub went_goes : {τ : State} → answer ≡ Ok τ → Went script st s s' e e' d d' c c' l l' (Ok τ)
   went_goes g =
       let B = told g in
       record { steps = record { steps = λ μ R. B.tries.tries μ R; left = B.tries.left }; ls = A.ls; le = A.le; ld = A.ld; lc = A.lc; ll = A.ll }
 
-  pub went_misread : {τ : State} {command : Command} {f : Fault} → answer ≡ Misreads τ command f → Went script st s s' e e' d d' c c' l l' (Misreads τ command f)
+  pub went_misread : {τ : State} {f : Fault} → answer ≡ Err (stop.Misread τ f) → Went script st s s' e e' d d' c c' l l' (Err (stop.Misread τ f))
   went_misread g =
       let B = told g in
       record { steps = record { steps = λ μ R. B.tries.tries μ R; left = B.tries.left }; ls = A.ls; le = A.le; ld = A.ld; lc = A.lc; ll = A.ll }
@@ -95,7 +93,7 @@ module _ {script : List ℕ} {st : State} {s s' e e' d d' c c' l l' : List ℕ} 
       → from ≤ st.steps
       → 0 < left
       → {r : Bool} → Finished script st r → r ≡ false
-      → answer ≡ Fails τ x command
+      → answer ≡ Err (stop.Failed τ x command)
       → Fell script fuel from first s' e' d' c' l' τ x command
   fell {left = left} R later some F t g =
       record {
@@ -235,8 +233,8 @@ module _ {script : List ℕ} {fuel : ℕ} {st₀ : State} {s₀ e₀ d₀ c₀ l
           let z : left ≡ suc (left - 1) = omega (arith, some) in
           subst (λ n. Reached (lent s₀ e₀ d₀ c₀ l₀) script fuel (state_of st₀ μ₀) G.before n (state_of st G.machine)) z G.reached
 
-      module _ {τ : State} (g : answer ≡ Goes τ) where
-        goes_as : SteppedAs script st s s' e e' d d' c c' l l' G.machine (Goes τ)
+      module _ {τ : State} (g : answer ≡ Ok τ) where
+        goes_as : SteppedAs script st s s' e e' d d' c c' l l' G.machine (Ok τ)
         goes_as = subst (SteppedAs script st s s' e e' d d' c c' l l' G.machine) g (W.steps.steps G.machine G.rep)
 
         new : Floo.Machine
@@ -324,7 +322,7 @@ module _ {script : List ℕ} {fuel : ℕ} {st₀ : State} {s₀ e₀ d₀ c₀ l
       stepped_as : {a : Stepped} → answer ≡ a → SteppedAs script st s s' e e' d d' c c' l l' G.machine a
       stepped_as g = subst (SteppedAs script st s s' e e' d d' c c' l l' G.machine) g (W.steps.steps G.machine G.rep)
 
-      from_failed : {x : Error} {command : Command} {τ : State} → answer ≡ Fails τ x command
+      from_failed : {x : Error} {command : Command} {τ : State} → answer ≡ Err (stop.Failed τ x command)
           → EndsFrom script fuel st₀ μ₀ s₀ s' e₀ e' d₀ d' c₀ c' l₀ l' τ (ending.Failed x command)
       unfolding ending_of
       from_failed g =
@@ -332,7 +330,7 @@ module _ {script : List ℕ} {fuel : ℕ} {st₀ : State} {s₀ e₀ d₀ c₀ l
           let is = ap (λ n. steps.step n script (state_of st G.machine)) (sym limits_same) ∙ A.0 in
           from_ended (ap left_by g) A.1 (subst (LogLeft l l') g W.steps.left) A.3 A.2 (over_fails again more is)
 
-      from_misread : {f : Fault} {command : Command} {τ : State} → answer ≡ Misreads τ command f → EndsFrom script fuel st₀ μ₀ s₀ s' e₀ e' d₀ d' c₀ c' l₀ l' τ (ending.Misread f)
+      from_misread : {f : Fault} {τ : State} → answer ≡ Err (stop.Misread τ f) → EndsFrom script fuel st₀ μ₀ s₀ s' e₀ e' d₀ d' c₀ c' l₀ l' τ (ending.Misread f)
       unfolding ending_of
       from_misread g =
           let A = stepped_as g in
@@ -350,7 +348,7 @@ module _ {script : List ℕ} {fuel : ℕ} {st₀ : State} {s₀ e₀ d₀ c₀ l
   end_spent F t z = record { ends = λ μ M. from_spent (R.from μ M) F t z }
 
   module _ {r : Bool} (F : Finished script st r) (t : r ≡ false) (some : 0 < left) {answer : Stepped} {s' e' d' c' l' : List ℕ} (W : Went script st s s' e e' d d' c c' l l' answer) where
-    module _ {τ : State} (g : answer ≡ Goes τ) where
+    module _ {τ : State} (g : answer ≡ Ok τ) where
       pub end_stopped : τ.machine.stopped ≡ true → Ends script fuel st₀ s₀ s' e₀ e' d₀ d' c₀ c' l₀ l' τ ending.Stopped
       end_stopped stop = record { ends = λ μ M. from_stopped (R.from μ M) F t some W g stop }
 
@@ -386,11 +384,11 @@ module _ {script : List ℕ} {fuel : ℕ} {st₀ : State} {s₀ e₀ d₀ c₀ l
             from = λ μ M. from_on (R.from μ M) F t some W g runs;
           }))
 
-    pub end_failed : {x : Error} {command : Command} {τ : State} → answer ≡ Fails τ x command
+    pub end_failed : {x : Error} {command : Command} {τ : State} → answer ≡ Err (stop.Failed τ x command)
         → Ends script fuel st₀ s₀ s' e₀ e' d₀ d' c₀ c' l₀ l' τ (ending.Failed x command)
     end_failed g = record { ends = λ μ M. from_failed (R.from μ M) F t some W g }
 
-    pub end_misread : {f : Fault} {command : Command} {τ : State} → answer ≡ Misreads τ command f → Ends script fuel st₀ s₀ s' e₀ e' d₀ d' c₀ c' l₀ l' τ (ending.Misread f)
+    pub end_misread : {f : Fault} {τ : State} → answer ≡ Err (stop.Misread τ f) → Ends script fuel st₀ s₀ s' e₀ e' d₀ d' c₀ c' l₀ l' τ (ending.Misread f)
     end_misread g = record { ends = λ μ M. from_misread (R.from μ M) F t some W g }
 
 -- ---- the loop of steps, for every run that has come to its beginning
@@ -445,16 +443,16 @@ module _ {script : List ℕ} {limit : ℕ} {st₀ : State} {s₀ e₀ d₀ c₀ 
   halts_spent F t z = record { halts = λ fuel first m R. end_spent (G.on fuel first m R) F t z }
 
   module _ {r : Bool} (F : Finished script st r) (t : r ≡ false) (some : 0 < limit - st.steps) {answer : Stepped} {s' e' d' c' l' : List ℕ} (A : Attempt script st s s' e e' d d' c c' l l' answer) where
-    pub halts_stopped : {τ : State} → answer ≡ Goes τ → τ.machine.stopped ≡ true → Halts script limit st₀ s₀ s' e₀ e' d₀ d' c₀ c' l₀ l' τ ending.Stopped
+    pub halts_stopped : {τ : State} → answer ≡ Ok τ → τ.machine.stopped ≡ true → Halts script limit st₀ s₀ s' e₀ e' d₀ d' c₀ c' l₀ l' τ ending.Stopped
     halts_stopped g stop = record { halts = λ fuel first m R. end_stopped (G.on fuel first m R) F t some (went_goes A g) refl stop }
 
-    pub halts_misread : {f : Fault} {command : Command} {τ : State} → answer ≡ Misreads τ command f → Halts script limit st₀ s₀ s' e₀ e' d₀ d' c₀ c' l₀ l' τ (ending.Misread f)
+    pub halts_misread : {f : Fault} {τ : State} → answer ≡ Err (stop.Misread τ f) → Halts script limit st₀ s₀ s' e₀ e' d₀ d' c₀ c' l₀ l' τ (ending.Misread f)
     halts_misread g = record { halts = λ fuel first m R. end_misread (G.on fuel first m R) F t some (went_misread A g) refl }
 
-    pub halts_failed : {x : Error} {command : Command} {τ : State} → answer ≡ Fails τ x command → Halts script limit st₀ s₀ s' e₀ e' d₀ d' c₀ c' l₀ l' τ (ending.Failed x command)
+    pub halts_failed : {x : Error} {command : Command} {τ : State} → answer ≡ Err (stop.Failed τ x command) → Halts script limit st₀ s₀ s' e₀ e' d₀ d' c₀ c' l₀ l' τ (ending.Failed x command)
     halts_failed g = record { halts = λ fuel first m R. fell A (G.on fuel first m R) G.later some F t g }
 
-    module _ {τ ρ : State} (g : answer ≡ Goes τ) (same : ρ ≡ τ) (M : MayHalt script limit st₀ s₀ e₀ d₀ c₀ l₀) where
+    module _ {τ ρ : State} (g : answer ≡ Ok τ) (same : ρ ≡ τ) (M : MayHalt script limit st₀ s₀ e₀ d₀ c₀ l₀) where
       pub steps_less : limit - ρ.steps < limit - st.steps
       steps_less =
           let m = M.2 in
@@ -484,6 +482,17 @@ pub halts_as : {script : List ℕ} {limit fuel : ℕ} {first : Moment} {st τ : 
     → HaltsAs script fuel st.steps first s' e' d' c' l' τ y
 halts_as {script} {fuel = fuel} {first = first} {st = st} {τ = τ} {s' = s'} {e' = e'} {d' = d'} {c' = c'} {l' = l'} H q R g =
     subst (HaltsAs script fuel st.steps first s' e' d' c' l' τ) g (H.halts fuel first q R)
+
+-- An ending that is no error is the run's.
+pub halted : {script : List ℕ} {fuel : ℕ} (from : ℕ) {first : Moment} {s' e' d' c' l' : List ℕ} {τ : State} (x : Ending)
+    → ((y : Error) (command : Command) → x ≡ ending.Failed y command → ⊥)
+    → HaltsAs script fuel from first s' e' d' c' l' τ x
+    → Ends script fuel first.state first.stack s' first.exec e' first.dict d' first.cells c' first.log l' τ x
+halted from ending.Finished n H = H
+halted from ending.Stopped n H = H
+halted from ending.OutOfFuel n H = H
+halted from (ending.Failed y command) n H = absurd (n y command refl)
+halted from (ending.Misread f) n H = H
 
 -- ---- an error is handed over
 
@@ -515,10 +524,10 @@ module _ {script : List ℕ} {fuel from : ℕ} {first : Moment} {s e d c l : Lis
           ll = L.ll;
         }
 
-    pub ends_unhandled : h ≡ handed.Not → Ends script fuel first.state first.stack s first.exec e' first.dict d' first.cells c' first.log l τ (ending.Failed x command)
+    pub ends_unhandled : h ≡ None → Ends script fuel first.state first.stack s first.exec e' first.dict d' first.cells c' first.log l τ (ending.Failed x command)
     ends_unhandled g = end_failed L.running L.more refl L.some_left (went_settled g) refl
 
-    module _ {q : Machine} {n : ℕ} (g : h ≡ handed.Over q) (next_is : n ≡ after_of τ.next command) where
+    module _ {q : Machine} {n : ℕ} (g : h ≡ Some q) (next_is : n ≡ after_of τ.next command) where
       abbrev left_at : ℕ → State
       left_at k = record { machine = q; next = k; at = τ.at; steps = τ.steps }
 

@@ -1,4 +1,4 @@
--- `forf_machine::titles::number_of` meets its contract: each way to an answer by its law.
+-- `forf_machine::titles::word_of` meets its contract: each way to an answer by its law.
 -- Assumes nothing.
 use borrow.Author.Rules.{rules}
 use Rattle.semantics.specs.Text.{bytes, textual}
@@ -6,7 +6,7 @@ use Rattle.forf_semantics.specs.Operators.{◌is◌, table}
 use Rattle.forf_machine.specs.Titles.{titles, key_from, key_of, keys, key_place}
 use mathlib.Core.Path.{refl}
 use Rattle.forf_machine.proofs.Naming.{key_at, key_rest}
-use Rattle.forf_machine.proofs.titles.number_of.Goals as goal
+use Rattle.forf_machine.proofs.titles.word_of.Goals as goal
 
 pub returns-in-382 : goal.returns-in-382
 unfolding keys titles table ◌is◌ key_from key_of key_place textual
