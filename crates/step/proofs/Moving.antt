@@ -1,6 +1,6 @@
 -- The definition's step, by what the runner did: from the promise of a token's function or of the topmost slot to the step's end.
 -- Assumes nothing.
-use Rattle.std.specs.Prelude.{Result as Answered, Some, None, Ok, Err}
+use Rattle.std.specs.Prelude.{Some, None, Ok, Err}
 use mathlib.Core.Path.{◌≡◌, refl, sym, ap, ◌∙◌, subst}
 use mathlib.Core.Bool.{Bool, true, false}
 use mathlib.Core.List.{List, [], ◌∷◌}
@@ -35,7 +35,7 @@ use Rattle.machine.specs.FrameMoves.{top_frame, frame_dropped}
 use Rattle.token.specs.Lexing.{Lexes}
 use Rattle.handover.specs.Handover.{left_of, Passable, handed_over, Handed, HandedAs, MayHand, HandsOver}
 use Rattle.step.specs.Stepping.{state_of, SteppedAs, TriedAs, LogLeft, Steps, Tries, ended_by, handed_by}
-use Rattle.step.specs.declared.Stop.TheVariants.{Failed, Misread}
+use Rattle.step.specs.declared.Stop.TheVariants.{Failed}
 use Rattle.step.specs.declared.State.{State}
 
 -- What is left of a token that could not be read.

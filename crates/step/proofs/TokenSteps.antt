@@ -1,6 +1,6 @@
 -- Steps that take a token: what the token's function promises is the definition's step.
 -- Assumes nothing.
-use Rattle.std.specs.Prelude.{Result as Answered, Some, None, Ok, Err}
+use Rattle.std.specs.Prelude.{Ok, Err}
 use mathlib.Core.Path.{◌≡◌, refl, sym, ap, ◌∙◌, subst}
 use mathlib.Core.Bool.{true, false}
 use mathlib.Core.List.{List, []}
