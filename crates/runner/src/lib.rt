@@ -81,7 +81,8 @@ fn carry_out(
         at: 0,
         steps: 0,
     };
-    proceed(st, script, fuel, stack, exec, dict, cells, log, outcome).report
+    let done = proceed(st, script, fuel, stack, exec, dict, cells, log, outcome);
+    done.report
 }
 
 // What a run from a state came to: the report, the state at its end, and how it ended.
