@@ -300,5 +300,8 @@ pub fn rare(
 pub fn settled(did: Result<Machine, Error>) -> Result<Machine, Error>
     ensures { result ≡ did }
 {
-    did.map(|m| m.fields())
+    match did {
+        Ok(m) => Ok(m.fields()),
+        Err(e) => Err(e),
+    }
 }
