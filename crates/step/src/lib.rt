@@ -23,7 +23,7 @@ pub struct State {
 }
 
 // A step that could not read its token has the empty command, so that its fault lies where nothing of the other answers does. It is no
-// `Result<State, Stop>`: with that, and an Option for acting's own enum, a step of the counted loop took 119.6 machine instructions and not 79.5.
+// `Result<State, Stop>`: with that form a step of the counted loop took some 40 machine instructions more.
 #[derive(Clone, Copy)]
 pub enum Stepped {
     Goes(State),
