@@ -1,7 +1,6 @@
 -- Every chain of moments from an exact start is exact along the definition's states: a step of the runner, of whatever kind, leaves what the definition's step
 -- leaves. So the history that a run has is no choice of its own.
 -- Assumes nothing.
-use Rattle.std.specs.Prelude.{Ok, Err}
 use mathlib.Core.Path.{◌≡◌, refl, sym, ap, ◌∙◌, subst}
 use mathlib.Core.List.{List, [], ◌∷◌, ◌++◌}
 use Prim.Native.Nat.{ℕ, suc, ◌≤◌, ◌<◌}
@@ -15,9 +14,10 @@ use Rattle.machine.specs.Rep.{Rep}
 use Rattle.exactness.specs.Traces.{leaves, trace, last, Along, nil, cons}
 use Rattle.exactness.proofs.Lists.{along_snoc, last_snoc}
 use Rattle.exactness.proofs.Tracing.{trace_first, trace_next, trace_take, trace_spent}
-use Rattle.step.specs.Stepping.{state_of, Stepped, SteppedAs}
+use Rattle.step.specs.Stepping.{state_of, SteppedAs}
 use Rattle.step.specs.declared.State.{State}
-use Rattle.step.specs.declared.Stop.TheVariants as stop
+use Rattle.step.specs.declared.Stepped.{Stepped}
+use Rattle.step.specs.declared.Stepped.TheVariants.{Goes, Fails, Misreads}
 use Rattle.run_loop.specs.History.{Moment, moment, limits_of, left_by, Leads, Chain, start, then, Exactly}
 use Rattle.run_loop.proofs.Running.{exactly}
 
@@ -45,11 +45,11 @@ answered : (script : List ℕ) (x : Moment) {y : Moment} (μ : Floo.Machine) (an
     → SteppedAs script x.state x.stack y.stack x.exec y.exec x.dict y.dict x.cells y.cells x.log y.log μ answer
     → left_by answer ≡ y.state
     → Exactly y (leaves (step (limits_of x) script (state_of x.state μ)))
-answered script x {y} μ (Ok τ) A q =
+answered script x {y} μ (Goes τ) A q =
     subst (λ s. Exactly y (leaves s)) (sym A.1)
     (subst (λ ρ. Exactly (moment ρ y.stack y.exec y.dict y.cells y.log) (state_of τ A.0)) q (exactly A.2))
-answered script x {y} μ (Err (stop.Failed τ e command)) A q = unmoved_exact script x μ τ A.0 A.1 refl q
-answered script x {y} μ (Err (stop.Misread τ f)) A q = unmoved_exact script x μ τ A.0 A.1 refl q
+answered script x {y} μ (Fails τ e command) A q = unmoved_exact script x μ τ A.0 A.1 refl q
+answered script x {y} μ (Misreads τ command f) A q = unmoved_exact script x μ τ A.0 A.1 refl q
 
 -- A moment that an exact one leads to is exact for what the definition's step leaves.
 pub led : {script : List ℕ} {x y : Moment} {σ : steps.State} → Leads script x y → Exactly x σ → Exactly y (leaves (step (limits_of x) script σ))

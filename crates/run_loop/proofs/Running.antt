@@ -32,10 +32,11 @@ use Rattle.growth.proofs.Logs.{rest_on}
 use Rattle.growth.proofs.StepGrowth.{step_log_length}
 use Rattle.handover.specs.Handover.{Handed, MayHand, HandsOver}
 use Rattle.machine.specs.declared.Machine.{Machine}
-use Rattle.step.specs.Stepping.{state_of, Stepped, SteppedAs, LogLeft, Steps, Tries, Ready, Finished, handed_by}
+use Rattle.step.specs.Stepping.{state_of, SteppedAs, LogLeft, Steps, Tries, Ready, Finished, handed_by}
 use Rattle.step.proofs.Moving.{settled, may_hand}
 use Rattle.step.specs.declared.State.{State}
-use Rattle.step.specs.declared.Stop.TheVariants as stop
+use Rattle.step.specs.declared.Stepped.{Stepped}
+use Rattle.step.specs.declared.Stepped.TheVariants.{Goes, Fails, Misreads}
 use Rattle.run_loop.specs.History.{Moment, moment, left_by, Leads, start, then, Exactly, Begun, EndsFrom, Ends}
 use Rattle.run_loop.specs.Halting.{RunningFrom, Running, Fell, HaltsAs, MayHalt, Halts}
 
@@ -78,12 +79,12 @@ module _ {script : List ℕ} {st : State} {s s' e e' d d' c c' l l' : List ℕ} 
   told : {a : Stepped} → answer ≡ a → Attempt script st s s' e e' d d' c c' l l' a
   told g = subst (Attempt script st s s' e e' d d' c c' l l') g A
 
-  pub went_goes : {τ : State} → answer ≡ Ok τ → Went script st s s' e e' d d' c c' l l' (Ok τ)
+  pub went_goes : {τ : State} → answer ≡ Goes τ → Went script st s s' e e' d d' c c' l l' (Goes τ)
   went_goes g =
       let B = told g in
       record { steps = record { steps = λ μ R. B.tries.tries μ R; left = B.tries.left }; ls = A.ls; le = A.le; ld = A.ld; lc = A.lc; ll = A.ll }
 
-  pub went_misread : {τ : State} {f : Fault} → answer ≡ Err (stop.Misread τ f) → Went script st s s' e e' d d' c c' l l' (Err (stop.Misread τ f))
+  pub went_misread : {τ : State} {command : Command} {f : Fault} → answer ≡ Misreads τ command f → Went script st s s' e e' d d' c c' l l' (Misreads τ command f)
   went_misread g =
       let B = told g in
       record { steps = record { steps = λ μ R. B.tries.tries μ R; left = B.tries.left }; ls = A.ls; le = A.le; ld = A.ld; lc = A.lc; ll = A.ll }
@@ -93,7 +94,7 @@ module _ {script : List ℕ} {st : State} {s s' e e' d d' c c' l l' : List ℕ} 
       → from ≤ st.steps
       → 0 < left
       → {r : Bool} → Finished script st r → r ≡ false
-      → answer ≡ Err (stop.Failed τ x command)
+      → answer ≡ Fails τ x command
       → Fell script fuel from first s' e' d' c' l' τ x command
   fell {left = left} R later some F t g =
       record {
@@ -233,8 +234,8 @@ module _ {script : List ℕ} {fuel : ℕ} {st₀ : State} {s₀ e₀ d₀ c₀ l
           let z : left ≡ suc (left - 1) = omega (arith, some) in
           subst (λ n. Reached (lent s₀ e₀ d₀ c₀ l₀) script fuel (state_of st₀ μ₀) G.before n (state_of st G.machine)) z G.reached
 
-      module _ {τ : State} (g : answer ≡ Ok τ) where
-        goes_as : SteppedAs script st s s' e e' d d' c c' l l' G.machine (Ok τ)
+      module _ {τ : State} (g : answer ≡ Goes τ) where
+        goes_as : SteppedAs script st s s' e e' d d' c c' l l' G.machine (Goes τ)
         goes_as = subst (SteppedAs script st s s' e e' d d' c c' l l' G.machine) g (W.steps.steps G.machine G.rep)
 
         new : Floo.Machine
@@ -322,7 +323,7 @@ module _ {script : List ℕ} {fuel : ℕ} {st₀ : State} {s₀ e₀ d₀ c₀ l
       stepped_as : {a : Stepped} → answer ≡ a → SteppedAs script st s s' e e' d d' c c' l l' G.machine a
       stepped_as g = subst (SteppedAs script st s s' e e' d d' c c' l l' G.machine) g (W.steps.steps G.machine G.rep)
 
-      from_failed : {x : Error} {command : Command} {τ : State} → answer ≡ Err (stop.Failed τ x command)
+      from_failed : {x : Error} {command : Command} {τ : State} → answer ≡ Fails τ x command
           → EndsFrom script fuel st₀ μ₀ s₀ s' e₀ e' d₀ d' c₀ c' l₀ l' τ (ending.Failed x command)
       unfolding ending_of
       from_failed g =
@@ -330,7 +331,7 @@ module _ {script : List ℕ} {fuel : ℕ} {st₀ : State} {s₀ e₀ d₀ c₀ l
           let is = ap (λ n. steps.step n script (state_of st G.machine)) (sym limits_same) ∙ A.0 in
           from_ended (ap left_by g) A.1 (subst (LogLeft l l') g W.steps.left) A.3 A.2 (over_fails again more is)
 
-      from_misread : {f : Fault} {τ : State} → answer ≡ Err (stop.Misread τ f) → EndsFrom script fuel st₀ μ₀ s₀ s' e₀ e' d₀ d' c₀ c' l₀ l' τ (ending.Misread f)
+      from_misread : {f : Fault} {command : Command} {τ : State} → answer ≡ Misreads τ command f → EndsFrom script fuel st₀ μ₀ s₀ s' e₀ e' d₀ d' c₀ c' l₀ l' τ (ending.Misread f)
       unfolding ending_of
       from_misread g =
           let A = stepped_as g in
@@ -348,7 +349,7 @@ module _ {script : List ℕ} {fuel : ℕ} {st₀ : State} {s₀ e₀ d₀ c₀ l
   end_spent F t z = record { ends = λ μ M. from_spent (R.from μ M) F t z }
 
   module _ {r : Bool} (F : Finished script st r) (t : r ≡ false) (some : 0 < left) {answer : Stepped} {s' e' d' c' l' : List ℕ} (W : Went script st s s' e e' d d' c c' l l' answer) where
-    module _ {τ : State} (g : answer ≡ Ok τ) where
+    module _ {τ : State} (g : answer ≡ Goes τ) where
       pub end_stopped : τ.machine.stopped ≡ true → Ends script fuel st₀ s₀ s' e₀ e' d₀ d' c₀ c' l₀ l' τ ending.Stopped
       end_stopped stop = record { ends = λ μ M. from_stopped (R.from μ M) F t some W g stop }
 
@@ -384,11 +385,11 @@ module _ {script : List ℕ} {fuel : ℕ} {st₀ : State} {s₀ e₀ d₀ c₀ l
             from = λ μ M. from_on (R.from μ M) F t some W g runs;
           }))
 
-    pub end_failed : {x : Error} {command : Command} {τ : State} → answer ≡ Err (stop.Failed τ x command)
+    pub end_failed : {x : Error} {command : Command} {τ : State} → answer ≡ Fails τ x command
         → Ends script fuel st₀ s₀ s' e₀ e' d₀ d' c₀ c' l₀ l' τ (ending.Failed x command)
     end_failed g = record { ends = λ μ M. from_failed (R.from μ M) F t some W g }
 
-    pub end_misread : {f : Fault} {τ : State} → answer ≡ Err (stop.Misread τ f) → Ends script fuel st₀ s₀ s' e₀ e' d₀ d' c₀ c' l₀ l' τ (ending.Misread f)
+    pub end_misread : {f : Fault} {command : Command} {τ : State} → answer ≡ Misreads τ command f → Ends script fuel st₀ s₀ s' e₀ e' d₀ d' c₀ c' l₀ l' τ (ending.Misread f)
     end_misread g = record { ends = λ μ M. from_misread (R.from μ M) F t some W g }
 
 -- ---- the loop of steps, for every run that has come to its beginning
@@ -443,16 +444,16 @@ module _ {script : List ℕ} {limit : ℕ} {st₀ : State} {s₀ e₀ d₀ c₀ 
   halts_spent F t z = record { halts = λ fuel first m R. end_spent (G.on fuel first m R) F t z }
 
   module _ {r : Bool} (F : Finished script st r) (t : r ≡ false) (some : 0 < limit - st.steps) {answer : Stepped} {s' e' d' c' l' : List ℕ} (A : Attempt script st s s' e e' d d' c c' l l' answer) where
-    pub halts_stopped : {τ : State} → answer ≡ Ok τ → τ.machine.stopped ≡ true → Halts script limit st₀ s₀ s' e₀ e' d₀ d' c₀ c' l₀ l' τ ending.Stopped
+    pub halts_stopped : {τ : State} → answer ≡ Goes τ → τ.machine.stopped ≡ true → Halts script limit st₀ s₀ s' e₀ e' d₀ d' c₀ c' l₀ l' τ ending.Stopped
     halts_stopped g stop = record { halts = λ fuel first m R. end_stopped (G.on fuel first m R) F t some (went_goes A g) refl stop }
 
-    pub halts_misread : {f : Fault} {τ : State} → answer ≡ Err (stop.Misread τ f) → Halts script limit st₀ s₀ s' e₀ e' d₀ d' c₀ c' l₀ l' τ (ending.Misread f)
+    pub halts_misread : {f : Fault} {command : Command} {τ : State} → answer ≡ Misreads τ command f → Halts script limit st₀ s₀ s' e₀ e' d₀ d' c₀ c' l₀ l' τ (ending.Misread f)
     halts_misread g = record { halts = λ fuel first m R. end_misread (G.on fuel first m R) F t some (went_misread A g) refl }
 
-    pub halts_failed : {x : Error} {command : Command} {τ : State} → answer ≡ Err (stop.Failed τ x command) → Halts script limit st₀ s₀ s' e₀ e' d₀ d' c₀ c' l₀ l' τ (ending.Failed x command)
+    pub halts_failed : {x : Error} {command : Command} {τ : State} → answer ≡ Fails τ x command → Halts script limit st₀ s₀ s' e₀ e' d₀ d' c₀ c' l₀ l' τ (ending.Failed x command)
     halts_failed g = record { halts = λ fuel first m R. fell A (G.on fuel first m R) G.later some F t g }
 
-    module _ {τ ρ : State} (g : answer ≡ Ok τ) (same : ρ ≡ τ) (M : MayHalt script limit st₀ s₀ e₀ d₀ c₀ l₀) where
+    module _ {τ ρ : State} (g : answer ≡ Goes τ) (same : ρ ≡ τ) (M : MayHalt script limit st₀ s₀ e₀ d₀ c₀ l₀) where
       pub steps_less : limit - ρ.steps < limit - st.steps
       steps_less =
           let m = M.2 in

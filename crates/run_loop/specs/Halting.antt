@@ -1,6 +1,6 @@
 -- A run so far, and the steps of it up to an error that is still to be handed over (02, W1).
 -- Assumes nothing.
-use Rattle.std.specs.Prelude.{◌≡◌, false, List, [], ◌∷◌, ◌++◌, ℕ, ◌+◌, ◌-◌, ◌≤◌, ◌<◌, length, drop, Err}
+use Rattle.std.specs.Prelude.{◌≡◌, false, List, [], ◌∷◌, ◌++◌, ℕ, ◌+◌, ◌-◌, ◌≤◌, ◌<◌, length, drop}
 use Rattle.semantics.specs.Sizes.{script_most, fuel_most}
 use Rattle.semantics.specs.Machine as Floo
 use Rattle.semantics.specs.Steps as steps
@@ -14,7 +14,7 @@ use Rattle.exactness.proofs.Reaching.{Reached}
 use Rattle.step.specs.Stepping as Stepping
 use Rattle.step.specs.Stepping.{state_of, Tries}
 use Rattle.step.specs.declared.State.{State}
-use Rattle.step.specs.declared.Stop.TheVariants as stop
+use Rattle.step.specs.declared.Stepped.TheVariants.{Fails}
 use Rattle.run_loop.specs.History.{Moment, moment, limits_of, Chain, Exactly, Ends}
 
 -- ---- the run so far
@@ -55,7 +55,7 @@ pub record Fell (script : List ℕ) (fuel from : ℕ) (first : Moment) (s' e' d'
   pub later : from ≤ here.state.steps
   pub some_left : 0 < left
   pub more : Stepping.Finished script here.state false
-  pub tries : Tries script here.state here.stack s' here.exec e' here.dict d' here.cells c' here.log l' (Err (stop.Failed τ x command))
+  pub tries : Tries script here.state here.stack s' here.exec e' here.dict d' here.cells c' here.log l' (Fails τ x command)
   pub ls : length s' ≡ length here.stack
   pub le : length e' ≡ length here.exec
   pub ld : length d' ≡ length here.dict

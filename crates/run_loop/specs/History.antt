@@ -1,7 +1,7 @@
 -- The whole list of a run's steps (01, Room): "Demand 3 is a single claim about a run's whole list of steps, not one for each step. The list begins at that
 -- start; each step gets what the last one left."
 -- Assumes nothing.
-use Rattle.std.specs.Prelude.{◌≡◌, List, [], ◌∷◌, ◌++◌, ℕ, ◌+◌, ◌≤◌, length, drop, Ok, Err}
+use Rattle.std.specs.Prelude.{◌≡◌, List, [], ◌∷◌, ◌++◌, ℕ, ◌+◌, ◌≤◌, length, drop}
 use Rattle.semantics.specs.Sizes.{script_most, fuel_most}
 use Rattle.semantics.specs.Machine as Floo
 use Rattle.semantics.specs.Steps as steps
@@ -13,9 +13,10 @@ use Rattle.machine.specs.Rep.{Rep}
 use Rattle.machine.specs.Room.{lent}
 use Rattle.exactness.specs.Shown.{Snapshot, Shows}
 use Rattle.exactness.specs.Traces.{trace, Along}
-use Rattle.step.specs.Stepping.{state_of, Stepped, Steps}
+use Rattle.step.specs.Stepping.{state_of, Steps}
 use Rattle.step.specs.declared.State.{State}
-use Rattle.step.specs.declared.Stop.TheVariants as stop
+use Rattle.step.specs.declared.Stepped.{Stepped}
+use Rattle.step.specs.declared.Stepped.TheVariants.{Goes, Fails, Misreads}
 
 -- ---- moments
 
@@ -36,9 +37,9 @@ limits_of x = lent x.stack x.exec x.dict x.cells x.log
 
 -- The state that a step left.
 abbrev pub left_by : Stepped → State
-left_by (Ok τ) = τ
-left_by (Err (stop.Failed τ e command)) = τ
-left_by (Err (stop.Misread τ f)) = τ
+left_by (Goes τ) = τ
+left_by (Fails τ e command) = τ
+left_by (Misreads τ command f) = τ
 
 -- A step of the runner leads from x to y, with the room that is lent.
 pub record Leads (script : List ℕ) (x y : Moment) : Type 0 where

@@ -9,7 +9,7 @@ ghost use Rattle.run_loop.specs.History.{Begun, Ends};
 ghost use Rattle.run_loop.specs.Halting.{MayHalt, Halts};
 
 use ending::{Command, Ending};
-use step::{State, Stop};
+use step::{State, Stepped};
 
 // The state after the last step, and how the run ended.
 #[derive(Clone, Copy)]
@@ -96,7 +96,7 @@ fn until_error(
             st.resume(stack, exec, dict, cells, log)
         };
         match stepped {
-            Ok(next) => {
+            Stepped::Goes(next) => {
                 let now = next.machine;
                 if now.stopped {
                     return Ended {
@@ -106,13 +106,13 @@ fn until_error(
                 }
                 st = next.by_fields();
             }
-            Err(Stop::Failed(next, e, command)) => {
+            Stepped::Fails(next, e, command) => {
                 return Ended {
                     state: next,
                     ending: Ending::Failed(e, command),
                 };
             }
-            Err(Stop::Misread(next, f)) => {
+            Stepped::Misreads(next, _, f) => {
                 return Ended {
                     state: next,
                     ending: Ending::Misread(f),

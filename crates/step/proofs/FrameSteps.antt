@@ -23,17 +23,18 @@ use Rattle.turns.specs.Turns.{resumed}
 use Rattle.commands.specs.Commands.{Commands}
 use Rattle.handover.specs.Handover.{left_of, Passable}
 use Rattle.handover.proofs.Passing.{passable}
-use Rattle.step.specs.Stepping.{state_of, Stepped, LogLeft, Tries, TriesToken, ended_by}
+use Rattle.step.specs.Stepping.{state_of, LogLeft, Tries, TriesToken, ended_by}
 use Rattle.step.specs.declared.State.{State}
-use Rattle.step.specs.declared.Stop.TheVariants.{Failed, Misread}
+use Rattle.step.specs.declared.Stepped.{Stepped}
+use Rattle.step.specs.declared.Stepped.TheVariants.{Goes, Fails, Misreads}
 use Rattle.step.proofs.Moving.{never, tries_step, frame_step}
 
 -- ---- a token
 
 same_left : (l : List ℕ) (r : Stepped) → LogLeft l l r
-same_left l (Ok τ) = refl
-same_left l (Err (Failed τ x command)) = refl
-same_left l (Err (Misread τ f)) = refl
+same_left l (Goes τ) = refl
+same_left l (Fails τ x command) = refl
+same_left l (Misreads τ command f) = refl
 
 -- Taking a token leaves the log.
 pub token_tries : {script : List ℕ} {σ : State} {s s' e e' d d' c c' : List ℕ} (l : List ℕ) (r : Stepped)

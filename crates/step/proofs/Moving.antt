@@ -1,6 +1,6 @@
 -- The definition's step, by what the runner did: from the promise of a token's function or of the topmost slot to the step's end.
 -- Assumes nothing.
-use Rattle.std.specs.Prelude.{Some, None, Ok, Err}
+use Rattle.std.specs.Prelude.{Result as Answered, Some, None, Ok, Err}
 use mathlib.Core.Path.{◌≡◌, refl, sym, ap, ◌∙◌, subst}
 use mathlib.Core.Bool.{Bool, true, false}
 use mathlib.Core.List.{List, [], ◌∷◌}
@@ -35,8 +35,9 @@ use Rattle.machine.specs.FrameMoves.{top_frame, frame_dropped}
 use Rattle.token.specs.Lexing.{Lexes}
 use Rattle.handover.specs.Handover.{left_of, Passable, handed_over, Handed, HandedAs, MayHand, HandsOver}
 use Rattle.step.specs.Stepping.{state_of, SteppedAs, TriedAs, LogLeft, Steps, Tries, ended_by, handed_by}
-use Rattle.step.specs.declared.Stop.TheVariants.{Failed}
+use Rattle.step.specs.declared.Stepped.TheVariants.{Goes, Fails, Misreads}
 use Rattle.step.specs.declared.State.{State}
+use Rattle.step.specs.declared.Stepped.{Stepped}
 
 -- What is left of a token that could not be read.
 pub unmoved_is : (σ : steps.State) (at : ℕ) → unmoved σ at ≡ record { machine = σ.machine; next = σ.next; at = at; steps = σ.steps + 1 }
@@ -145,8 +146,8 @@ tries_step {script} {σ} {s} {e = e} {d = d} {c = c} {l = l} {μ = μ} {at = at}
 
 -- The error is handed over, or is not: then the step is the definition's.
 module _ {script : List ℕ} {σ τ : State} {s s' e e' d d' c c' l l' : List ℕ} {x : Error} {command : Command}
-    (T : Tries script σ s s' e e' d d' c c' l l' (Err (Failed τ x command))) (exec-long : length e' ≡ length e) (dict_long : length d' ≡ length d) where
-  module _ {μ : Floo.Machine} (A : TriedAs script σ s s' e e' d d' c c' l l' μ (Err (Failed τ x command))) where
+    (T : Tries script σ s s' e e' d d' c c' l l' (Fails τ x command)) (exec-long : length e' ≡ length e) (dict_long : length d' ≡ length d) where
+  module _ {μ : Floo.Machine} (A : TriedAs script σ s s' e e' d d' c c' l l' μ (Fails τ x command)) where
     abbrev text : List ℕ
     text = command_text script (keys μ) command
 

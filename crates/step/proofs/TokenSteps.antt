@@ -32,8 +32,9 @@ use Rattle.group_taking.specs.Taking.{group_read, Grouped, GroupedAs, TakesGroup
 use Rattle.group_taking.specs.declared.GroupError.TheVariants as group
 use Rattle.handover.specs.Handover.{left_of}
 use Rattle.handover.proofs.Passing.{exec_empty, no_slot}
-use Rattle.step.specs.Stepping.{state_of, Stepped, TriedAs, TriesToken, ended_by, grouped_by, misread_by}
+use Rattle.step.specs.Stepping.{state_of, TriedAs, TriesToken, ended_by, grouped_by, misread_by}
 use Rattle.step.specs.declared.State.{State}
+use Rattle.step.specs.declared.Stepped.{Stepped}
 use Rattle.step.proofs.Moving.{Ends, tries_step, kept_answer, token_step_lem, end_step, fault_step, unmoved_is}
 
 -- ---- the token that was read

@@ -1,6 +1,6 @@
 -- A step of the runner against the definition's.
 -- Assumes nothing.
-use Rattle.std.specs.Prelude.{◌≡◌, Bool, List, ℕ, ◌+◌, ◌≤◌, ◌<◌, length, drop, Result, Some, None, Ok, Err}
+use Rattle.std.specs.Prelude.{◌≡◌, Bool, List, ℕ, ◌+◌, ◌≤◌, ◌<◌, length, drop, Some, None, Ok, Err}
 use Rattle.semantics.specs.Sizes.{script_most, fuel_most}
 use Rattle.semantics.specs.Errors.{error_text}
 use Rattle.semantics.specs.Machine as Floo
@@ -11,7 +11,7 @@ use Rattle.semantics.specs.declared.Error.{Error}
 use Rattle.semantics.specs.declared.Fault.{Fault}
 use Rattle.ending.specs.Endings.{command_text, IsCommand, after_of}
 use Rattle.ending.specs.declared.Command.{Command}
-use Rattle.ending.specs.declared.Command.TheVariants.{Taken}
+use Rattle.ending.specs.declared.Command.TheVariants.{Nothing, Taken}
 use Rattle.machine.specs.Places.{keys}
 use Rattle.machine.specs.Rep.{Rep}
 use Rattle.machine.specs.Room.{lent}
@@ -20,8 +20,8 @@ use Rattle.group_taking.specs.Taking.{Grouped}
 use Rattle.group_taking.specs.declared.GroupError.TheVariants as group
 use Rattle.handover.specs.Handover.{left_of, Passable, Handed}
 use Rattle.step.specs.declared.State.{State}
-use Rattle.step.specs.declared.Stop.{Stop}
-use Rattle.step.specs.declared.Stop.TheVariants.{Failed, Misread}
+use Rattle.step.specs.declared.Stepped.{Stepped}
+use Rattle.step.specs.declared.Stepped.TheVariants.{Goes, Fails, Misreads}
 
 -- The state of the definition, with this machine.
 abbrev pub state_of : State → Floo.Machine → steps.State
@@ -29,37 +29,34 @@ state_of σ μ = record { machine = μ; next = σ.next; at = σ.at; steps = σ.s
 
 -- ---- what a step answers
 
-abbrev pub Stepped : Type 0
-Stepped = Result State Stop
-
 -- The state after it; or the state before it with the step counted and `at` set, and the error and the command, or what is wrong with the token.
 abbrev pub SteppedAs : List ℕ → State → List ℕ → List ℕ → List ℕ → List ℕ → List ℕ → List ℕ → List ℕ → List ℕ → List ℕ → List ℕ → Floo.Machine → Stepped → Type 0
-SteppedAs script σ s s' e e' d d' c c' l l' μ (Ok τ) =
+SteppedAs script σ s s' e e' d d' c c' l l' μ (Goes τ) =
     (ν : Floo.Machine) × (steps.step (lent s e d c l) script (state_of σ μ) ≡ steps.goes (state_of τ ν))
     × Rep τ.machine s' e' d' c' l' ν × (τ.next ≤ length script) × (τ.at ≤ length script)
-SteppedAs script σ s s' e e' d d' c c' l l' μ (Err (Failed τ x command)) =
+SteppedAs script σ s s' e e' d d' c c' l l' μ (Fails τ x command) =
     (steps.step (lent s e d c l) script (state_of σ μ) ≡ steps.fails x (command_text script (keys μ) command) (state_of τ μ))
     × Rep τ.machine s' e' d' c' l' μ × IsCommand script (keys μ) command × (τ.at ≤ length script)
-SteppedAs script σ s s' e e' d d' c c' l l' μ (Err (Misread τ f)) =
+SteppedAs script σ s s' e e' d d' c c' l l' μ (Misreads τ command f) =
     (steps.step (lent s e d c l) script (state_of σ μ) ≡ steps.misreads f (state_of τ μ)) × Rep τ.machine s' e' d' c' l' μ × (τ.at ≤ length script)
 
 -- What a step comes to before its error is handed over (02, W1): where it failed, the definition looks for the error's handler, with these offsets and this
 -- execution stack once what failed is taken; and the topmost slot can fail.
 abbrev pub TriedAs : List ℕ → State → List ℕ → List ℕ → List ℕ → List ℕ → List ℕ → List ℕ → List ℕ → List ℕ → List ℕ → List ℕ → Floo.Machine → Stepped → Type 0
-TriedAs script σ s s' e e' d d' c c' l l' μ (Ok τ) = SteppedAs script σ s s' e e' d d' c c' l l' μ (Ok τ)
-TriedAs script σ s s' e e' d d' c c' l l' μ (Err (Failed τ x command)) =
+TriedAs script σ s s' e e' d d' c c' l l' μ (Goes τ) = SteppedAs script σ s s' e e' d d' c c' l l' μ (Goes τ)
+TriedAs script σ s s' e e' d d' c c' l l' μ (Fails τ x command) =
     (steps.step (lent s e d c l) script (state_of σ μ)
     ≡ failing (lent s e d c l) (state_of σ μ) τ.at (after_of σ.next command) (left_of μ.exec) x (command_text script (keys μ) command) (lookup (error_text x) μ.handlers))
     × Rep σ.machine s' e' d' c' l' μ × IsCommand script (keys μ) command × Passable σ.machine e'
     × (after_of σ.next command ≤ length script) × (τ.at ≤ length script)
     × (τ ≡ record { machine = σ.machine; next = σ.next; at = τ.at; steps = σ.steps + 1 })
-TriedAs script σ s s' e e' d d' c c' l l' μ (Err (Misread τ f)) = SteppedAs script σ s s' e e' d d' c c' l l' μ (Err (Misread τ f))
+TriedAs script σ s s' e e' d d' c c' l l' μ (Misreads τ command f) = SteppedAs script σ s s' e e' d d' c c' l l' μ (Misreads τ command f)
 
 -- The log past what is written is as before.
 abbrev pub LogLeft : List ℕ → List ℕ → Stepped → Type 0
-LogLeft l l' (Ok τ) = drop τ.machine.written l' ≡ drop τ.machine.written l
-LogLeft l l' (Err (Failed τ x command)) = l' ≡ l
-LogLeft l l' (Err (Misread τ f)) = l' ≡ l
+LogLeft l l' (Goes τ) = drop τ.machine.written l' ≡ drop τ.machine.written l
+LogLeft l l' (Fails τ x command) = l' ≡ l
+LogLeft l l' (Misreads τ command f) = l' ≡ l
 
 pub record Steps (script : List ℕ) (σ : State) (s s' e e' d d' c c' l l' : List ℕ) (r : Stepped) : Type 0 where
   pub steps : (μ : Floo.Machine) → Rep σ.machine s e d c l μ → SteppedAs script σ s s' e e' d d' c c' l l' μ r
@@ -96,20 +93,20 @@ ReadyToken script σ s e d c = (l : List ℕ) × Ready script σ s e d c l × (�
 -- ---- the step's end
 
 abbrev pub ended_by : State → ℕ → ℕ → Command → Did → Stepped
-ended_by σ at next command (Ok r) = Ok (record { machine = r; next = next; at = at; steps = σ.steps + 1 })
-ended_by σ at next command (Err e) = Err (Failed (record { machine = σ.machine; next = σ.next; at = at; steps = σ.steps + 1 }) e command)
+ended_by σ at next command (Ok r) = Goes (record { machine = r; next = next; at = at; steps = σ.steps + 1 })
+ended_by σ at next command (Err e) = Fails (record { machine = σ.machine; next = σ.next; at = at; steps = σ.steps + 1 }) e command
 
 -- An error is handed over, or ends the run.
 abbrev pub handed_by : State → Error → Command → Handed → Stepped
-handed_by τ x command (Some r) = Ok (record { machine = r; next = after_of τ.next command; at = τ.at; steps = τ.steps })
-handed_by τ x command None = Err (Failed τ x command)
+handed_by τ x command (Some r) = Goes (record { machine = r; next = after_of τ.next command; at = τ.at; steps = τ.steps })
+handed_by τ x command None = Fails τ x command
 
 abbrev pub misread_by : State → ℕ → Fault → Stepped
-misread_by σ at f = Err (Misread (record { machine = σ.machine; next = σ.next; at = at; steps = σ.steps + 1 }) f)
+misread_by σ at f = Misreads (record { machine = σ.machine; next = σ.next; at = at; steps = σ.steps + 1 }) Nothing f
 
 abbrev pub grouped_by : State → ℕ → Grouped → Stepped
-grouped_by σ at (Ok (r, next)) = Ok (record { machine = r; next = next; at = at; steps = σ.steps + 1 })
-grouped_by σ at (Err (group.Failed e next)) = Err (Failed (record { machine = σ.machine; next = σ.next; at = at; steps = σ.steps + 1 }) e (Taken next))
+grouped_by σ at (Ok (r, next)) = Goes (record { machine = r; next = next; at = at; steps = σ.steps + 1 })
+grouped_by σ at (Err (group.Failed e next)) = Fails (record { machine = σ.machine; next = σ.next; at = at; steps = σ.steps + 1 }) e (Taken next)
 grouped_by σ at (Err (group.Misread f)) = misread_by σ at f
 
 -- ---- the run's end

@@ -83,22 +83,20 @@ went c =
 
 pub returns-then-now : goal.returns-then-now
 returns-then-now c = let j = (goal.at.returns-then-now c).Joined-m-eq0 in
-    halts_from c.by_fields-st.ensures (halts_stopped c.loop-st.invariant c.is_finished.ensures c.if-is_finished.false (some_left j) (went j) c.in-Ok.is c.if-now.true)
+    halts_from c.by_fields-st.ensures (halts_stopped c.loop-st.invariant c.is_finished.ensures c.if-is_finished.false (some_left j) (went j) c.in-Goes.is c.if-now.true)
 
 pub loop-st-smaller : goal.loop-st-smaller
 loop-st-smaller c = let j = (goal.at.loop-st-smaller c).Joined-m-eq0 in
-    steps_less c.loop-st.invariant c.is_finished.ensures c.if-is_finished.false (some_left j) (went j) c.in-Ok.is c.by_fields-st-in-Ok.ensures (may j)
+    steps_less c.loop-st.invariant c.is_finished.ensures c.if-is_finished.false (some_left j) (went j) c.in-Goes.is c.by_fields-st-in-Goes.ensures (may j)
 
 pub loop-st-preserved : goal.loop-st-preserved
 loop-st-preserved c = let j = (goal.at.loop-st-preserved c).Joined-m-eq0 in
-    going_on c.loop-st.invariant c.is_finished.ensures c.if-is_finished.false (some_left j) (went j) c.in-Ok.is c.by_fields-st-in-Ok.ensures (may j) c.if-now.false
+    going_on c.loop-st.invariant c.is_finished.ensures c.if-is_finished.false (some_left j) (went j) c.in-Goes.is c.by_fields-st-in-Goes.ensures (may j) c.if-now.false
 
-pub returns-in-Err-Failed : goal.returns-in-Err-Failed
-returns-in-Err-Failed c = let j = (goal.at.returns-in-Err-Failed c).Joined-m-eq0 in
-    let q = rw c.in-Err-Failed.is at c.in-Err-Failed.field-0-is in
-    halts_from c.by_fields-st.ensures (halts_failed c.loop-st.invariant c.is_finished.ensures c.if-is_finished.false (some_left j) (went j) (rw q at c.in-Err-Failed.is))
+pub returns-in-Fails : goal.returns-in-Fails
+returns-in-Fails c = let j = (goal.at.returns-in-Fails c).Joined-m-eq0 in
+    halts_from c.by_fields-st.ensures (halts_failed c.loop-st.invariant c.is_finished.ensures c.if-is_finished.false (some_left j) (went j) c.in-Fails.is)
 
-pub returns-in-Err-Misread : goal.returns-in-Err-Misread
-returns-in-Err-Misread c = let j = (goal.at.returns-in-Err-Misread c).Joined-m-eq0 in
-    let q = rw c.in-Err-Misread.is at c.in-Err-Misread.field-0-is in
-    halts_from c.by_fields-st.ensures (halts_misread c.loop-st.invariant c.is_finished.ensures c.if-is_finished.false (some_left j) (went j) (rw q at c.in-Err-Misread.is))
+pub returns-in-Misreads : goal.returns-in-Misreads
+returns-in-Misreads c = let j = (goal.at.returns-in-Misreads c).Joined-m-eq0 in
+    halts_from c.by_fields-st.ensures (halts_misread c.loop-st.invariant c.is_finished.ensures c.if-is_finished.false (some_left j) (went j) c.in-Misreads.is)
