@@ -1,14 +1,11 @@
 -- The run with the label, and what it leaves for the book.
 -- Assumes nothing.
-use mathlib.Core.Path.{◌≡◌, refl, sym, ap, ◌∙◌, subst}
-use mathlib.Core.Bool.{true, false}
-use mathlib.Core.Option.{Option, none, some}
-use Rattle.std.specs.Prelude as rust
-use Rattle.std.specs.Prelude.{Result, Err}
-use Rattle.std.specs.Option.{ok_or}
+use mathlib.Core.Path.{◌≡◌, refl, sym, ◌∙◌, subst}
+use mathlib.Core.Bool.{Bool, true, false, not}
 use mathlib.Core.List.{List}
 use Prim.Native.Nat.{ℕ}
 use lib.ListN.{length}
+use borrow.Author.Tests.{not-true, not-false}
 use Rattle.semantics.specs.Text.{bytes}
 use Rattle.semantics.specs.Steps.{Run}
 use Rattle.ending.specs.Endings.{ending_of}
@@ -20,30 +17,21 @@ use Rattle.step.specs.Stepping.{state_of}
 use Rattle.runner.specs.Promise.{CarriesOut}
 use Rattle.runner.specs.declared.Proceeded.{Proceeded}
 use Rattle.lending.specs.Lending.{Carries}
-use Rattle.book.specs.Books.{Entry}
 use Rattle.book.specs.declared.Record.{Record}
-use Rattle.floor.specs.Floor.{labelled, run_of, entry_from, is_final}
-use Rattle.floor.specs.Promise.{asked, read_of, entry_of, ReadsEntry, Left, CarriesLabel}
-use Rattle.floor.specs.declared.Answer.{Answer}
+use Rattle.floor.specs.Floor.{labelled, run_of, is_final}
+use Rattle.floor.specs.Promise.{asked, is_finished, ReadsEntry, Left, CarriesLabel}
 use Rattle.floor.specs.declared.Answer.TheVariants.{NotFinished, BadStack}
 use Rattle.floor.specs.declared.Ran.{Ran}
+use Rattle.std.specs.Prelude.{None}
+use Rattle.std.specs.Prelude as std
 
-not_finished : (script : List ℕ) (names : List (List ℕ)) (x : Ending) → (x ≡ Finished → ⊥) → is_final (ending_of script names x) ≡ false
+final_is : (script : List ℕ) (names : List (List ℕ)) (x : Ending) → is_final (ending_of script names x) ≡ is_finished x
 unfolding is_final ending_of
-not_finished script names Finished h = absurd (h refl)
-not_finished script names Stopped h = refl
-not_finished script names OutOfFuel h = refl
-not_finished script names (Failed e command) h = refl
-not_finished script names (Misread f) h = refl
-
-finished_is : (script : List ℕ) (names : List (List ℕ)) {x : Ending} → x ≡ Finished → is_final (ending_of script names x) ≡ true
-unfolding is_final ending_of
-finished_is script names q = rw q refl
-
--- An entry that was read, or the answer to another stack.
-read_told : (x : Option Entry) → ok_or (read_of x) BadStack ≡ entry_of x
-read_told none = refl
-read_told (some x) = refl
+final_is script names Finished = refl
+final_is script names Stopped = refl
+final_is script names OutOfFuel = refl
+final_is script names (Failed e command) = refl
+final_is script names (Misread f) = refl
 
 module _ {script : List ℕ} {fuel : ℕ} {label s s' e e' d d' c c' l l' o o' : List ℕ} {done : Proceeded}
     (C : Carries script fuel (bytes "label") label s s' e e' d d' c c' l l' o o' done) where
@@ -64,15 +52,14 @@ module _ {script : List ℕ} {fuel : ℕ} {label s s' e e' d d' c c' l l' o o' :
   pub stack_there : Somewhere done.state.machine s' c'
   stack_there = (e', d', l', C.ends.machine, C.ends.rep)
 
-  pub not_final : (done.ending ≡ Finished → ⊥) → CarriesLabel script fuel label s s' e e' d d' c c' l l' o o' (record { report = done.report; entry = Err NotFinished })
-  not_final h =
-      let over : is_final ended.ending ≡ false = not_finished script (keys C.ends.machine) done.ending h in
-      so refl (rw over refl)
+  pub not_final : {t : Bool} → t ≡ is_finished done.ending → not t ≡ true
+      → CarriesLabel script fuel label s s' e e' d d' c c' l l' o o' (record { answer = NotFinished; report = done.report; entry = None })
+  not_final {t} q n =
+      let over : is_final ended.ending ≡ false = final_is script (keys C.ends.machine) done.ending ∙ sym q ∙ not-true t n in
+      so refl (rw over (refl, refl))
 
-  pub final : done.ending ≡ Finished → {read : rust.Option Record} → ReadsEntry done.state.machine s' c' read → {x : Result Record Answer} → x ≡ ok_or read BadStack
-      → CarriesLabel script fuel label s s' e e' d d' c c' l l' o o' (record { report = done.report; entry = x })
-  final h {read} R {x} q =
-      let over : is_final ended.ending ≡ true = finished_is script (keys C.ends.machine) h in
-      let items = entry_from C.ends.machine C.ends.machine.stack in
-      let told : x ≡ entry_of items = q ∙ ap (λ y. ok_or y BadStack) (R.says e' d' l' C.ends.machine C.ends.rep) ∙ read_told items in
-      so refl (rw over told)
+  pub final : {t : Bool} → t ≡ is_finished done.ending → not t ≡ false → {read : std.Option Record} → ReadsEntry done.state.machine s' c' read
+      → CarriesLabel script fuel label s s' e e' d d' c c' l l' o o' (record { answer = BadStack; report = done.report; entry = read })
+  final {t} q n {read} R =
+      let over : is_final ended.ending ≡ true = final_is script (keys C.ends.machine) done.ending ∙ sym q ∙ not-false t n in
+      so refl (rw over (refl, R.says e' d' l' C.ends.machine C.ends.rep))

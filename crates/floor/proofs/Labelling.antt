@@ -1,6 +1,5 @@
 -- The run with the label, with what is lent: nothing is changed where it is refused, and where it is made the words of whole slots are enough for it.
 -- Assumes nothing.
-use Rattle.std.specs.Prelude.{Err}
 use mathlib.Core.Path.{◌≡◌, refl, sym, ap, subst}
 use mathlib.Core.Bool.{Bool, true, false, not, cond}
 use mathlib.Core.List.{List, ◌++◌}
@@ -25,14 +24,15 @@ use Rattle.lending.specs.Lending as lending
 use Rattle.floor.specs.Floor.{Asked, label_most, before, labelled, run_of}
 use Rattle.floor.specs.Promise.{asked, Nothing, RunOrNone, Left, CarriesLabel, LeftOrNone, Labelled}
 use Rattle.floor.specs.declared.Answer.{Answer}
+use Rattle.std.specs.Prelude.{None}
 use Rattle.floor.specs.declared.Ran.{Ran}
 
 -- ---- refused
 
 module _ (a : Asked) (sound : Bool) (s e d c l o : List ℕ) where
-  pub stopped : {x : Answer} → some x ≡ before a sound → {r : Ran} → (r.entry ≡ Err x) × Nothing r.report → Labelled a sound s s e e d d c c l l o o r
-  stopped q {r} (k, n) = record {
-    left = subst (LeftOrNone a r) q k;
+  pub stopped : {x : Answer} → some x ≡ before a sound → {r : Ran} → (r.answer ≡ x) × (r.entry ≡ None) × Nothing r.report → Labelled a sound s s e e d d c c l l o o r
+  stopped q {r} (k, m, n) = record {
+    left = subst (LeftOrNone a r) q (k, m);
     run = subst (RunOrNone a s s e e d d c c l l o o r.report) q (n, refl, refl, refl, refl, refl, refl);
   }
 

@@ -2,16 +2,16 @@
 // second library, on top of the runner.
 #![tactic(auto)]
 
-ghost use Rattle.std.specs.Prelude.{◌≡◌, Err};
+ghost use Rattle.std.specs.Prelude.{◌≡◌, None};
 ghost use Rattle.semantics.specs.Text.{bytes};
 ghost use Rattle.setup.specs.Lending.{lent_of, number_of};
-ghost use Rattle.floor.specs.declared.Answer.TheVariants.{Refused};
 ghost use Rattle.machine.specs.Rep.{Somewhere};
+ghost use Rattle.floor.specs.declared.Answer.TheVariants.{Refused};
 ghost use Rattle.floor.specs.Floor.{before, answer_for};
-ghost use Rattle.floor.specs.Promise.{asked, Scans, before_of, Labelled, CarriesLabel, ReadsEntry, Nothing};
+ghost use Rattle.floor.specs.Promise.{asked, Scans, before_of, Labelled, CarriesLabel, ReadsEntry, scanned_of, Nothing, is_finished};
 ghost use Rattle.lending.specs.Lending as lending;
 
-use book::{Fate, Record};
+use book::{Entered, Fate, Record};
 use ending::Ending;
 use machine::{ITEM_PAYLOAD, Machine, TAG_INTEGER, TAG_STRING};
 use runner::Report;
@@ -49,11 +49,12 @@ pub struct Scanned {
     pub count: usize,
 }
 
-// What is reported of a run, and what it left for the book: an entry, or else the answer.
+// What the run left for the book: an entry, or none, and then the answer.
 #[derive(Clone, Copy)]
 pub struct Ran {
+    pub answer: Answer,
     pub report: Report,
-    pub entry: Result<Record, Answer>,
+    pub entry: Option<Record>,
 }
 
 impl From<Refusal> for Answer {
@@ -85,19 +86,8 @@ pub fn scan(
     let ran = run_labelled(
         script, fuel, label, sound, stack, exec, dict, cells, log, outcome,
     );
-    let report = ran.report;
-    match book::enter(book, count, ran.entry.ok()) {
-        Some(entered) => Scanned {
-            answer: answer_for(entered.fate, entered.at),
-            report,
-            count: entered.count,
-        },
-        None => Scanned {
-            answer: ran.entry.unwrap_err(),
-            report,
-            count,
-        },
-    }
+    let entered = book::enter(book, count, ran.entry);
+    answered(ran, entered, count)
 }
 
 // The run with the label lent, unless something is refused before it.
@@ -124,25 +114,27 @@ pub fn run_labelled(
         log: log.len(),
         outcome: outcome.len(),
     };
-    if let Err(answer) = check(script, fuel, label, sound, lent) {
-        return refused(answer);
+    match check(script, fuel, label, sound, lent) {
+        Err(answer) => refused(answer),
+        Ok(()) => {
+            // words past whole slots are not lent on
+            let a = stack.len() / STACK_WIDTH * STACK_WIDTH;
+            let b = exec.len() / EXEC_WIDTH * EXEC_WIDTH;
+            let c = dict.len() / DICTIONARY_WIDTH * DICTIONARY_WIDTH;
+            let d = cells.len() / CELL_WIDTH * CELL_WIDTH;
+            carry_label(
+                script,
+                fuel,
+                label,
+                &mut stack[..a],
+                &mut exec[..b],
+                &mut dict[..c],
+                &mut cells[..d],
+                log,
+                outcome,
+            )
+        }
     }
-    // words past whole slots are not lent on
-    let a = stack.len() / STACK_WIDTH * STACK_WIDTH;
-    let b = exec.len() / EXEC_WIDTH * EXEC_WIDTH;
-    let c = dict.len() / DICTIONARY_WIDTH * DICTIONARY_WIDTH;
-    let d = cells.len() / CELL_WIDTH * CELL_WIDTH;
-    carry_label(
-        script,
-        fuel,
-        label,
-        &mut stack[..a],
-        &mut exec[..b],
-        &mut dict[..c],
-        &mut cells[..d],
-        log,
-        outcome,
-    )
 }
 
 // What is refused before the run, in the paper's order.
@@ -185,15 +177,19 @@ fn carry_label(
         script, fuel, b"label", label, stack, exec, dict, cells, log, outcome,
     );
     let report = done.report;
-    if done.ending != Ending::Finished {
+    if !is_final(done.ending) {
         return Ran {
+            answer: Answer::NotFinished,
             report,
-            entry: Err(Answer::NotFinished),
+            entry: None,
         };
     }
+    let st = done.state;
+    let entry = read_entry(st.machine, stack, cells);
     Ran {
+        answer: Answer::BadStack,
         report,
-        entry: read_entry(done.state.machine, stack, cells).ok_or(Answer::BadStack),
+        entry,
     }
 }
 
@@ -240,9 +236,15 @@ fn read_entry(m: Machine, stack: &[u32], cells: &[u32]) -> Option<Record>
     })
 }
 
+fn is_final(ending: Ending) -> bool
+    ensures { result ≡ is_finished ending }
+{
+    matches!(ending, Ending::Finished)
+}
+
 // No run is made.
 fn refused(answer: Answer) -> Ran
-    ensures { (result.entry ≡ Err answer) × Nothing result.report }
+    ensures { (result.answer ≡ answer) × (result.entry ≡ None) × Nothing result.report }
 {
     let machine = Machine {
         depth: 0,
@@ -252,19 +254,37 @@ fn refused(answer: Answer) -> Ran
         lists: heap::fresh(),
         stopped: false,
     };
-    let report = Report {
-        steps: 0,
-        log: 0,
-        outcome: 0,
-        machine,
-    };
     Ran {
-        report,
-        entry: Err(answer),
+        answer,
+        report: Report {
+            steps: 0,
+            log: 0,
+            outcome: 0,
+            machine,
+        },
+        entry: None,
     }
 }
 
-// The answer, by what became of the entry.
+// The answer, given what became of the entry.
+fn answered(ran: Ran, entered: Option<Entered>, count: usize) -> Scanned
+    ensures { result ≡ scanned_of ran entered count }
+{
+    let report = ran.report;
+    match entered {
+        Some(entered) => Scanned {
+            answer: answer_for(entered.fate, entered.at),
+            report,
+            count: entered.count,
+        },
+        None => Scanned {
+            answer: ran.answer,
+            report,
+            count,
+        },
+    }
+}
+
 fn answer_for(fate: Fate, at: usize) -> Answer
     ensures { result ≡ answer_for fate at }
 {
