@@ -9,7 +9,8 @@ ghost use Rattle.commands.specs.Commands.{CommandIs, Commands};
 use ending::Command;
 use frames::{PENDING, RUNNING};
 use machine::{
-    FRAME_CELL, FRAME_LEFT, FRAME_PAYLOAD, FRAME_TAG, Machine, TAG_EXECUTABLE, TAG_OPERATOR};
+    FRAME_CELL, FRAME_LEFT, FRAME_PAYLOAD, FRAME_TAG, Machine, TAG_EXECUTABLE, TAG_OPERATOR,
+};
 use semantics::EXEC_WIDTH;
 
 // The command of the topmost slot: what is pending, or a procedure's next element.

@@ -11,8 +11,8 @@ ghost use Rattle.dictionary_operators.specs.Binding.{HasProcedure, HasElementAt,
 ghost use Rattle.dictionary_operators.specs.Interning.{item_named};
 
 use machine::{
-    Machine, TAG_EXECUTABLE, TAG_LITERAL, TAG_OPERATOR, TAG_PROCEDURE,
-    TAG_STRING, TAG_UNBOUND};
+    Machine, TAG_EXECUTABLE, TAG_LITERAL, TAG_OPERATOR, TAG_PROCEDURE, TAG_STRING, TAG_UNBOUND,
+};
 use semantics::{DICTIONARY_WIDTH, Error, NAME_MOST, STACK_WIDTH};
 
 // Ruled out: the operands taken for each other; a binding whose object is counted for the item and not for the name.
@@ -34,7 +34,12 @@ pub fn def(m: Machine, stack: &[u32], dict: &mut [u32], cells: &mut [u32]) -> Re
 }
 
 // Ruled out: an unbound name taken for one that is bound to null; typecheck for an unbound name.
-pub fn load(m: Machine, stack: &mut [u32], dict: &[u32], cells: &mut [u32]) -> Result<Machine, Error>
+pub fn load(
+    m: Machine,
+    stack: &mut [u32],
+    dict: &[u32],
+    cells: &mut [u32],
+) -> Result<Machine, Error>
     requires { Represented m stack.old dict.now cells.old }
     ensures { DoesDictionary (perform (bytes "load")) m stack.old stack.new dict.now dict.now cells.old cells.new result }
 {
@@ -68,7 +73,12 @@ pub fn bind(m: Machine, stack: &[u32], dict: &[u32], cells: &mut [u32]) -> Resul
 }
 
 // Ruled out: a name of 32 bytes; the bytes after the first zero taken into the name; a slot taken for a name that has one.
-pub fn cvn(m: Machine, stack: &mut [u32], dict: &mut [u32], cells: &mut [u32]) -> Result<Machine, Error>
+pub fn cvn(
+    m: Machine,
+    stack: &mut [u32],
+    dict: &mut [u32],
+    cells: &mut [u32],
+) -> Result<Machine, Error>
     requires { Represented m stack.old dict.old cells.old }
     ensures { DoesDictionary (perform (bytes "cvn")) m stack.old stack.new dict.old dict.new cells.old cells.new result }
 {
@@ -88,7 +98,13 @@ pub fn cvn(m: Machine, stack: &mut [u32], dict: &mut [u32], cells: &mut [u32]) -
 }
 
 // Item 0 gives way to the literal name of these bytes, which takes a slot where it has none.
-fn name_item(m: Machine, stack: &mut [u32], dict: &mut [u32], cells: &mut [u32], name: &[u8]) -> Result<Machine, Error>
+fn name_item(
+    m: Machine,
+    stack: &mut [u32],
+    dict: &mut [u32],
+    cells: &mut [u32],
+    name: &[u8],
+) -> Result<Machine, Error>
     requires { (1 ≤ m.depth) × (length name.now ≤ name_most) × Represented m stack.old dict.old cells.old }
     ensures { DoesDictionary (item_named name.now) m stack.old stack.new dict.old dict.new cells.old cells.new result }
 {

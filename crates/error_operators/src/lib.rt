@@ -11,7 +11,12 @@ use machine::{ITEM_PAYLOAD, LATEST_COMMAND, LATEST_ERROR, Machine, TAG_LITERAL, 
 use semantics::{Error, STACK_WIDTH};
 
 // Ruled out: a name that is no error's taken; the operands left on the stack, or the object let go with them.
-pub fn onerror(m: Machine, stack: &[u32], dict: &mut [u32], cells: &mut [u32]) -> Result<Machine, Error>
+pub fn onerror(
+    m: Machine,
+    stack: &[u32],
+    dict: &mut [u32],
+    cells: &mut [u32],
+) -> Result<Machine, Error>
     requires { Represented m stack.now dict.old cells.old }
     ensures { DoesDictionary (perform (bytes "onerror")) m stack.now stack.now dict.old dict.new cells.old cells.new result }
 {
@@ -32,7 +37,12 @@ pub fn onerror(m: Machine, stack: &[u32], dict: &mut [u32], cells: &mut [u32]) -
 }
 
 // Ruled out: the name of the command; an executable name.
-pub fn errorname(m: Machine, stack: &mut [u32], dict: &[u32], cells: &mut [u32]) -> Result<Machine, Error>
+pub fn errorname(
+    m: Machine,
+    stack: &mut [u32],
+    dict: &[u32],
+    cells: &mut [u32],
+) -> Result<Machine, Error>
     requires { Represented m stack.old dict.now cells.old }
     ensures { DoesDictionary (perform (bytes "errorname")) m stack.old stack.new dict.now dict.now cells.old cells.new result }
 {
@@ -40,7 +50,12 @@ pub fn errorname(m: Machine, stack: &mut [u32], dict: &[u32], cells: &mut [u32])
 }
 
 // Ruled out: the name of the error; stackoverflow where one item still fits.
-pub fn command(m: Machine, stack: &mut [u32], dict: &[u32], cells: &mut [u32]) -> Result<Machine, Error>
+pub fn command(
+    m: Machine,
+    stack: &mut [u32],
+    dict: &[u32],
+    cells: &mut [u32],
+) -> Result<Machine, Error>
     requires { Represented m stack.old dict.now cells.old }
     ensures { DoesDictionary (perform (bytes "command")) m stack.old stack.new dict.now dict.now cells.old cells.new result }
 {

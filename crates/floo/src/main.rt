@@ -79,7 +79,12 @@ fn write_page(script: &[u8], page: &mut [u8; PAGE]) -> usize
 }
 
 // A refusal's line, or the start of the log and the start of the outcome.
-fn write_answer(answer: Result<Report, Refusal>, log: &[u8], outcome: &[u8], page: &mut [u8; PAGE]) -> usize
+fn write_answer(
+    answer: Result<Report, Refusal>,
+    log: &[u8],
+    outcome: &[u8],
+    page: &mut [u8; PAGE],
+) -> usize
     requires { Within answer log.now outcome.now }
     ensures { Written 0 (told answer log.now outcome.now) page.old page.new result }
 {

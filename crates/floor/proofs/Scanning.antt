@@ -51,7 +51,7 @@ module _ (a : Asked) (b b' : List Record) (n : ℕ) (ran : Ran) (entered : std.O
   an_entry x q =
       let r = record_of x in
       let F : (entered ≡ Some (record { fate = fate_in b n r; at = place_of b n r.number; count = count_after b n r })) × (b' ≡ book_after b n r) =
-          subst (λ (e : std.Option Record). Enters e n b b' entered) q E in
+      subst (λ (e : std.Option Record). Enters e n b b' entered) q E in
       (ap (λ (e : std.Option Entered). (scanned_of ran e n).answer) F.0, F.1, ap (λ (e : std.Option Entered). (scanned_of ran e n).count) F.0)
 
   by_entry : (x : Option Entry) → ran.answer ≡ BadStack → ran.entry ≡ read_of x → Told (entering b n x)

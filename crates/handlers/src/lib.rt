@@ -13,7 +13,9 @@ ghost use Rattle.handlers.specs.Handling.{NamesRow, BindsHandler, PendsHandler, 
 
 use heap::Value;
 use machine::{
-    HANDLER_NAME, HANDLER_PAYLOAD, HANDLER_TAG, HANDLER_WIDTH, LATEST_COMMAND, LATEST_ERROR, Machine};
+    HANDLER_NAME, HANDLER_PAYLOAD, HANDLER_TAG, HANDLER_WIDTH, LATEST_COMMAND, LATEST_ERROR,
+    Machine,
+};
 use semantics::{ERROR_COUNT, Error};
 
 // The row of an error: its place among the names of errors.

@@ -238,14 +238,7 @@ impl Machine {
         requires { (2 * self.depth ≤ length stack.old) × (1 ≤ n) × (n ≤ self.depth) }
         ensures { Replaces n tag payload self result stack.old stack.new }
     {
-        set_item(
-            stack,
-            self.depth - n,
-            Value {
-                tag,
-                pay: payload,
-            },
-        );
+        set_item(stack, self.depth - n, Value { tag, pay: payload });
         self.depth = self.depth - n + 1;
         self
     }
@@ -257,14 +250,7 @@ impl Machine {
         ensures depth_value { result.depth ≡ self.depth + 1 }
     {
         let n = self.depth;
-        set_item(
-            stack,
-            n,
-            Value {
-                tag,
-                pay: payload,
-            },
-        );
+        set_item(stack, n, Value { tag, pay: payload });
         self.depth = n + 1;
         self
     }
@@ -336,7 +322,13 @@ impl Machine {
     // Item i gives way to a copy of the value, which some place holds.
     // Ruled out: the item let go before the value is counted; another item stored over.
     #[inline(always)]
-    pub fn put_value(mut self, stack: &mut [u32], cells: &mut [u32], i: usize, value: Value) -> Machine
+    pub fn put_value(
+        mut self,
+        stack: &mut [u32],
+        cells: &mut [u32],
+        i: usize,
+        value: Value,
+    ) -> Machine
         requires { (i < self.depth) × HeldItems value.tag value.pay self stack.old cells.old }
         ensures puts_value { PutsValue i value.tag value.pay self result stack.old stack.new cells.old cells.new }
         ensures depth_value { result.depth ≡ self.depth }

@@ -63,7 +63,12 @@ fn comparisons(k: u32, m: Machine, stack: &mut [u32]) -> Result<Machine, Error>
 }
 
 // dup, exch, pop, index, copy and roll.
-fn rearrangements(k: u32, m: Machine, stack: &mut [u32], cells: &mut [u32]) -> Result<Machine, Error>
+fn rearrangements(
+    k: u32,
+    m: Machine,
+    stack: &mut [u32],
+    cells: &mut [u32],
+) -> Result<Machine, Error>
     requires { (k < 6) × StackSomewhere m stack.old cells.old }
     ensures { DoesHeap (perform_at k) m stack.old stack.new cells.old cells.new result }
 {
@@ -78,7 +83,13 @@ fn rearrangements(k: u32, m: Machine, stack: &mut [u32], cells: &mut [u32]) -> R
 }
 
 // exec, if, ifelse, loop, repeat and for.
-fn bodies(k: u32, m: Machine, stack: &[u32], exec: &mut [u32], cells: &mut [u32]) -> Result<Machine, Error>
+fn bodies(
+    k: u32,
+    m: Machine,
+    stack: &[u32],
+    exec: &mut [u32],
+    cells: &mut [u32],
+) -> Result<Machine, Error>
     requires { (27 ≤ k) × (k < 33) × SomewhereAll m stack.now exec.old cells.old }
     ensures { DoesFrames (perform_at k) m stack.now stack.now exec.old exec.new cells.old cells.new result }
 {
@@ -142,7 +153,13 @@ fn intervals(k: u32, m: Machine, stack: &mut [u32], cells: &mut [u32]) -> Result
 }
 
 // def, load and bind.
-fn bindings(k: u32, m: Machine, stack: &mut [u32], dict: &mut [u32], cells: &mut [u32]) -> Result<Machine, Error>
+fn bindings(
+    k: u32,
+    m: Machine,
+    stack: &mut [u32],
+    dict: &mut [u32],
+    cells: &mut [u32],
+) -> Result<Machine, Error>
     requires { (24 ≤ k) × (k < 27) × Represented m stack.old dict.old cells.old }
     ensures { DoesDictionary (perform_at k) m stack.old stack.new dict.old dict.new cells.old cells.new result }
 {
@@ -154,7 +171,13 @@ fn bindings(k: u32, m: Machine, stack: &mut [u32], dict: &mut [u32], cells: &mut
 }
 
 // The operators below exec: those that touch stack, dictionary and cells alone.
-fn lower(k: u32, m: Machine, stack: &mut [u32], dict: &mut [u32], cells: &mut [u32]) -> Result<Machine, Error>
+fn lower(
+    k: u32,
+    m: Machine,
+    stack: &mut [u32],
+    dict: &mut [u32],
+    cells: &mut [u32],
+) -> Result<Machine, Error>
     requires { (k < 27) × Represented m stack.old dict.old cells.old }
     ensures { DoesDictionary (perform_at k) m stack.old stack.new dict.old dict.new cells.old cells.new result }
 {
@@ -196,7 +219,13 @@ fn outputs(
 }
 
 // cvs, cvx, cvlit and cvn.
-fn converters(k: u32, m: Machine, stack: &mut [u32], dict: &mut [u32], cells: &mut [u32]) -> Result<Machine, Error>
+fn converters(
+    k: u32,
+    m: Machine,
+    stack: &mut [u32],
+    dict: &mut [u32],
+    cells: &mut [u32],
+) -> Result<Machine, Error>
     requires { (47 ≤ k) × (k < 51) × Represented m stack.old dict.old cells.old }
     ensures { DoesDictionary (perform_at k) m stack.old stack.new dict.old dict.new cells.old cells.new result }
 {
@@ -209,7 +238,13 @@ fn converters(k: u32, m: Machine, stack: &mut [u32], dict: &mut [u32], cells: &m
 }
 
 // onerror, errorname and command.
-fn errors(k: u32, m: Machine, stack: &mut [u32], dict: &mut [u32], cells: &mut [u32]) -> Result<Machine, Error>
+fn errors(
+    k: u32,
+    m: Machine,
+    stack: &mut [u32],
+    dict: &mut [u32],
+    cells: &mut [u32],
+) -> Result<Machine, Error>
     requires { (54 ≤ k) × (k < 57) × Represented m stack.old dict.old cells.old }
     ensures { DoesDictionary (perform_at k) m stack.old stack.new dict.old dict.new cells.old cells.new result }
 {
@@ -232,7 +267,13 @@ fn pegs(k: u32, m: Machine, stack: &mut [u32]) -> Result<Machine, Error>
 }
 
 // The operators from exec to put.
-fn upper(k: u32, m: Machine, stack: &mut [u32], exec: &mut [u32], cells: &mut [u32]) -> Result<Machine, Error>
+fn upper(
+    k: u32,
+    m: Machine,
+    stack: &mut [u32],
+    exec: &mut [u32],
+    cells: &mut [u32],
+) -> Result<Machine, Error>
     requires { (27 ≤ k) × (k < 42) × SomewhereAll m stack.old exec.old cells.old }
     ensures { DoesFrames (perform_at k) m stack.old stack.new exec.old exec.new cells.old cells.new result }
 {

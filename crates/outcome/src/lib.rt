@@ -16,7 +16,8 @@ ghost use Rattle.outcome.specs.Reports.{WritesWhere, CountsRoom, WritesCounts, I
 use ending::{Command, Ending};
 use machine::{
     ITEM_PAYLOAD, Machine, TAG_ARRAY, TAG_BOOLEAN, TAG_EXECUTABLE, TAG_INTEGER, TAG_LITERAL,
-    TAG_MARK, TAG_OPERATOR, TAG_PROCEDURE, TAG_STRING};
+    TAG_MARK, TAG_OPERATOR, TAG_PROCEDURE, TAG_STRING,
+};
 use semantics::{Error, Fault, STACK_WIDTH};
 
 // The outcome at the front of `out`.

@@ -39,7 +39,13 @@ pub fn print(m: Machine, stack: &[u32], cells: &mut [u32], log: &mut [u8]) -> Re
 }
 
 // Ruled out: the line feed left out of the room; a text cut off where the log ends.
-pub fn echo(m: Machine, stack: &[u32], dict: &[u32], cells: &mut [u32], log: &mut [u8]) -> Result<Machine, Error>
+pub fn echo(
+    m: Machine,
+    stack: &[u32],
+    dict: &[u32],
+    cells: &mut [u32],
+    log: &mut [u8],
+) -> Result<Machine, Error>
     requires { SomewhereLog m stack.now dict.now cells.old log.old }
     ensures { DoesLog (perform (bytes "echo")) m stack.now dict.now cells.old cells.new log.old log.new result }
 {
@@ -62,7 +68,13 @@ pub fn echo(m: Machine, stack: &[u32], dict: &[u32], cells: &mut [u32], log: &mu
 }
 
 // The items, the bottom first. Ruled out: the topmost item first; nothing written of an empty stack.
-pub fn echostack(mut m: Machine, stack: &[u32], dict: &[u32], cells: &[u32], log: &mut [u8]) -> Result<Machine, Error>
+pub fn echostack(
+    mut m: Machine,
+    stack: &[u32],
+    dict: &[u32],
+    cells: &[u32],
+    log: &mut [u8],
+) -> Result<Machine, Error>
     requires { SomewhereLog m stack.now dict.now cells.now log.old }
     ensures { DoesLog (perform (bytes "echostack")) m stack.now dict.now cells.now cells.now log.old log.new result }
 {

@@ -11,7 +11,8 @@ ghost use Rattle.printing.specs.Shown.{Measures, Writes, PlainSize, PlainWrites,
 
 use machine::{
     TAG_ARRAY, TAG_BOOLEAN, TAG_EXECUTABLE, TAG_INTEGER, TAG_LITERAL, TAG_MARK, TAG_OPERATOR,
-    TAG_STRING};
+    TAG_STRING,
+};
 
 // The length of the text of a value, with `depth` levels of arrays written out, or `limit` where it is more. An array's elements are left as soon as that
 // is known: there may be 32,767 of them on each level.

@@ -98,7 +98,12 @@ fn say_start<W: Write>(to: &mut W, text: &[u8], n: usize) -> io::Result<()> {
     Ok(())
 }
 
-fn say_answer<W: Write>(to: &mut W, answer: Result<Report, Refusal>, log: &[u8], outcome: &[u8]) -> io::Result<()> {
+fn say_answer<W: Write>(
+    to: &mut W,
+    answer: Result<Report, Refusal>,
+    log: &[u8],
+    outcome: &[u8],
+) -> io::Result<()> {
     match answer {
         Err(refusal) => say_refusal(to, refusal.number())?,
         Ok(report) => {

@@ -11,7 +11,8 @@ ghost use Rattle.dictionary.specs.Listing.{listed};
 
 use machine::{
     BINDING_PAYLOAD, BINDING_TAG, HANDLER_TAG, HANDLER_WIDTH, LATEST_COMMAND, LATEST_ERROR,
-    Machine, TAG_BOOLEAN, TAG_NULL, TAG_OPERATOR, TAG_UNBOUND};
+    Machine, TAG_BOOLEAN, TAG_NULL, TAG_OPERATOR, TAG_UNBOUND,
+};
 use semantics::{DICTIONARY_WIDTH, ERROR_COUNT, NAME_COUNT, OPERATOR_COUNT};
 
 // The number of mark, which [ is bound to.

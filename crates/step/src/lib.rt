@@ -139,13 +139,7 @@ impl State {
     }
 
     // The state after a step: the token at `at` has been taken, and the bytes from `next` on are left; or the state before it, with the step counted and `at` set.
-    fn ended(
-        self,
-        at: usize,
-        next: usize,
-        command: Command,
-        did: Result<Machine, Error>,
-    ) -> Stepped
+    fn ended(self, at: usize, next: usize, command: Command, did: Result<Machine, Error>) -> Stepped
         requires { self.steps < fuel_most }
         ensures { result ≡ ended_by self at next command did }
     {

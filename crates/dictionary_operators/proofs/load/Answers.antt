@@ -22,8 +22,8 @@ pub load_binding-requires : goal.load_binding-requires
 load_binding-requires c = (
   omega (arith, c.if-m-lt1.false),
   rw c.item-name.ensures.1
-  (load_bound c.if-m-lt1.false (rw c.item-name.ensures.0 at c.if-name-ne-TAG_LITERAL.false)
-  (rw (c.binding-bound.ensures.0, c.item-name.ensures.1) at c.if-bound-eq-TAG_UNBOUND.false) c.requires),
+      (load_bound c.if-m-lt1.false (rw c.item-name.ensures.0 at c.if-name-ne-TAG_LITERAL.false)
+      (rw (c.binding-bound.ensures.0, c.item-name.ensures.1) at c.if-bound-eq-TAG_UNBOUND.false) c.requires),
 )
 
 pub shape_of-stack : goal.shape_of-stack
