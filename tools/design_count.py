@@ -83,7 +83,7 @@ section("1d a flag beside the value that it guards (fields and parameters named 
 shapes = defaultdict(list)
 for n, t in sources.items():
     for name, sig, body, at in functions(t):
-        if body.count("\n") < 2:
+        if body.count("\n") < 4:
             continue
         s = re.sub(r'b?"[^"]*"|b?\'[^\']*\'|\b0x[0-9A-Fa-f_]+|\b\d[\d_]*', "#", body)
         s = re.sub(r"\b[A-Z][A-Z_]+\b", "K", s)
