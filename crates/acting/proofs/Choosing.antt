@@ -1,6 +1,7 @@
 -- A frequent operator that is pending, or is a procedure's next element, is found and executed: what it promises on the words then is what the step promises, and
 -- three words put the slot back where it fails. What is left to the other ways to act is a rare operator or none.
 -- Assumes nothing.
+use Rattle.std.specs.Prelude.{Option, Some, None, Ok, Err}
 use mathlib.Core.Path.{◌≡◌, refl, sym, ap, ◌∙◌, subst}
 use mathlib.Core.List.{List}
 use Prim.Native.Nat.{ℕ, ◌+◌, ◌-◌, ◌*◌, ◌≤◌, ◌<◌}
@@ -15,15 +16,12 @@ use Rattle.machine.specs.Words.{frame_kind, frame_tag, frame_payload, frame_cell
 use Rattle.machine.specs.Rep.{Rep}
 use Rattle.machine.specs.Room.{lent, fitted}
 use Rattle.machine.specs.declared.Machine.{Machine}
-use Rattle.machine.specs.declared.Did.{Did}
-use Rattle.machine.specs.declared.Did.TheVariants.{Ok, Fail}
+use Rattle.machine.specs.Answers.{Did}
 use Rattle.machine.specs.FrameMoves.{frame_dropped, ForgetsFrame}
 use Rattle.frames.specs.Moves.{reset_words, Turned, Advances}
 use Rattle.operators.specs.Titles.{perform_at, Everywhere, DoesAll, EverywhereButLog, DoesButLog}
 use Rattle.turns.specs.Turns.{resumed}
 use Rattle.acting.specs.Nexts.{Executes, Infrequent, NextIs}
-use Rattle.acting.specs.declared.Next.{Next}
-use Rattle.acting.specs.declared.Next.TheVariants.{Frequent, Other}
 use Rattle.acting.proofs.Executing.{alike, operator_fits, back, after, stands, fits}
 
 -- ---- found
@@ -90,8 +88,8 @@ pending_other kind rare c = (refl, record { pending = λ k. rare; element = λ k
 
 -- ---- executed
 
-module _ {m : Machine} {e e₁ c : List ℕ} {next : Next} (N : NextIs m e e₁ c next) where
-  module _ {number : ℕ} {left : Machine} (q : next ≡ Frequent number left) where
+module _ {m : Machine} {e e₁ c : List ℕ} {next : Option (ℕ × Machine)} (N : NextIs m e e₁ c next) where
+  module _ {number : ℕ} {left : Machine} (q : next ≡ Some (number, left)) where
     executes : Executes number m left e e₁ c
     executes = subst (NextIs m e e₁ c) q N
 
@@ -110,9 +108,9 @@ module _ {m : Machine} {e e₁ c : List ℕ} {next : Next} (N : NextIs m e e₁ 
           }
 
       pub frequent_failed : {x : Error} {e₃ : List ℕ}
-          → did ≡ Fail x
+          → did ≡ Err x
           → e₃ ≡ reset_words (frame_kind e (m.frames - 1)) (frame_cell e (m.frames - 1)) (frame_left e (m.frames - 1)) m e₂
-          → DoesAll resumed m s s' e e₃ d d' c c' l l (Fail x)
+          → DoesAll resumed m s s' e e₃ d d' c c' l l (Err x)
       frequent_failed {x} g z =
           let D = subst (DoesAll (perform_at number) left s s' e₁ e₂ d d' c c' l l) g (E.all l) in
           record {
@@ -126,7 +124,7 @@ module _ {m : Machine} {e e₁ c : List ℕ} {next : Next} (N : NextIs m e e₁ 
 
   -- ---- otherwise
 
-  module _ (q : next ≡ Other) where
+  module _ (q : next ≡ None) where
     otherwise : (e₁ ≡ e) × Infrequent m e c
     otherwise = subst (NextIs m e e₁ c) q N
 

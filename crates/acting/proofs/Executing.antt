@@ -1,6 +1,7 @@
 -- An operator or a name that is pending, or is a procedure's next element, is executed: what it promises on the machine without the slot, or with the procedure
 -- moved on, is what the step promises.
 -- Assumes nothing.
+use Rattle.std.specs.Prelude.{Ok, Err}
 use mathlib.Core.Path.{◌≡◌, refl, sym, ap, ◌∙◌, subst}
 use mathlib.Core.Bool.{true}
 use mathlib.Core.List.{List, [], ◌∷◌}
@@ -26,8 +27,7 @@ use Rattle.machine.specs.Places.{keys}
 use Rattle.machine.specs.Rep.{Rep, IsIn, Answer}
 use Rattle.machine.specs.Room.{lent, fitted}
 use Rattle.machine.specs.declared.Machine.{Machine}
-use Rattle.machine.specs.declared.Did.{Did}
-use Rattle.machine.specs.declared.Did.TheVariants.{Ok, Fail}
+use Rattle.machine.specs.Answers.{Did}
 use Rattle.machine.specs.FrameMoves.{top_frame, frame_dropped, ForgetsFrame}
 use Rattle.frames.specs.Moves.{reset_top, reset_words, Turned, Advances}
 use Rattle.machine.proofs.Tops.{slot}
@@ -281,12 +281,12 @@ module _ (m : Machine) (e e₁ e' d c c' : List ℕ) (slots : 1 ≤ m.frames) (k
         }
 
     pub element_fails : {did : Did} {x : Error} {e'' : List ℕ}
-        → did ≡ Fail x
+        → did ≡ Err x
         → DoesAll (perform_at p) m s s' e₁ e' d d' c c' l l' did
         → e'' ≡ reset_words 1 cell (frame_left e (m.frames - 1)) m e'
-        → DoesAll resumed m s s' e e'' d d' c c' l l' (Fail x)
+        → DoesAll resumed m s s' e e'' d d' c c' l l' (Err x)
     element_fails {x = x} g E z =
-        let D = subst (λ q. DoesAll (perform_at q) m s s' e₁ e' d d' c c' l l' (Fail x)) number (subst (DoesAll (perform_at p) m s s' e₁ e' d d' c c' l l') g E) in
+        let D = subst (λ q. DoesAll (perform_at q) m s s' e₁ e' d d' c c' l l' (Err x)) number (subst (DoesAll (perform_at p) m s s' e₁ e' d d' c c' l l') g E) in
         record {
           does = λ μ R.
               let a = D.does _ (stands s l μ R) in
@@ -317,12 +317,12 @@ module _ (m : Machine) (e e₁ e' d c c' : List ℕ) (slots : 1 ≤ m.frames) (k
         }
 
     pub element_unnamed : {did : Did} {x : Error} {e'' : List ℕ}
-        → did ≡ Fail x
+        → did ≡ Err x
         → DoesNamed p m e₁ e' d c c' did
         → e'' ≡ reset_words 1 cell (frame_left e (m.frames - 1)) m e'
-        → DoesBinding resumed m e e'' d c c' (Fail x)
+        → DoesBinding resumed m e e'' d c c' (Err x)
     element_unnamed {x = x} g E z =
-        let D = subst (λ q. DoesNamed q m e₁ e' d c c' (Fail x)) slot_is (subst (DoesNamed p m e₁ e' d c c') g E) in
+        let D = subst (λ q. DoesNamed q m e₁ e' d c c' (Err x)) slot_is (subst (DoesNamed p m e₁ e' d c c') g E) in
         record {
           does = λ s l μ R.
               let w = next s l μ R in
@@ -336,5 +336,5 @@ pub binding_all : {f : Floo.Machine → Result Floo.Machine} {m : Machine} {e e'
     → DoesBinding f m e e' d c c' r
     → (s l : List ℕ)
     → DoesAll f m s s e e' d d c c' l l r
-binding_all (Fail x) D s l = record { does = λ μ R. let a = D.does s l μ R in (a.0, (refl, a.1.0, refl, a.1.1, refl)); rest = log_same l (Fail x) }
+binding_all (Err x) D s l = record { does = λ μ R. let a = D.does s l μ R in (a.0, (refl, a.1.0, refl, a.1.1, refl)); rest = log_same l (Err x) }
 binding_all (Ok m') D s l = record { does = λ μ R. D.does s l μ R; rest = log_same l (Ok m') }

@@ -1,6 +1,6 @@
 -- The operator that a step executes, where it is one of the frequent.
 -- Assumes nothing.
-use Rattle.std.specs.Prelude.{◌≡◌, List, ℕ, ◌-◌, ◌<◌, ◌≤◌}
+use Rattle.std.specs.Prelude.{◌≡◌, List, ℕ, ◌-◌, ◌<◌, ◌≤◌, Option, Some, None}
 use Rattle.semantics.specs.Machine as Floo
 use Rattle.heap.specs.Word.{word}
 use Rattle.machine.specs.Words.{frame_kind, frame_tag, frame_payload, frame_cell, frame_left}
@@ -10,8 +10,6 @@ use Rattle.machine.specs.declared.Machine.{Machine}
 use Rattle.frames.specs.Moves.{reset_words}
 use Rattle.operators.specs.Titles.{perform_at}
 use Rattle.turns.specs.Turns.{resumed}
-use Rattle.acting.specs.declared.Next.{Next}
-use Rattle.acting.specs.declared.Next.TheVariants.{Frequent, Other}
 
 -- The step comes to this operator, on what the words then stand for: the slot has gone, or the procedure has moved on. Three words of the slot put it back.
 pub record Executes (number : ℕ) (m after : Machine) (e e' c : List ℕ) : Type 0 where
@@ -29,6 +27,6 @@ pub record Infrequent (m : Machine) (e c : List ℕ) : Type 0 where
       → word c (frame_cell e (m.frames - 1)) 0 ≡ 4
       → 42 ≤ word c (frame_cell e (m.frames - 1)) 1
 
-abbrev pub NextIs : Machine → List ℕ → List ℕ → List ℕ → Next → Type 0
-NextIs m e e' c (Frequent number after) = Executes number m after e e' c
-NextIs m e e' c Other = (e' ≡ e) × Infrequent m e c
+abbrev pub NextIs : Machine → List ℕ → List ℕ → List ℕ → Option (ℕ × Machine) → Type 0
+NextIs m e e' c (Some (number, after)) = Executes number m after e e' c
+NextIs m e e' c None = (e' ≡ e) × Infrequent m e c

@@ -15,18 +15,11 @@ ghost use Rattle.acting.specs.Nexts.{NextIs, Infrequent};
 
 use frames::{LOOP, PENDING, REPEAT, RUNNING};
 use machine::{
-    Did, FRAME_CELL, FRAME_LEFT, FRAME_PAYLOAD, FRAME_TAG, Machine, TAG_EXECUTABLE, TAG_OPERATOR,
+    FRAME_CELL, FRAME_LEFT, FRAME_PAYLOAD, FRAME_TAG, Machine, TAG_EXECUTABLE, TAG_OPERATOR,
     TAG_PROCEDURE,
 };
 use operators::RARE;
-use semantics::EXEC_WIDTH;
-
-// The operator that a step executes, if it is one of the frequent, with the state in which it does: its slot has gone, or the procedure has moved on.
-#[derive(Clone, Copy)]
-enum Next {
-    Frequent(u32, Machine),
-    Other,
-}
+use semantics::{EXEC_WIDTH, Error};
 
 // The topmost slot acts.
 // Ruled out: a slot that acts twice; an operator's operands gone where it fails.
@@ -39,7 +32,7 @@ pub fn act(
     dict: &mut [u32],
     cells: &mut [u32],
     log: &mut [u8],
-) -> Did
+) -> Result<Machine, Error>
     requires { (1 ≤ m.frames) × Everywhere m stack.old exec.old dict.old cells.old log.old }
     ensures { DoesAll resumed m stack.old stack.new exec.old exec.new dict.old dict.new cells.old cells.new log.old log.new result }
 {
@@ -48,22 +41,22 @@ pub fn act(
     let c = exec[EXEC_WIDTH * k + FRAME_CELL];
     let left = exec[EXEC_WIDTH * k + FRAME_LEFT];
     match next_frequent(m, exec, cells) {
-        Next::Frequent(number, after) => {
+        Some((number, after)) => {
             match operators::frequent(number, after, stack, exec, dict, cells) {
-                Did::Ok(r) => Did::Ok(r),
+                Ok(r) => Ok(r),
                 // a procedure that has moved on is put back
-                Did::Fail(e) => {
+                Err(e) => {
                     frames::reset_top(m, exec, kind, c, left);
-                    Did::Fail(e)
+                    Err(e)
                 }
             }
         }
-        Next::Other => other(m, stack, exec, dict, cells, log),
+        None => other(m, stack, exec, dict, cells, log),
     }
 }
 
-// The frequent operator that the topmost slot executes.
-fn next_frequent(m: Machine, exec: &mut [u32], cells: &[u32]) -> Next
+// The operator that the topmost slot executes, if it is one of the frequent, with the state in which it does: its slot has gone, or the procedure has moved on.
+fn next_frequent(m: Machine, exec: &mut [u32], cells: &[u32]) -> Option<(u32, Machine)>
     requires { (1 ≤ m.frames) × Somewhere m exec.old cells.now }
     ensures { NextIs m exec.old exec.new cells.now result }
 {
@@ -75,27 +68,27 @@ fn next_frequent(m: Machine, exec: &mut [u32], cells: &[u32]) -> Next
     if kind == RUNNING {
         return frequent_element(m, exec, cells);
     }
-    Next::Other
+    None
 }
 
 // One that is pending.
-fn frequent_pending(m: Machine, exec: &[u32]) -> Next
+fn frequent_pending(m: Machine, exec: &[u32]) -> Option<(u32, Machine)>
     requires { (1 ≤ m.frames) × (frame_kind exec.now (m.frames - 1) ≡ 0) × ((c : List ℕ) × Somewhere m exec.now c) }
     ensures { (c : List ℕ) → NextIs m exec.now exec.now c result }
 {
     let k = m.frames - 1;
     let number = exec[EXEC_WIDTH * k + FRAME_PAYLOAD];
     if exec[EXEC_WIDTH * k + FRAME_TAG] != TAG_OPERATOR {
-        return Next::Other;
+        return None;
     }
     if RARE <= number {
-        return Next::Other;
+        return None;
     }
-    Next::Frequent(number, m.forget_frame())
+    Some((number, m.forget_frame()))
 }
 
 // One that is the next element of the running procedure, which moves on.
-fn frequent_element(m: Machine, exec: &mut [u32], cells: &[u32]) -> Next
+fn frequent_element(m: Machine, exec: &mut [u32], cells: &[u32]) -> Option<(u32, Machine)>
     requires { (1 ≤ m.frames) × (frame_kind exec.old (m.frames - 1) ≡ 1) × Somewhere m exec.old cells.now }
     ensures { NextIs m exec.old exec.new cells.now result }
 {
@@ -103,17 +96,17 @@ fn frequent_element(m: Machine, exec: &mut [u32], cells: &[u32]) -> Next
     let c = exec[EXEC_WIDTH * k + FRAME_CELL];
     let left = exec[EXEC_WIDTH * k + FRAME_LEFT];
     if left == 0 {
-        return Next::Other;
+        return None;
     }
     if heap::get(cells, c, 0) != TAG_OPERATOR {
-        return Next::Other;
+        return None;
     }
     let number = heap::get(cells, c, 1);
     if RARE <= number {
-        return Next::Other;
+        return None;
     }
     frames::advance(m, exec, cells);
-    Next::Frequent(number, m)
+    Some((number, m))
 }
 
 // The slot acts otherwise.
@@ -124,7 +117,7 @@ fn other(
     dict: &mut [u32],
     cells: &mut [u32],
     log: &mut [u8],
-) -> Did
+) -> Result<Machine, Error>
     requires { (1 ≤ m.frames) × Infrequent m exec.old cells.old × Everywhere m stack.old exec.old dict.old cells.old log.old }
     ensures { DoesAll resumed m stack.old stack.new exec.old exec.new dict.old dict.new cells.old cells.new log.old log.new result }
 {
@@ -147,7 +140,7 @@ fn pending(
     dict: &mut [u32],
     cells: &mut [u32],
     log: &mut [u8],
-) -> Did
+) -> Result<Machine, Error>
     requires { (1 ≤ m.frames) × (frame_kind exec.old (m.frames - 1) ≡ 0) × Infrequent m exec.old cells.old × Everywhere m stack.old exec.old dict.old cells.old log.old }
     ensures { DoesAll resumed m stack.old stack.new exec.old exec.new dict.old dict.new cells.old cells.new log.old log.new result }
 {
@@ -168,7 +161,12 @@ fn pending(
 }
 
 // The pending name's binding takes its place.
-fn name_pending(m: Machine, exec: &mut [u32], dict: &[u32], cells: &mut [u32]) -> Did
+fn name_pending(
+    m: Machine,
+    exec: &mut [u32],
+    dict: &[u32],
+    cells: &mut [u32],
+) -> Result<Machine, Error>
     requires { (1 ≤ m.frames) × (frame_kind exec.old (m.frames - 1) ≡ 0) × (frame_tag exec.old (m.frames - 1) ≡ 6) × Bindings m exec.old dict.now cells.old }
     ensures { DoesBinding resumed m exec.old exec.new dict.now cells.old cells.new result }
 {
@@ -186,7 +184,7 @@ fn running(
     dict: &mut [u32],
     cells: &mut [u32],
     log: &mut [u8],
-) -> Did
+) -> Result<Machine, Error>
     requires { (1 ≤ m.frames) × (frame_kind exec.old (m.frames - 1) ≡ 1) × Infrequent m exec.old cells.old × Everywhere m stack.old exec.old dict.old cells.old log.old }
     ensures { DoesAll resumed m stack.old stack.new exec.old exec.new dict.old dict.new cells.old cells.new log.old log.new result }
 {
@@ -214,7 +212,7 @@ fn perform_element(
     dict: &mut [u32],
     cells: &mut [u32],
     log: &mut [u8],
-) -> Did
+) -> Result<Machine, Error>
     requires { (1 ≤ m.frames) × (frame_kind exec.old (m.frames - 1) ≡ 1) × (1 ≤ frame_left exec.old (m.frames - 1)) × (word cells.old (frame_cell exec.old (m.frames - 1)) 0 ≡ 4) × (42 ≤ word cells.old (frame_cell exec.old (m.frames - 1)) 1) × Everywhere m stack.old exec.old dict.old cells.old log.old }
     ensures { DoesAll resumed m stack.old stack.new exec.old exec.new dict.old dict.new cells.old cells.new log.old log.new result }
 {
@@ -226,16 +224,21 @@ fn perform_element(
     // lent on is a copy, so that the compiler can keep m itself in registers
     let whole = m;
     match operators::rare(number, whole, stack, exec, dict, cells, log) {
-        Did::Ok(r) => Did::Ok(r),
-        Did::Fail(e) => {
+        Ok(r) => Ok(r),
+        Err(e) => {
             frames::reset_top(m, exec, RUNNING, c, left);
-            Did::Fail(e)
+            Err(e)
         }
     }
 }
 
 // The same of an executable name.
-fn name_element(m: Machine, exec: &mut [u32], dict: &[u32], cells: &mut [u32]) -> Did
+fn name_element(
+    m: Machine,
+    exec: &mut [u32],
+    dict: &[u32],
+    cells: &mut [u32],
+) -> Result<Machine, Error>
     requires { (1 ≤ m.frames) × (frame_kind exec.old (m.frames - 1) ≡ 1) × (1 ≤ frame_left exec.old (m.frames - 1)) × (word cells.old (frame_cell exec.old (m.frames - 1)) 0 ≡ 6) × Bindings m exec.old dict.now cells.old }
     ensures { DoesBinding resumed m exec.old exec.new dict.now cells.old cells.new result }
 {
@@ -245,16 +248,21 @@ fn name_element(m: Machine, exec: &mut [u32], dict: &[u32], cells: &mut [u32]) -
     let slot = heap::get(cells, c, 1);
     frames::advance(m, exec, cells);
     match taking::take_name(m, exec, dict, cells, slot as usize) {
-        Did::Ok(r) => Did::Ok(r),
-        Did::Fail(e) => {
+        Ok(r) => Ok(r),
+        Err(e) => {
             frames::reset_top(m, exec, RUNNING, c, left);
-            Did::Fail(e)
+            Err(e)
         }
     }
 }
 
 // A loop turns.
-fn looping(m: Machine, stack: &mut [u32], exec: &mut [u32], cells: &mut [u32]) -> Did
+fn looping(
+    m: Machine,
+    stack: &mut [u32],
+    exec: &mut [u32],
+    cells: &mut [u32],
+) -> Result<Machine, Error>
     requires { (1 ≤ m.frames) × (2 ≤ frame_kind exec.old (m.frames - 1)) × SomewhereAll m stack.old exec.old cells.old }
     ensures { DoesFrames resumed m stack.old stack.new exec.old exec.new cells.old cells.new result }
 {

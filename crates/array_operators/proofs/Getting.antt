@@ -1,5 +1,6 @@
 -- length and get on their operands: typecheck, rangecheck, and what the primitives do else.
 -- Assumes nothing.
+use Rattle.std.specs.Prelude.{Ok, Err}
 use mathlib.Core.Path.{◌≡◌, refl, sym, ap, ◌∙◌, subst}
 use mathlib.Core.List.{List, [], ◌∷◌}
 use Prim.Native.Nat.{ℕ, ◌^◌, ◌≤◌, ◌<◌}
@@ -23,9 +24,7 @@ use Rattle.machine.specs.Room.{DoesHeap}
 use Rattle.machine.specs.Moves.{dropped}
 use Rattle.machine.specs.Operands.{an_integer, Pushes}
 use Rattle.machine.specs.declared.Machine.{Machine}
-use Rattle.machine.specs.declared.Did.TheVariants.{Ok, Fail}
-use Rattle.machine.specs.declared.OneInt.{OneInt}
-use Rattle.machine.specs.declared.OneInt.TheVariants as One
+use Rattle.machine.specs.Answers.{OneInt}
 use Rattle.machine.proofs.Outcomes.{stack_depth, fails_heap, moves_heap, then_heap}
 use Rattle.machine.proofs.Pops.{pushes_heap}
 use Rattle.elements.specs.Elements.{HasArray, HasString, ItemTag, ArraySize, StringSize, ByteOf, element_copied}
@@ -38,11 +37,11 @@ use Rattle.array_operators.proofs.Objects.{whole_array, whole_string}
 -- ---- length
 
 module _ {m : Machine} {s c : List ℕ} where
-  pub length_short : m.depth < 1 → DoesHeap (perform (bytes "length")) m s s c c (Fail StackUnderflow)
+  pub length_short : m.depth < 1 → DoesHeap (perform (bytes "length")) m s s c c (Err StackUnderflow)
   length_short h = fails_heap (λ e d l μ R. length_under μ (omega (arith, stack_depth R)))
 
   module _ {t : ℕ} (T : ItemTag 0 m s t) (deep : 1 ≤ m.depth) where
-    pub length_type : t < 8 → DoesHeap (perform (bytes "length")) m s s c c (Fail TypeCheck)
+    pub length_type : t < 8 → DoesHeap (perform (bytes "length")) m s s c c (Err TypeCheck)
     unfolding ◌>>=◌
     length_type low =
         fails_heap (λ e d l μ R.
@@ -96,25 +95,25 @@ module _ (x y : Value) (τ : Floo.Machine) where
           get_integer ∙ ap (λ r. r >>= λ n. got (object τ i) n >>= λ v. ok (push v τ)) (count_low w l) ∙ ap (λ o. got o w >>= λ v. ok (push v τ)) e
 
 module _ {m : Machine} {s c : List ℕ} where
-  pub get_short : m.depth < 2 → DoesHeap (perform (bytes "get")) m s s c c (Fail StackUnderflow)
+  pub get_short : m.depth < 2 → DoesHeap (perform (bytes "get")) m s s c c (Err StackUnderflow)
   get_short h = fails_heap (λ e d l μ R. get_under μ (omega (arith, stack_depth R)))
 
   module _ (deep : 2 ≤ m.depth) {t : ℕ} (T : ItemTag 1 m s t) where
-    pub get_type : t < 8 → DoesHeap (perform (bytes "get")) m s s c c (Fail TypeCheck)
+    pub get_type : t < 8 → DoesHeap (perform (bytes "get")) m s s c c (Err TypeCheck)
     get_type low =
         fails_heap (λ e d l μ R.
         get_on μ (omega (arith, stack_depth R))
         ∙ get_no_object _ _ (popped 2 μ) (tag_no_object (get_or μ.stack 1 null) (omega (arith, low, T.says e d c l μ R))))
 
     module _ (high : 8 ≤ t) {r : OneInt} (I : ItemInt 0 m s r) where
-      pub get_index : {x : Error} → r ≡ One.Bad x → DoesHeap (perform (bytes "get")) m s s c c (Fail x)
+      pub get_index : {x : Error} → r ≡ Err x → DoesHeap (perform (bytes "get")) m s s c c (Err x)
       get_index q =
           fails_heap (λ e d l μ R.
           let o = tag_object (get_or μ.stack 1 null) (omega (arith, high, T.says e d c l μ R)) in
           get_on μ (omega (arith, stack_depth R))
           ∙ get_no_integer _ _ (popped 2 μ) o (subst (IntIs (get_or μ.stack 0 null)) q (I.says e d c l μ R)))
 
-      pub get_below : {w : ℕ} → r ≡ One.Got w → 2 ^ 31 ≤ w → w < 2 ^ 32 → DoesHeap (perform (bytes "get")) m s s c c (Fail RangeCheck)
+      pub get_below : {w : ℕ} → r ≡ Ok w → 2 ^ 31 ≤ w → w < 2 ^ 32 → DoesHeap (perform (bytes "get")) m s s c c (Err RangeCheck)
       get_below q low less =
           fails_heap (λ e d l μ R.
           let o = tag_object (get_or μ.stack 1 null) (omega (arith, high, T.says e d c l μ R)) in
@@ -139,7 +138,7 @@ module _ {m : Machine} {s c : List ℕ} {n : ℕ} (deep : 2 ≤ m.depth) (low : 
         ∙ get_from (get_or μ.stack 1 null) _ (popped 2 μ) (ap object_id a.item) (I.says e d c l μ R) low _ (whole_array R deep a)
 
     module _ {k : ℕ} (Z : ArraySize 1 m s c k) where
-      pub get_past : k ≤ n → DoesHeap (perform (bytes "get")) m s s c c (Fail RangeCheck)
+      pub get_past : k ≤ n → DoesHeap (perform (bytes "get")) m s s c c (Err RangeCheck)
       unfolding ◌>>=◌ given
       get_past h =
           fails_heap (λ e d l μ R.
@@ -178,7 +177,7 @@ module _ {m : Machine} {s c : List ℕ} {n : ℕ} (deep : 2 ≤ m.depth) (low : 
         ∙ get_from (get_or μ.stack 1 null) _ (popped 2 μ) (ap object_id a.item) (I.says e d c l μ R) low _ (whole_string R deep a)
 
     module _ {k : ℕ} (Z : StringSize 1 m s c k) where
-      pub get_beyond : k < n → DoesHeap (perform (bytes "get")) m s s c c (Fail RangeCheck)
+      pub get_beyond : k < n → DoesHeap (perform (bytes "get")) m s s c c (Err RangeCheck)
       unfolding ◌>>=◌ check
       get_beyond h =
           fails_heap (λ e d l μ R.

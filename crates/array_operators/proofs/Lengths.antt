@@ -1,5 +1,6 @@
 -- array and string: the length that they are given by its size, and the object that they make by its cells.
 -- Assumes nothing.
+use Rattle.std.specs.Prelude.{Ok, Err}
 use mathlib.Core.Path.{◌≡◌, refl, sym, ap, ◌∙◌, subst}
 use mathlib.Core.List.{List, [], ◌∷◌}
 use Prim.Native.Nat.{ℕ, ◌+◌, ◌/◌, ◌^◌, ◌≤◌, ◌<◌}
@@ -20,9 +21,7 @@ use Rattle.machine.specs.Rep.{Rep, Somewhere, MovesHeap}
 use Rattle.machine.specs.Room.{DoesHeap}
 use Rattle.machine.specs.Operands.{OneIs, FetchesOne, one_int}
 use Rattle.machine.specs.declared.Machine.{Machine}
-use Rattle.machine.specs.declared.Did.TheVariants.{Ok, Fail}
-use Rattle.machine.specs.declared.OneInt.{OneInt}
-use Rattle.machine.specs.declared.OneInt.TheVariants as One
+use Rattle.machine.specs.Answers.{OneInt}
 use Rattle.machine.proofs.Operands.{pop1_some}
 use Rattle.machine.proofs.Outcomes.{stack_depth, fails_heap, one_fault}
 use Rattle.elements.specs.Elements.{free_cells, HasPlain, SomewhereThat}
@@ -85,17 +84,17 @@ module _ (k : ℕ → Floo.Machine → Result Floo.Machine) (μ : Floo.Machine) 
 -- ---- what the fetcher answers
 
 module _ {m : Machine} {s : List ℕ} {r : OneInt} (F : FetchesOne m s r) where
-  pub length_no_integer : {x : Error} → r ≡ One.Bad x → FetchesLength m s (One.Bad x)
+  pub length_no_integer : {x : Error} → r ≡ Err x → FetchesLength m s (Err x)
   length_no_integer q = record { says = λ e d c l μ R k. length_fault k μ (subst (OneIs μ) q (F.says e d c l μ R)) }
 
-  module _ {w : ℕ} (q : r ≡ One.Got w) where
-    pub length_below : 2 ^ 31 ≤ w → w < 2 ^ 32 → FetchesLength m s (One.Bad RangeCheck)
+  module _ {w : ℕ} (q : r ≡ Ok w) where
+    pub length_below : 2 ^ 31 ≤ w → w < 2 ^ 32 → FetchesLength m s (Err RangeCheck)
     length_below low high = record { says = λ e d c l μ R k. length_bad k μ (subst (OneIs μ) q (F.says e d c l μ R)).1 (length_negative w low high) }
 
-    pub length_above : w < 2 ^ 31 → 32767 < w → FetchesLength m s (One.Bad LimitCheck)
+    pub length_above : w < 2 ^ 31 → 32767 < w → FetchesLength m s (Err LimitCheck)
     length_above low h = record { says = λ e d c l μ R k. length_bad k μ (subst (OneIs μ) q (F.says e d c l μ R)).1 (length_over w low h) }
 
-    pub length_got : FetchesLength m s (One.Got w)
+    pub length_got : FetchesLength m s (Ok w)
     length_got = record { says = λ e d c l μ R. subst (OneIs μ) q (F.says e d c l μ R) }
 
 -- ---- the operators
@@ -103,17 +102,17 @@ module _ {m : Machine} {s : List ℕ} {r : OneInt} (F : FetchesOne m s r) where
 -- An operator that makes object o n, named by the value v.
 module _ (f : Floo.Machine → Result Floo.Machine) (v : ℕ → Value) (o : ℕ → Object) (named : (μ : Floo.Machine) → f μ ≡ on_length (λ n τ. ok (push_new v (o n) τ)) μ)
     {m : Machine} {s c : List ℕ} {r : OneInt} (F : FetchesLength m s r) where
-  pub maker_bad : {x : Error} → r ≡ One.Bad x → DoesHeap f m s s c c (Fail x)
+  pub maker_bad : {x : Error} → r ≡ Err x → DoesHeap f m s s c c (Err x)
   maker_bad q = fails_heap (λ e d l μ R. named μ ∙ subst (LengthIs μ) q (F.says e d c l μ R) (λ n τ. ok (push_new v (o n) τ)))
 
-  module _ {n : ℕ} (q : r ≡ One.Got n) (few : n ≤ 32767) where
+  module _ {n : ℕ} (q : r ≡ Ok n) (few : n ≤ 32767) where
     operand : (e d l : List ℕ) (μ : Floo.Machine) → Rep m s e d c l μ → (rest : List Value) × (μ.stack ≡ integer n ∷ rest)
     operand e d l μ R = subst (LengthIs μ) q (F.says e d c l μ R)
 
     gives : (e d l : List ℕ) (μ : Floo.Machine) (R : Rep m s e d c l μ) → f μ ≡ ok (push_new v (o n) (with_stack (operand e d l μ R).0 μ))
     gives e d l μ R = named μ ∙ length_good (λ n τ. ok (push_new v (o n) τ)) μ (operand e d l μ R).1 few
 
-    pub maker_full : free_cells m c < cells (o n) → DoesHeap f m s s c c (Fail VmError)
+    pub maker_full : free_cells m c < cells (o n) → DoesHeap f m s s c c (Err VmError)
     unfolding sum_of push_new push with_stack with_store make
     maker_full many =
         full_heap (λ e d l μ R.
@@ -157,5 +156,5 @@ string_size n =
     let long = ap (λ k. (k + 7) / 8) (length-replicate {A = ℕ} n 0) in
     omega (arith, long)
 
-pub got_few : {r : OneInt} {n : ℕ} → r ≡ One.Got n → longest r ≤ 32767 → n ≤ 32767
+pub got_few : {r : OneInt} {n : ℕ} → r ≡ Ok n → longest r ≤ 32767 → n ≤ 32767
 got_few q h = subst (λ r. longest r ≤ 32767) q h

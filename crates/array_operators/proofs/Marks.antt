@@ -1,5 +1,6 @@
 -- ]: the search for the topmost mark is the definition's, and the array that takes the mark's place holds the items above it, the lowest first.
 -- Assumes nothing.
+use Rattle.std.specs.Prelude.{Ok, Err, Some, None}
 use mathlib.Core.Path.{◌≡◌, refl, sym, ap, ◌∙◌, subst}
 use mathlib.Core.Bool.{true, false}
 use mathlib.Core.List.{List, [], ◌∷◌, ◌++◌, reverse, reverse-cons, append-nil}
@@ -19,7 +20,6 @@ use Rattle.semantics.specs.declared.Error.TheVariants.{UnmatchedMark, VmError}
 use Rattle.machine.specs.Rep.{Rep, Somewhere, MovesHeap}
 use Rattle.machine.specs.Room.{DoesHeap}
 use Rattle.machine.specs.declared.Machine.{Machine}
-use Rattle.machine.specs.declared.Did.TheVariants.{Ok, Fail}
 use Rattle.machine.proofs.Outcomes.{stack_depth, fails_heap, then_heap}
 use Rattle.elements.specs.Elements.{named, item_id, free_cells, HasPlain, SomewhereThat, ItemTag, array_made}
 use Rattle.elements.proofs.Vacancy.{makes_heap, full_heap, push_makes}
@@ -49,28 +49,22 @@ not_found vs (v ∷ l) (cons p ps) = ap (λ b. elim b [ true ↦ ok (vs, l) | fa
 -- ---- the loop of `above_mark`
 
 pub record Searched (m : Machine) (s : List ℕ) (n : ℕ) : Type 0 where
-  pub few : n ≤ m.depth
   pub says : (e d c l : List ℕ) (μ : Floo.Machine) → Rep m s e d c l μ → Unmarked (take n μ.stack)
 
 pub begin : (m : Machine) (s : List ℕ) → Searched m s 0
-begin m s = record { few = omega arith; says = λ e d c l μ R. nil }
+begin m s = record { says = λ e d c l μ R. nil }
 
 module _ {m : Machine} {s : List ℕ} {n : ℕ} (S : Searched m s n) where
-  pub ends : m.depth ≤ n → MarkAbove m s n
-  ends h = record { few = S.few; says = λ e d c l μ R. (S.says e d c l μ R, λ less. absurd (omega (arith, h, less))) }
+  pub ends : m.depth ≤ n → MarkAbove m s None
+  ends h = record { says = λ e d c l μ R. subst Unmarked (take_all n μ.stack (omega (arith, h, stack_depth R))) (S.says e d c l μ R) }
 
   module _ (h : n < m.depth) {t : ℕ} (T : ItemTag n m s t) where
-    pub stops : t ≡ 3 → MarkAbove m s n
-    stops q =
-        record {
-          few = S.few;
-          says = λ e d c l μ R. (S.says e d c l μ R, λ less. tag_mark (get_or μ.stack n null) (sym (T.says e d c l μ R) ∙ q));
-        }
+    pub stops : t ≡ 3 → MarkAbove m s (Some n)
+    stops q = record { says = λ e d c l μ R. (S.says e d c l μ R, tag_mark (get_or μ.stack n null) (sym (T.says e d c l μ R) ∙ q)) }
 
     pub again : (t ≡ 3 → ⊥) → Searched m s (n + 1)
     again q =
         record {
-          few = omega arith;
           says = λ e d c l μ R.
               let next : suc n ≡ n + 1 = omega arith in
               let unmarked = tag_no_mark (get_or μ.stack n null) (λ z. q (T.says e d c l μ R ∙ z)) in
@@ -87,24 +81,23 @@ above n μ = reverse (take n μ.stack)
 above_long : (n : ℕ) (μ : Floo.Machine) → n < length μ.stack → length (above n μ) ≡ n
 above_long n μ h = length-reverse (take n μ.stack) ∙ length-take-le n μ.stack (omega arith)
 
-module _ {m : Machine} {s c : List ℕ} {n : ℕ} (M : MarkAbove m s n) where
-  pub close_unmatched : m.depth ≤ n → DoesHeap (perform (bytes "]")) m s s c c (Fail UnmatchedMark)
-  unfolding ◌>>=◌
-  close_unmatched h =
-      fails_heap (λ e d l μ R.
-      let all = subst Unmarked (take_all n μ.stack (omega (arith, h, stack_depth R))) (M.says e d c l μ R).0 in
-      close_is_lem μ ∙ ap (λ r. r >>= λ p. ok (push_new (array false) (elements p.0) (with_stack p.1 μ))) (not_found [] μ.stack all))
+pub close_unmatched : {m : Machine} {s c : List ℕ} → MarkAbove m s None → DoesHeap (perform (bytes "]")) m s s c c (Err UnmatchedMark)
+unfolding ◌>>=◌
+close_unmatched {c} M =
+    fails_heap (λ e d l μ R.
+    close_is_lem μ ∙ ap (λ r. r >>= λ p. ok (push_new (array false) (elements p.0) (with_stack p.1 μ))) (not_found [] μ.stack (M.says e d c l μ R)))
 
+module _ {m : Machine} {s c : List ℕ} {n : ℕ} (M : MarkAbove m s (Some n)) where
   module _ (h : n < m.depth) where
     gives : (e d l : List ℕ) (μ : Floo.Machine) → Rep m s e d c l μ → perform (bytes "]") μ ≡ ok (push_new (array false) (elements (above n μ)) (with_stack (drop (suc n) μ.stack) μ))
     unfolding ◌>>=◌
     gives e d l μ R =
         let t = M.says e d c l μ R in
         close_is_lem μ
-        ∙ ap (λ r. r >>= λ p. ok (push_new (array false) (elements p.0) (with_stack p.1 μ))) (found [] μ.stack n (omega (arith, h, stack_depth R)) t.0 (t.1 h))
+        ∙ ap (λ r. r >>= λ p. ok (push_new (array false) (elements p.0) (with_stack p.1 μ))) (found [] μ.stack n (omega (arith, h, stack_depth R)) t.0 t.1)
         ∙ ap (λ (z : List Value). ok (push_new (array false) (elements z) (with_stack (drop (suc n) μ.stack) μ))) (append-nil (above n μ))
 
-    pub close_full : free_cells m c < n + 1 → DoesHeap (perform (bytes "]")) m s s c c (Fail VmError)
+    pub close_full : free_cells m c < n + 1 → DoesHeap (perform (bytes "]")) m s s c c (Err VmError)
     unfolding sum_of cells push_new push with_stack with_store make
     close_full many =
         full_heap (λ e d l μ R.
@@ -123,7 +116,7 @@ module _ {m : Machine} {s c : List ℕ} {n : ℕ} (M : MarkAbove m s n) where
 
     -- The mark names no object.
     pub plain_mark : Somewhere m s c → SomewhereThat (HasPlain n) m s c
-    plain_mark (e, d, l, μ, R) = (e, d, l, μ, R, rw ((M.says e d c l μ R).1 h) (record { none = λ t. t }))
+    plain_mark (e, d, l, μ, R) = (e, d, l, μ, R, rw ((M.says e d c l μ R).1) (record { none = λ t. t }))
 
 -- ---- the array that takes item n's place
 
@@ -187,7 +180,7 @@ pub made_there : {m m₁ : Machine} {s s' c c₁ : List ℕ} {n : ℕ}
 made_there {n = n} h A (e, d, l, μ, R) =
     (e, d, l, array_made n n μ, A.moves e d l μ R, made_first n μ (omega (arith, h, stack_depth R)))
 
-pub close_done : {m : Machine} {s c : List ℕ} {n : ℕ} (M : MarkAbove m s n) (h : n < m.depth) {m₁ m₂ m₃ : Machine} {s' c₁ c₂ c₃ : List ℕ}
+pub close_done : {m : Machine} {s c : List ℕ} {n : ℕ} (M : MarkAbove m s (Some n)) (h : n < m.depth) {m₁ m₂ m₃ : Machine} {s' c₁ c₂ c₃ : List ℕ}
     → n + 1 ≤ free_cells m c
     → MovesHeap (array_made n n) m m₁ s s' c c₁
     → MovesHeap (items_put n n n) m₁ m₂ s' s' c₁ c₂

@@ -1,5 +1,6 @@
 -- What the words say of items that are integers, arrays and strings: the same of each machine that they stand for.
 -- Assumes nothing.
+use Rattle.std.specs.Prelude.{Err}
 use mathlib.Core.Path.{◌≡◌, refl, sym, ap, ◌∙◌, subst}
 use mathlib.Core.Bool.{true, false}
 use mathlib.Core.List.{List}
@@ -17,8 +18,6 @@ use Rattle.store.proofs.Standing.{is_integer}
 use Rattle.machine.specs.Words.{item_tag, item_payload}
 use Rattle.machine.specs.Rep.{Rep, Somewhere}
 use Rattle.machine.specs.declared.Machine.{Machine}
-use Rattle.machine.specs.declared.OneInt.{OneInt}
-use Rattle.machine.specs.declared.OneInt.TheVariants as One
 use Rattle.machine.proofs.Copying.{word_of}
 use Rattle.machine.proofs.Operands.{stands_no_integer}
 use Rattle.elements.specs.Elements.{tag_of, HasArray, HasString, HasElement, SomewhereThat, ItemTag, ArraySize}
@@ -57,14 +56,11 @@ tag_no_mark (array x i) q = refl
 -- ---- an integer
 
 module _ {m : Machine} {s : List ℕ} {i : ℕ} (k : ℕ) (h : m.depth ≡ k + suc i) where
-  pub no_integer : (item_tag s k ≡ 1 → ⊥) → ItemInt i m s (One.Bad TypeCheck)
+  pub no_integer : (item_tag s k ≡ 1 → ⊥) → ItemInt i m s (Err TypeCheck)
   no_integer n = record { says = λ e d c l μ R. stands_no_integer (word_of R i k h).stands n }
 
-  pub an_integer_is : item_tag s k ≡ 1 → ItemInt i m s (One.Got (item_payload s k))
-  an_integer_is q = record { says = λ e d c l μ R. is_integer (word_of R i k h).stands q }
-
-pub got_item : {i w : ℕ} {m : Machine} {s : List ℕ} {r : OneInt} → ItemInt i m s r → r ≡ One.Got w → IntegerItem i w m s
-got_item {i} {m = m} {s = s} I q = subst (ItemInt i m s) q I
+  pub an_integer_is : {w : ℕ} → item_tag s k ≡ 1 → w ≡ item_payload s k → IntegerItem i w m s
+  an_integer_is q e = record { says = λ x d c l μ R. is_integer (word_of R i k h).stands q ∙ ap integer (sym e) }
 
 -- ---- an array, a string
 

@@ -1,12 +1,13 @@
 -- put on its operands: typecheck, invalidaccess, rangecheck, and what the primitives do else. A zero that is put just past a string's end changes nothing.
 -- Assumes nothing.
+use Rattle.std.specs.Prelude.{Ok, Err}
 use mathlib.Core.Path.{◌≡◌, refl, sym, ap, ◌∙◌, subst}
 use mathlib.Core.Bool.{Bool, true, false, ◌&&◌, ◌||◌}
 use mathlib.Core.List.{List, []}
 use mathlib.Core.Logic.{⊎_elim}
 use Prim.Native.Nat.{ℕ, suc, ◌+◌, ◌-◌, ◌^◌, ◌≤◌, ◌<◌}
 use native.Mathlib.Omega.{arith}
-use borrow.Author.Tests.{le-leb, lt-leb, lt-ltb, le-ltb, eq-eqb, ne_eqb}
+use borrow.Author.Tests.{le-leb, lt-leb, lt-ltb, le-ltb}
 use lib.IntN.{ℤ}
 use lib.ListN.{length, get_or, set, drop, length-set}
 use lib.Seq.{set_out, set-get_or}
@@ -25,9 +26,7 @@ use Rattle.word.proofs.Counts.{count_low, count_high}
 use Rattle.machine.specs.Rep.{Rep, MovesHeap}
 use Rattle.machine.specs.Room.{DoesHeap}
 use Rattle.machine.specs.declared.Machine.{Machine}
-use Rattle.machine.specs.declared.Did.TheVariants.{Ok, Fail}
-use Rattle.machine.specs.declared.OneInt.{OneInt}
-use Rattle.machine.specs.declared.OneInt.TheVariants as One
+use Rattle.machine.specs.Answers.{OneInt}
 use Rattle.machine.proofs.Outcomes.{stack_depth, fails_heap, moves_heap, then_heap}
 use Rattle.elements.specs.Elements.{item_id, HasArray, HasString, SomewhereThat, ItemTag, ArraySize, StringSize, ItemSealed, element_put, byte_put}
 use Rattle.elements.proofs.Arrays.{item_id_lem}
@@ -137,17 +136,17 @@ module _ (bs : List ℕ) (w : ℕ) where
 -- ---- the operator
 
 module _ {m : Machine} {s c : List ℕ} where
-  pub put_short : m.depth < 3 → DoesHeap (perform (bytes "put")) m s s c c (Fail StackUnderflow)
+  pub put_short : m.depth < 3 → DoesHeap (perform (bytes "put")) m s s c c (Err StackUnderflow)
   put_short h = fails_heap (λ e d l μ R. put_under μ (omega (arith, stack_depth R)))
 
   module _ (deep : 3 ≤ m.depth) {t : ℕ} (T : ItemTag 2 m s t) where
-    pub put_type : t < 8 → DoesHeap (perform (bytes "put")) m s s c c (Fail TypeCheck)
+    pub put_type : t < 8 → DoesHeap (perform (bytes "put")) m s s c c (Err TypeCheck)
     put_type low =
         fails_heap (λ e d l μ R.
         put_on μ (omega (arith, stack_depth R))
         ∙ put_no_object _ _ _ (popped 3 μ) (tag_no_object (get_or μ.stack 2 null) (omega (arith, low, T.says e d c l μ R))))
 
-    pub put_index : 8 ≤ t → {r : OneInt} → ItemInt 1 m s r → {x : Error} → r ≡ One.Bad x → DoesHeap (perform (bytes "put")) m s s c c (Fail x)
+    pub put_index : 8 ≤ t → {r : OneInt} → ItemInt 1 m s r → {x : Error} → r ≡ Err x → DoesHeap (perform (bytes "put")) m s s c c (Err x)
     put_index high I q =
         fails_heap (λ e d l μ R.
         let o = tag_object (get_or μ.stack 2 null) (omega (arith, high, T.says e d c l μ R)) in
@@ -163,7 +162,7 @@ module _ {m : Machine} {s c : List ℕ} {n : ℕ} (deep : 3 ≤ m.depth) (I : In
         put_on μ (omega (arith, stack_depth R))
         ∙ put_to (get_or μ.stack 2 null) _ _ (popped 3 μ) (ap object_id a.item) (I.says e d c l μ R) _ (whole_array R deep a) refl
 
-    pub put_element_refused : x ≡ true → DoesHeap (perform (bytes "put")) m s s c c (Fail InvalidAccess)
+    pub put_element_refused : x ≡ true → DoesHeap (perform (bytes "put")) m s s c c (Err InvalidAccess)
     unfolding object_id popped with_stack
     put_element_refused f =
         fails_heap (λ e d l μ R.
@@ -178,12 +177,12 @@ module _ {m : Machine} {s c : List ℕ} {n : ℕ} (deep : 3 ≤ m.depth) (I : In
       element_put_lem e d l μ R a p =
           to_array e d l μ R a ∙ write_done a.id (popped 3 μ) (signed n) _ (item_writable M R (ap object_id a.item) (popped 3 μ) refl plain) p
 
-      pub put_below : 2 ^ 31 ≤ n → n < 2 ^ 32 → DoesHeap (perform (bytes "put")) m s s c c (Fail RangeCheck)
+      pub put_below : 2 ^ 31 ≤ n → n < 2 ^ 32 → DoesHeap (perform (bytes "put")) m s s c c (Err RangeCheck)
       unfolding ◌>>=◌
       put_below low high = fails_heap (λ e d l μ R. let a = array_of R A in element_put_lem e d l μ R a (array_negative _ n _ low high))
 
       module _ (low : n < 2 ^ 31) {k : ℕ} (Z : ArraySize 2 m s c k) where
-        pub put_past : k ≤ n → DoesHeap (perform (bytes "put")) m s s c c (Fail RangeCheck)
+        pub put_past : k ≤ n → DoesHeap (perform (bytes "put")) m s s c c (Err RangeCheck)
         unfolding ◌>>=◌
         put_past h =
             fails_heap (λ e d l μ R.
@@ -211,20 +210,20 @@ module _ {m : Machine} {s c : List ℕ} {n : ℕ} (deep : 3 ≤ m.depth) (I : In
       put_on μ (omega (arith, stack_depth R))
       ∙ put_to (get_or μ.stack 2 null) _ _ (popped 3 μ) (ap object_id a.item) (I.says e d c l μ R) _ (whole_string R deep a) p
 
-  pub put_no_byte : {x : Error} → r ≡ One.Bad x → DoesHeap (perform (bytes "put")) m s s c c (Fail x)
+  pub put_no_byte : {x : Error} → r ≡ Err x → DoesHeap (perform (bytes "put")) m s s c c (Err x)
   unfolding ◌>>=◌
   put_no_byte q =
       fails_heap (λ e d l μ R.
       to_string e d l μ R (string_of R T) (text_type _ n _ (subst (IntIs (get_or μ.stack 0 null)) q (B.says e d c l μ R))))
 
-  module _ {b : ℕ} (q : r ≡ One.Got b) {x : Bool} (M : ItemSealed 2 m s c x) where
+  module _ {b : ℕ} (q : r ≡ Ok b) {x : Bool} (M : ItemSealed 2 m s c x) where
     to_byte : (e d l : List ℕ) (μ : Floo.Machine) (R : Rep m s e d c l μ) (a : HasString 2 μ)
         → perform (bytes "put") μ ≡ writing a.id (popped 3 μ) (signed n) (ok (put_byte (bytes_of (object μ a.id)) (signed b)))
     unfolding put_into int ◌>>=◌
     to_byte e d l μ R a =
         to_string e d l μ R a (ap (put_into (text (bytes_of (object μ a.id)))) (subst (IntIs (get_or μ.stack 0 null)) q (B.says e d c l μ R)))
 
-    pub put_byte_refused : x ≡ true → DoesHeap (perform (bytes "put")) m s s c c (Fail InvalidAccess)
+    pub put_byte_refused : x ≡ true → DoesHeap (perform (bytes "put")) m s s c c (Err InvalidAccess)
     unfolding object_id popped with_stack
     put_byte_refused f =
         fails_heap (λ e d l μ R.
@@ -239,12 +238,12 @@ module _ {m : Machine} {s c : List ℕ} {n : ℕ} (deep : 3 ≤ m.depth) (I : In
       byte_put_lem e d l μ R a p =
           to_byte e d l μ R a ∙ write_done a.id (popped 3 μ) (signed n) _ (item_writable M R (ap object_id a.item) (popped 3 μ) refl plain) p
 
-      pub put_byte_below : 2 ^ 31 ≤ n → n < 2 ^ 32 → DoesHeap (perform (bytes "put")) m s s c c (Fail RangeCheck)
+      pub put_byte_below : 2 ^ 31 ≤ n → n < 2 ^ 32 → DoesHeap (perform (bytes "put")) m s s c c (Err RangeCheck)
       unfolding ◌>>=◌
       put_byte_below low high = fails_heap (λ e d l μ R. byte_put_lem e d l μ R (string_of R T) (text_negative _ n b low high))
 
       module _ (low : n < 2 ^ 31) where
-        pub put_byte_large : 255 < b → b < 2 ^ 32 → DoesHeap (perform (bytes "put")) m s s c c (Fail RangeCheck)
+        pub put_byte_large : 255 < b → b < 2 ^ 32 → DoesHeap (perform (bytes "put")) m s s c c (Err RangeCheck)
         unfolding ◌>>=◌
         put_byte_large h less = fails_heap (λ e d l μ R. byte_put_lem e d l μ R (string_of R T) (text_large _ n b low h less))
 
@@ -258,7 +257,7 @@ module _ {m : Machine} {s c : List ℕ} {n : ℕ} (deep : 3 ≤ m.depth) (I : In
               ∙ ap (λ j. check (in_reach n j b) RangeCheck >>= λ u. ok (text (set bs n b))) (sym (Z.says e d l μ R a.id a.item))
               ∙ ap (λ y. check y RangeCheck >>= λ u. ok (text (set bs n b))) (sym reach))
 
-          pub put_byte_beyond : y ≡ false → DoesHeap (perform (bytes "put")) m s s c c (Fail RangeCheck)
+          pub put_byte_beyond : y ≡ false → DoesHeap (perform (bytes "put")) m s s c c (Err RangeCheck)
           unfolding check ◌>>=◌
           put_byte_beyond f =
               fails_heap (λ e d l μ R.
@@ -278,34 +277,6 @@ module _ {m : Machine} {s c : List ℕ} {n : ℕ} (deep : 3 ≤ m.depth) (I : In
               checked e d l μ R a
               ∙ ap (λ y. (check y RangeCheck >>= λ u. ok (text (set (bytes_of (object μ a.id)) n b))) >>= λ o. ok (change a.id o (popped 3 μ))) t
               ∙ sym (ap (λ i. ok (with_stack (drop 3 μ.stack) (change i (text (set (bytes_of (object μ i)) n b)) μ))) (string_id_lem a)))
-
--- ---- whether a byte may be put
-
-pub zero_reach : (n most b : ℕ) → b ≡ 0 → leb n most ≡ in_reach n most b
-zero_reach n most b z =
-    ⊎_elim
-    (λ (h : n < most). le-leb n most (omega arith) ∙ sym (ap (λ x. x || (eqb n most && eqb b 0)) (lt-ltb n most h)))
-    (λ (h : most ≤ n).
-    ⊎_elim
-    (λ (g : most < n). lt-leb n most g ∙ sym (ap (λ x. x || (eqb n most && eqb b 0)) (le-ltb n most h) ∙ ap (λ x. x && eqb b 0) (ne_eqb n most (λ q. omega arith))))
-    (λ (g : n ≤ most).
-    let same : n ≡ most = omega arith in
-    le-leb n most g ∙ sym (ap (λ x. x || (eqb n most && eqb b 0)) (le-ltb n most h) ∙ ap (λ x. x && eqb b 0) (eq-eqb n most same) ∙ eq-eqb b 0 z))
-    (lt_or_le most n))
-    (lt_or_le n most)
-
-pub byte_reach : (n most b : ℕ) → (b ≡ 0 → ⊥) → ltb n most ≡ in_reach n most b
-byte_reach n most b z =
-    ⊎_elim
-    (λ (h : n < most). lt-ltb n most h ∙ sym (ap (λ x. x || (eqb n most && eqb b 0)) (lt-ltb n most h)))
-    (λ (h : most ≤ n).
-    le-ltb n most h
-    ∙ sym (ap (λ x. x || (eqb n most && eqb b 0)) (le-ltb n most h) ∙ ap (λ x. eqb n most && x) (ne_eqb b 0 z) ∙ neither (eqb n most)))
-    (lt_or_le n most)
-  where
-    neither : (x : Bool) → (x && false) ≡ false
-    neither true = refl
-    neither false = refl
 
 -- ---- past the end nothing changes
 

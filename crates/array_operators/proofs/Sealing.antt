@@ -1,5 +1,6 @@
 -- readonly on its operand: typecheck, and the mark else.
 -- Assumes nothing.
+use Rattle.std.specs.Prelude.{Ok, Err}
 use mathlib.Core.Path.{refl, sym, ap, ◌∙◌}
 use mathlib.Core.List.{List}
 use Prim.Native.Nat.{ℕ, ◌≤◌, ◌<◌}
@@ -13,7 +14,6 @@ use Rattle.semantics.specs.declared.Error.TheVariants.{StackUnderflow, TypeCheck
 use Rattle.machine.specs.Rep.{MovesHeap}
 use Rattle.machine.specs.Room.{DoesHeap}
 use Rattle.machine.specs.declared.Machine.{Machine}
-use Rattle.machine.specs.declared.Did.TheVariants.{Ok, Fail}
 use Rattle.machine.proofs.Outcomes.{stack_depth, fails_heap, moves_heap}
 use Rattle.elements.specs.Elements.{item_id, ItemTag, item_sealed}
 use Rattle.elements.proofs.Tags.{tag_object, tag_no_object}
@@ -21,11 +21,11 @@ use Rattle.array_operators.specs.Items.{popped}
 use Rattle.array_operators.proofs.Named.{front1, readonly_under, readonly_on}
 
 module _ {m : Machine} {s c : List ℕ} where
-  pub readonly_short : m.depth < 1 → DoesHeap (perform (bytes "readonly")) m s s c c (Fail StackUnderflow)
+  pub readonly_short : m.depth < 1 → DoesHeap (perform (bytes "readonly")) m s s c c (Err StackUnderflow)
   readonly_short h = fails_heap (λ e d l μ R. readonly_under μ (omega (arith, stack_depth R)))
 
   module _ (deep : 1 ≤ m.depth) {t : ℕ} (T : ItemTag 0 m s t) where
-    pub readonly_type : t < 8 → DoesHeap (perform (bytes "readonly")) m s s c c (Fail TypeCheck)
+    pub readonly_type : t < 8 → DoesHeap (perform (bytes "readonly")) m s s c c (Err TypeCheck)
     unfolding ◌>>=◌
     readonly_type low =
         fails_heap (λ e d l μ R.

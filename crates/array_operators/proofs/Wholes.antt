@@ -1,5 +1,6 @@
 -- aload and astore on their operands: typecheck, invalidaccess, too few items or too little room, and what the primitives do else.
 -- Assumes nothing.
+use Rattle.std.specs.Prelude.{Ok, Err}
 use mathlib.Core.Path.{◌≡◌, refl, sym, ap, ◌∙◌}
 use mathlib.Core.Bool.{Bool, true, false}
 use mathlib.Core.List.{List, [], ◌∷◌, ◌++◌, reverse, append-nil}
@@ -20,7 +21,6 @@ use Rattle.machine.specs.Rep.{Rep, Somewhere, MovesStack, MovesHeap}
 use Rattle.machine.specs.Room.{DoesHeap}
 use Rattle.machine.specs.Moves.{swapped}
 use Rattle.machine.specs.declared.Machine.{Machine}
-use Rattle.machine.specs.declared.Did.TheVariants.{Ok, Fail}
 use Rattle.machine.proofs.Outcomes.{stack_depth, fails_heap, moves_heap, over_heap, then_heap, stack_heap}
 use Rattle.elements.specs.Elements.{item_id, SomewhereThat, ItemTag, ArraySize, ItemSealed}
 use Rattle.elements.proofs.Arrays.{item_id_lem}
@@ -39,10 +39,10 @@ first_there A Z (e, d, l, μ, R) =
 -- ---- aload
 
 module _ {m : Machine} {s c : List ℕ} where
-  pub aload_short : m.depth < 1 → DoesHeap (perform (bytes "aload")) m s s c c (Fail StackUnderflow)
+  pub aload_short : m.depth < 1 → DoesHeap (perform (bytes "aload")) m s s c c (Err StackUnderflow)
   aload_short h = fails_heap (λ e d l μ R. aload_under μ (omega (arith, stack_depth R)))
 
-  pub astore_short : m.depth < 1 → DoesHeap (perform (bytes "astore")) m s s c c (Fail StackUnderflow)
+  pub astore_short : m.depth < 1 → DoesHeap (perform (bytes "astore")) m s s c c (Err StackUnderflow)
   astore_short h = fails_heap (λ e d l μ R. astore_under μ (omega (arith, stack_depth R)))
 
   module _ (deep : 1 ≤ m.depth) where
@@ -50,7 +50,7 @@ module _ {m : Machine} {s c : List ℕ} where
       no_array : (e d l : List ℕ) (μ : Floo.Machine) → Rep m s e d c l μ → array_id (get_or μ.stack 0 null) ≡ fault TypeCheck
       no_array e d l μ R = tag_no_array (get_or μ.stack 0 null) (omega (arith, low, T.says e d c l μ R))
 
-      pub aload_type : DoesHeap (perform (bytes "aload")) m s s c c (Fail TypeCheck)
+      pub aload_type : DoesHeap (perform (bytes "aload")) m s s c c (Err TypeCheck)
       unfolding ◌>>=◌
       aload_type =
           fails_heap (λ e d l μ R.
@@ -59,7 +59,7 @@ module _ {m : Machine} {s c : List ℕ} where
           aload_on μ (omega (arith, stack_depth R))
           ∙ ap (λ r. r >>= λ i. ok (push x (with_stack (reverse (elements_of (object τ i)) ++ τ.stack) τ))) (no_array e d l μ R))
 
-      pub astore_type : DoesHeap (perform (bytes "astore")) m s s c c (Fail TypeCheck)
+      pub astore_type : DoesHeap (perform (bytes "astore")) m s s c c (Err TypeCheck)
       unfolding ◌>>=◌
       astore_type =
           fails_heap (λ e d l μ R.
@@ -81,7 +81,7 @@ module _ {m : Machine} {s c : List ℕ} where
           aload_on μ (omega (arith, deep, stack_depth R))
           ∙ ap (λ r. r >>= λ i. ok (push x (with_stack (reverse (elements_of (object τ i)) ++ τ.stack) τ))) (ap array_id (array_of R A).item)
 
-      pub aload_over : length s / 2 - m.depth < n → DoesHeap (perform (bytes "aload")) m s s c c (Fail StackOverflow)
+      pub aload_over : length s / 2 - m.depth < n → DoesHeap (perform (bytes "aload")) m s s c c (Err StackOverflow)
       aload_over h =
           over_heap (λ e d l μ R.
           let vs = elements_of (object μ (array_of R A).id) in
@@ -109,7 +109,7 @@ module _ {m : Machine} {s c : List ℕ} where
 -- ---- astore
 
 module _ {m : Machine} {s c : List ℕ} (deep : 1 ≤ m.depth) (A : ArrayItem 0 m s) {y : Bool} (M : ItemSealed 0 m s c y) where
-  pub astore_refused : y ≡ true → DoesHeap (perform (bytes "astore")) m s s c c (Fail InvalidAccess)
+  pub astore_refused : y ≡ true → DoesHeap (perform (bytes "astore")) m s s c c (Err InvalidAccess)
   unfolding ◌>>=◌ array_id object_id popped with_stack
   astore_refused f =
       fails_heap (λ e d l μ R.
@@ -136,7 +136,7 @@ module _ {m : Machine} {s c : List ℕ} (deep : 1 ≤ m.depth) (A : ArrayItem 0 
         ∙ ap (λ k. check (leb k (length (drop 1 μ.stack))) StackUnderflow >>= λ u.
         ok (with_stack (x ∷ drop k (drop 1 μ.stack)) (change a.id (elements (reverse (take k (drop 1 μ.stack)))) μ))) k
 
-    pub astore_few : m.depth - 1 < n → DoesHeap (perform (bytes "astore")) m s s c c (Fail StackUnderflow)
+    pub astore_few : m.depth - 1 < n → DoesHeap (perform (bytes "astore")) m s s c c (Err StackUnderflow)
     unfolding ◌>>=◌ check
     astore_few h =
         fails_heap (λ e d l μ R.

@@ -1,6 +1,6 @@
 -- What the parts of the operators on arrays and strings read of items, and what they do to a machine of the definition. Items are counted from the top, from 0.
 -- Assumes nothing.
-use Rattle.std.specs.Prelude.{◌≡◌, false, List, ◌∷◌, ◌++◌, reverse, ℕ, ◌-◌, ◌≤◌, ◌<◌, length, get_or, take, drop}
+use Rattle.std.specs.Prelude.{◌≡◌, false, List, ◌∷◌, ◌++◌, reverse, ℕ, ◌-◌, ◌≤◌, length, get_or, take, drop, Option, Some, None, Ok, Err}
 use Rattle.semantics.specs.Values.{Value, integer, null, mark, elements, Result, ok, fault, ◌>>=◌, int, object_id}
 use Rattle.semantics.specs.Machine as Floo
 use Rattle.semantics.specs.Machine.{with_stack, pop1, object, elements_of, change}
@@ -8,8 +8,7 @@ use Rattle.semantics.specs.ObjectOperators.{new_length, is_mark, length_of}
 use Rattle.semantics.specs.ListLaws.{All}
 use Rattle.machine.specs.Rep.{Rep}
 use Rattle.machine.specs.declared.Machine.{Machine}
-use Rattle.machine.specs.declared.OneInt.{OneInt}
-use Rattle.machine.specs.declared.OneInt.TheVariants as One
+use Rattle.machine.specs.Answers.{OneInt}
 use Rattle.elements.specs.Elements.{item_id, HasArray, ItemTag}
 
 -- ---- the operand of array and string
@@ -22,22 +21,22 @@ on_length k μ = do
   k n τ
 
 abbrev pub LengthIs : Floo.Machine → OneInt → Type 0
-LengthIs μ (One.Bad e) = (k : ℕ → Floo.Machine → Result Floo.Machine) → on_length k μ ≡ fault e
-LengthIs μ (One.Got n) = (rest : List Value) × (μ.stack ≡ integer n ∷ rest)
+LengthIs μ (Err e) = (k : ℕ → Floo.Machine → Result Floo.Machine) → on_length k μ ≡ fault e
+LengthIs μ (Ok n) = (rest : List Value) × (μ.stack ≡ integer n ∷ rest)
 
 pub record FetchesLength (m : Machine) (s : List ℕ) (r : OneInt) : Type 0 where
   pub says : (e d c l : List ℕ) (μ : Floo.Machine) → Rep m s e d c l μ → LengthIs μ r
 
 -- The length that an answer gives.
 abbrev pub longest : OneInt → ℕ
-longest (One.Bad e) = 0
-longest (One.Got n) = n
+longest (Err e) = 0
+longest (Ok n) = n
 
 -- ---- what items are
 
 abbrev pub IntIs : Value → OneInt → Type 0
-IntIs v (One.Bad e) = int v ≡ fault e
-IntIs v (One.Got w) = v ≡ integer w
+IntIs v (Err e) = int v ≡ fault e
+IntIs v (Ok w) = v ≡ integer w
 
 -- Item i as an integer, or what is wrong with it.
 pub record ItemInt (i : ℕ) (m : Machine) (s : List ℕ) (r : OneInt) : Type 0 where
@@ -45,7 +44,7 @@ pub record ItemInt (i : ℕ) (m : Machine) (s : List ℕ) (r : OneInt) : Type 0 
 
 -- Item i is the integer n, an array, a string.
 abbrev pub IntegerItem : ℕ → ℕ → Machine → List ℕ → Type 0
-IntegerItem i n m s = ItemInt i m s (One.Got n)
+IntegerItem i n m s = ItemInt i m s (Ok n)
 
 abbrev pub ArrayItem : ℕ → Machine → List ℕ → Type 0
 ArrayItem i m s = (t : ℕ) × (9 ≤ t) × ItemTag i m s t
@@ -66,12 +65,13 @@ pub record HasFirst (i n : ℕ) (μ : Floo.Machine) : Type 0 where
   pub array : HasArray i μ
   pub inside : n ≤ length (elements_of (object μ array.id))
 
--- The first n items are no marks, and the next one is one, where there is one.
-pub record MarkAbove (m : Machine) (s : List ℕ) (n : ℕ) : Type 0 where
-  pub few : n ≤ m.depth
-  pub says : (e d c l : List ℕ) (μ : Floo.Machine)
-      → Rep m s e d c l μ
-      → All (λ v. is_mark v ≡ false) (take n μ.stack) × (n < m.depth → get_or μ.stack n null ≡ mark)
+-- No item is a mark, or the first n are none and the next one is one.
+abbrev pub MarkIs : Floo.Machine → Option ℕ → Type 0
+MarkIs μ None = All (λ v. is_mark v ≡ false) μ.stack
+MarkIs μ (Some n) = All (λ v. is_mark v ≡ false) (take n μ.stack) × (get_or μ.stack n null ≡ mark)
+
+pub record MarkAbove (m : Machine) (s : List ℕ) (r : Option ℕ) : Type 0 where
+  pub says : (e d c l : List ℕ) (μ : Floo.Machine) → Rep m s e d c l μ → MarkIs μ r
 
 -- ---- what is done
 

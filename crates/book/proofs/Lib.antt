@@ -1,5 +1,5 @@
-mod Finding
-mod Entering
 pub mod SearchLaws
 pub mod SoundLaws
+mod Finding
 pub mod BookLaws
+mod Entering

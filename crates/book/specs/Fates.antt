@@ -1,6 +1,6 @@
 -- What becomes of an entry (02, W3): the late decision, and the book after it.
 -- Assumes nothing.
-use Rattle.std.specs.Prelude.{◌≡◌, Bool, true, false, cond, List, ℕ, ◌+◌, length, get_or, set, ltb}
+use Rattle.std.specs.Prelude.{◌≡◌, Bool, true, false, cond, Option, Some, None, List, ℕ, ◌+◌, length, get_or, set, ltb}
 use Rattle.book.specs.Books.{Entry, record_of, blank, room_of, place_of}
 use Rattle.book.specs.declared.Record.{Record}
 use Rattle.book.specs.declared.Entered.{Entered}
@@ -50,13 +50,11 @@ pub data Accepted (book : List Record) (count : ℕ) (e : Entry) : Type 0 where
   replaces : fate_in book count (record_of e) ≡ Replaces → Accepted book count e
   adds : fate_in book count (record_of e) ≡ Adds → Accepted book count e
 
--- A live entry leaves the book after it, and is told its fate, its place and the count; any other leaves the book as it was.
-pub record Enters (live : Bool) (r : Record) (n : ℕ) (b b' : List Record) (told : Entered) : Type 0 where
-  pub fate : live ≡ true → told.fate ≡ fate_in b n r
-  pub at : live ≡ true → told.at ≡ place_of b n r.number
-  pub count : live ≡ true → told.count ≡ count_after b n r
-  pub book : live ≡ true → b' ≡ book_after b n r
-  pub still : live ≡ false → b' ≡ b
+-- An entry leaves the book after it, and is told its fate, its place and the count; where there is none the book is as it was, and nothing is told.
+abbrev pub Enters : Option Record → ℕ → List Record → List Record → Option Entered → Type 0
+Enters (Some r) n b b' told =
+    (told ≡ Some (record { fate = fate_in b n r; at = place_of b n r.number; count = count_after b n r })) × (b' ≡ book_after b n r)
+Enters None n b b' told = (told ≡ None) × (b' ≡ b)
 
 -- Opens every definition of this file.
 unfoldable pub fated : Unit {0}

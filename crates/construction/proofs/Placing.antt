@@ -44,7 +44,7 @@ use Rattle.machine.proofs.Rehousing.{roots_store, restored_in}
 use Rattle.elements.specs.Elements.{free_cells}
 use Rattle.elements.proofs.Making.{added, carry_added, sealed_added, long_added, cells_used}
 use Rattle.elements.proofs.Marking.{marked_in}
-use Rattle.construction.specs.Growth.{Grown, ElementAt, element_set, array_set, string_set, SetsPlain, SetsArray, SetsString}
+use Rattle.construction.specs.Growth.{SetsObject, Grown, ElementAt, element_set, array_set, string_set, SetsPlain, SetsArray, SetsString}
 
 -- ---- in the heap
 
@@ -244,30 +244,30 @@ module _ {m : Machine} {st e d c l : List ℕ} {μ : Floo.Machine} (R : Rep m st
         X.4,
       )
 
-module _ {m : Machine} {n x cell : ℕ} {cs c₁ c₂ c₃ c₄ : List ℕ} {s : Lists} (z : s.dead ≡ m.lists.dead) (P₂ : Put c₂ cell 1 x c₃) (K : Seals c₃ x c₄) where
-  pub array_sets : Made 0 n x m.lists cs s c₁ → Put c₁ cell 0 10 c₂ → SetsArray cell n m cs (with_depth m.depth s m) x c₄
+module _ {m r : Machine} {n x cell : ℕ} {cs cs' : List ℕ} where
+  pub array_sets : SetsObject cell 0 n 10 m cs r x cs' → SetsArray cell n m cs r x cs'
   unfolding array_set made protect with_read_only
-  array_sets M P₁ =
+  array_sets N =
       record {
-        sets = λ {μ = μ} R h k id q at empty.
+        sets = λ {s} {e} {d} {l} {μ} R h k id q at empty.
             let H = R.stored in
-            let X = made_marked R x (elements (replicate n null)) (rep_array H.full H.objects refl x n M) (M _ _ H.full).6 (z ∙ H.none_dead)
+            let X = made_marked R x (elements (replicate n null)) (rep_array H.full H.objects refl x n N.made) (N.made _ _ H.full).6 (N.none_dead ∙ H.none_dead)
             (array true (length μ.store)) 10 (omega arith) (new_procedure R.world.ρ μ.store x (replicate n null))
-            cell h k id q at empty P₁ P₂ K in
-            (X.0, X.1, record { lives = X.2; stands = X.3; kind = X.4 });
+            cell h k id q at empty N.tag_put N.pay_put N.seals in
+            rw N.rest (X.0, X.1, record { lives = X.2; stands = X.3; kind = X.4 });
       }
 
-  pub string_sets : Made (n + 1) ((n + 7) / 8) x m.lists cs s c₁ → Put c₁ cell 0 8 c₂ → SetsString cell n m cs (with_depth m.depth s m) x c₄
+  pub string_sets : SetsObject cell (n + 1) ((n + 7) / 8) 8 m cs r x cs' → SetsString cell n m cs r x cs'
   unfolding string_set made protect with_read_only
-  string_sets M P₁ =
-      let N = subst (λ kind. Made kind ((n + 7) / 8) x m.lists cs s c₁) (add-one n) M in
+  string_sets N =
+      let M = subst (λ kind. Made kind ((n + 7) / 8) x m.lists cs r.lists N.made_words) (add-one n) N.made in
       record {
-        sets = λ {μ = μ} R h k id q at empty.
+        sets = λ {s} {e} {d} {l} {μ} R h k id q at empty.
             let H = R.stored in
-            let X = made_marked R x (text (replicate n 0)) (rep_string H.full H.objects refl x n N) (N _ _ H.full).6 (z ∙ H.none_dead)
+            let X = made_marked R x (text (replicate n 0)) (rep_string H.full H.objects refl x n M) (M _ _ H.full).6 (N.none_dead ∙ H.none_dead)
             (string (length μ.store)) 8 (omega arith) (new_string R.world.ρ μ.store x (replicate n 0))
-            cell h k id q at empty P₁ P₂ K in
-            (X.0, X.1, record { lives = X.2; stands = X.3; kind = X.4 });
+            cell h k id q at empty N.tag_put N.pay_put N.seals in
+            rw N.rest (X.0, X.1, record { lives = X.2; stands = X.3; kind = X.4 });
       }
 
 -- ---- room

@@ -5,6 +5,9 @@ use Rattle.semantics.specs.Values.{Value, null, string, array, Object, elements,
 use Rattle.semantics.specs.Machine as Floo
 use Rattle.semantics.specs.Machine.{object, elements_of, make, made, change, protect}
 use Rattle.heap.specs.Chain.{live, on}
+use Rattle.heap.specs.Grow.{Made}
+use Rattle.heap.specs.Seal.{Seals}
+use Rattle.heap.specs.Word.{Put}
 use Rattle.store.specs.Rep.{is_text, Stands, object_at, element}
 use Rattle.machine.specs.Places.{keys, texts}
 use Rattle.machine.specs.Rep.{Rep, World}
@@ -72,6 +75,18 @@ pub record SetsString (c n : ℕ) (m : Machine) (cs : List ℕ) (r : Machine) (x
       → ElementAt R.world μ.store c h k id q
       → element μ.store id q ≡ null
       → (R' : Rep r s e d cs' l (string_set id q n μ)) × Grown R.world R'.world × IsString R'.world (string_set id q n μ).store x (made μ)
+
+-- The element that cell c is becomes a new object of header x, of this kind and size, which is read only, by the words.
+pub record SetsObject (c kind size tag : ℕ) (m : Machine) (cs : List ℕ) (r : Machine) (x : ℕ) (cs' : List ℕ) : Type 0 where
+  pub made_words : List ℕ
+  pub tagged : List ℕ
+  pub paid : List ℕ
+  pub made : Made kind size x m.lists cs r.lists made_words
+  pub none_dead : r.lists.dead ≡ m.lists.dead
+  pub tag_put : Put made_words c 0 tag tagged
+  pub pay_put : Put tagged c 1 x paid
+  pub seals : Seals paid x cs'
+  pub rest : r ≡ record { depth = m.depth; frames = m.frames; names = m.names; written = m.written; lists = r.lists; stopped = m.stopped }
 
 -- All but the lists of cells is as before.
 pub record SameBut (m r : Machine) : Type 0 where

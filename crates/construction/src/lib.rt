@@ -5,7 +5,7 @@
 ghost use Rattle.std.specs.Prelude.{◌≡◌, List, ℕ, ◌+◌, ◌*◌, ◌/◌, ◌≤◌, ◌<◌, length};
 ghost use Rattle.machine.specs.Rep.{Somewhere};
 ghost use Rattle.elements.specs.Elements.{free_cells};
-ghost use Rattle.construction.specs.Growth.{SetsPlain, SetsArray, SetsString, SameBut};
+ghost use Rattle.construction.specs.Growth.{SetsPlain, SetsArray, SetsString, SetsObject, SameBut};
 
 use machine::{Machine, TAG_PROCEDURE, TAG_STRING};
 
@@ -28,42 +28,39 @@ pub fn set_plain(cells: &mut [u32], c: u32, tag: u32, pay: u32)
 
 // The element that cell c is, null so far, becomes a new procedure of n nulls.
 // Ruled out: a procedure that no place names; a literal array; one of another length; one that may be written to.
-pub fn set_array(mut m: Machine, cells: &mut [u32], c: u32, n: u32) -> Placed
+pub fn set_array(m: Machine, cells: &mut [u32], c: u32, n: u32) -> Placed
     requires { (n + 1 ≤ free_cells m cells.old) × (c * 4 + 4 ≤ length cells.old) × ((s : List ℕ) × Somewhere m s cells.old) }
     ensures sets_array { SetsArray c n m cells.old result.machine result.header cells.new }
     ensures same_but { SameBut m result.machine × (free_cells result.machine cells.new + (n + 1) ≡ free_cells m cells.old) }
 {
-    let lists = m.lists;
-    let t = heap::allocate(lists, cells, 0, n);
-    let h = t.cell;
-    heap::put(cells, c, 0, TAG_PROCEDURE);
-    heap::put(cells, c, 1, h);
-    heap::seal(cells, h);
-    let left = t.lists;
-    m.lists = left;
-    Placed {
-        machine: m,
-        header: h,
-    }
+    set_object(m, cells, c, 0, n, TAG_PROCEDURE)
 }
 
 // The element that cell c is, null so far, becomes a new string of maximum n, all zeros.
 // Ruled out: a last cell that is missing where n is no multiple of 8; bytes left from before; a string that may be written to.
-pub fn set_string(mut m: Machine, cells: &mut [u32], c: u32, n: u32) -> Placed
+pub fn set_string(m: Machine, cells: &mut [u32], c: u32, n: u32) -> Placed
     requires { ((n + 7) / 8 + 1 ≤ free_cells m cells.old) × (c * 4 + 4 ≤ length cells.old) × ((s : List ℕ) × Somewhere m s cells.old) }
     ensures sets_string { SetsString c n m cells.old result.machine result.header cells.new }
     ensures same_but { SameBut m result.machine × (free_cells result.machine cells.new + ((n + 7) / 8 + 1) ≡ free_cells m cells.old) }
 {
-    let lists = m.lists;
-    let t = heap::allocate(lists, cells, n + 1, (n + 7) / 8);
-    let h = t.cell;
-    heap::put(cells, c, 0, TAG_STRING);
-    heap::put(cells, c, 1, h);
-    heap::seal(cells, h);
-    let left = t.lists;
-    m.lists = left;
+    set_object(m, cells, c, n + 1, (n + 7) / 8, TAG_STRING)
+}
+
+// The element that cell c is, null so far, becomes a new object of this kind and so many cells. What the tag has to do with the kind is the caller's.
+fn set_object(m: Machine, cells: &mut [u32], c: u32, kind: u32, size: u32, tag: u32) -> Placed
+    requires { (size + 1 ≤ free_cells m cells.old) × (c * 4 + 4 ≤ length cells.old) × ((s : List ℕ) × Somewhere m s cells.old) }
+    ensures sets_object { SetsObject c kind size tag m cells.old result.machine result.header cells.new }
+    ensures same_but { SameBut m result.machine × (free_cells result.machine cells.new + (size + 1) ≡ free_cells m cells.old) }
+{
+    let t = heap::allocate(m.lists, cells, kind, size);
+    heap::put(cells, c, 0, tag);
+    heap::put(cells, c, 1, t.cell);
+    heap::seal(cells, t.cell);
     Placed {
-        machine: m,
-        header: h,
+        machine: Machine {
+            lists: t.lists,
+            ..m
+        },
+        header: t.cell,
     }
 }

@@ -1,5 +1,6 @@
 -- if and ifelse: the Boolean goes, one operand becomes pending, the other is let go.
 -- Assumes nothing.
+use Rattle.std.specs.Prelude.{Ok, Err}
 use mathlib.Core.Path.{◌≡◌, refl, sym, ap, ◌∙◌, subst}
 use mathlib.Core.Bool.{Bool, true, false, cond}
 use mathlib.Core.List.{List, [], ◌∷◌}
@@ -22,7 +23,6 @@ use Rattle.machine.specs.Moves.{dropped}
 use Rattle.machine.specs.Rep.{Rep, IsIn, MovesHeap}
 use Rattle.machine.specs.Room.{lent}
 use Rattle.machine.specs.declared.Machine.{Machine}
-use Rattle.machine.specs.declared.Did.TheVariants.{Ok, Fail}
 use Rattle.machine.proofs.Items.{items_length}
 use Rattle.machine.proofs.Rooms.{frames_length, fitted_fails}
 use Rattle.machine.proofs.Operands.{Top, top, pop2_some, upper, lower, both, pop2_under}
@@ -47,12 +47,12 @@ bit_true false e = absurd (e refl)
 -- ---- promises
 
 module _ {f : Floo.Machine → Result Floo.Machine} {m : Machine} {s e c : List ℕ} where
-  pub frames_fault : {x : Error} → ((d l : List ℕ) (μ : Floo.Machine) → Rep m s e d c l μ → f μ ≡ fault x) → DoesFrames f m s s e e c c (Fail x)
+  pub frames_fault : {x : Error} → ((d l : List ℕ) (μ : Floo.Machine) → Rep m s e d c l μ → f μ ≡ fault x) → DoesFrames f m s s e e c c (Err x)
   frames_fault q = record { does = λ d l μ R. (fitted_fails (lent s e d c l) f μ (q d l μ R), (refl, refl, refl)) }
 
   pub frames_full : length e < 8 * m.frames + 8
       → ((d l : List ℕ) (μ : Floo.Machine) → Rep m s e d c l μ → (g : Frame) × (stack : List Value) × (f μ ≡ ok (enter g (with_stack stack μ))))
-      → DoesFrames f m s s e e c c (Fail ExecStackOverflow)
+      → DoesFrames f m s s e e c c (Err ExecStackOverflow)
   frames_full full q = record { does = λ d l μ R. (fit_full f s e d c l μ R full _ _ (q d l μ R).2, (refl, refl, refl)) }
 
   pub frames_done : {r : Machine} {e' c' : List ℕ}
@@ -152,7 +152,7 @@ module _ {m : Machine} {s e d c l : List ℕ} {μ : Floo.Machine} (R : Rep m s e
         (x.0, if_true.value, if_false.value, which.rest, split, x.2, ifelse_is μ ∙ rw (pop3_some μ split) refl)
 
 module _ {m : Machine} {s e c : List ℕ} (k : ℕ) (h : m.depth ≡ suc (suc (suc k))) (i : item_tag s k ≡ 2) where
-  pub ifelse_full : length e < 8 * m.frames + 8 → DoesFrames (perform (bytes "ifelse")) m s s e e c c (Fail ExecStackOverflow)
+  pub ifelse_full : length e < 8 * m.frames + 8 → DoesFrames (perform (bytes "ifelse")) m s s e e c c (Err ExecStackOverflow)
   ifelse_full full = frames_full full (λ d l μ R. let x = chosen R k h i in (pending (cond x.0 x.1 x.2), x.3, x.6))
 
   -- The lower operand is let go.

@@ -1,5 +1,6 @@
 -- Operators that put their topmost operand into an execution slot and take the others, which name no object, away.
 -- Assumes nothing.
+use Rattle.std.specs.Prelude.{Ok, Err}
 use mathlib.Core.Path.{◌≡◌, refl, ap, ◌∙◌, subst}
 use mathlib.Core.List.{List, [], ◌∷◌, ◌++◌}
 use Prim.Native.Nat.{ℕ, suc, ◌+◌, ◌*◌, ◌^◌, ◌≤◌, ◌<◌}
@@ -22,7 +23,6 @@ use Rattle.machine.specs.Places.{Nameless}
 use Rattle.machine.specs.Rep.{Rep, IsIn, Items}
 use Rattle.machine.specs.Room.{lent}
 use Rattle.machine.specs.declared.Machine.{Machine}
-use Rattle.machine.specs.declared.Did.TheVariants.{Ok, Fail}
 use Rattle.machine.proofs.Items.{items_length, items_below}
 use Rattle.machine.proofs.Operands.{Top, top, pop1_some, pop2_some, stands_no_integer, upper, lower, both, pop1_under, pop2_under}
 use Rattle.machine.proofs.Stacking.{at_depth, restack}
@@ -62,11 +62,11 @@ pub record Into (f : Floo.Machine → Result Floo.Machine) (g : Value → Frame)
   pub gives : f μ ≡ ok (enter (g value) (with_stack rest μ))
 
 module _ {f : Floo.Machine → Result Floo.Machine} {m : Machine} {s e : List ℕ} where
-  pub slots_fault : {x : Error} → ((d c l : List ℕ) (μ : Floo.Machine) → Rep m s e d c l μ → f μ ≡ fault x) → DoesSlots f m s e e (Fail x)
+  pub slots_fault : {x : Error} → ((d c l : List ℕ) (μ : Floo.Machine) → Rep m s e d c l μ → f μ ≡ fault x) → DoesSlots f m s e e (Err x)
   slots_fault q = record { does = λ d c l μ R. (fitted_fails (lent s e d c l) f μ (q d c l μ R), refl) }
 
   module _ {g : Value → Frame} {old : List Value} (into : (d c l : List ℕ) (μ : Floo.Machine) → Rep m s e d c l μ → Into f g old μ) where
-    pub into_full : length e < 8 * m.frames + 8 → DoesSlots f m s e e (Fail ExecStackOverflow)
+    pub into_full : length e < 8 * m.frames + 8 → DoesSlots f m s e e (Err ExecStackOverflow)
     into_full full = record { does = λ d c l μ R. (fit_full f s e d c l μ R full _ _ (into d c l μ R).gives, refl) }
 
     module _ {kind a b c₀ : ℕ} {r r' : Machine} {e' : List ℕ} (shape : Shaped g kind a b c₀) (E : Enters kind a b c₀ m r s e e')
@@ -92,7 +92,7 @@ module _ {f : Floo.Machine → Result Floo.Machine} {m : Machine} {s e : List �
 
 module _ (g : Value → Frame) {f : Floo.Machine → Result Floo.Machine} (is : (μ : Floo.Machine) → f μ ≡ entering g μ)
     {m : Machine} {s e : List ℕ} where
-  pub alone_under : m.depth < 1 → DoesSlots f m s e e (Fail StackUnderflow)
+  pub alone_under : m.depth < 1 → DoesSlots f m s e e (Err StackUnderflow)
   unfolding ◌>>=◌
   alone_under h = slots_fault (λ d c l μ R. is μ ∙ ap (λ t. t >>= λ p. ok (enter (g p.0) p.1)) (pop1_under μ (omega (arith, items_length R.items))))
 
@@ -127,15 +127,14 @@ module _ {m : Machine} {s e d c l : List ℕ} {μ : Floo.Machine} (R : Rep m s e
       unfolding repeat ◌>>=◌ int
       repeat_range l b = repeat_is μ ∙ rw (pop2_some μ counted, count_high (item_payload s k) l b) refl
 
-      pub repeat_into : item_payload s k < 2 ^ 31
-          → Into (perform (bytes "repeat")) (repeating (item_payload s k)) (integer (item_payload s k) ∷ []) μ
+      pub repeat_into : {w : ℕ} → w ≡ item_payload s k → w < 2 ^ 31 → Into (perform (bytes "repeat")) (repeating w) (integer w ∷ []) μ
       unfolding repeat ◌>>=◌ int
-      repeat_into l =
+      repeat_into e l =
           record {
             value = (upper R k (suc k) h refl).value;
             rest = (lower R k (suc k) h refl).rest;
-            split = counted;
-            gives = repeat_is μ ∙ rw (pop2_some μ counted, count_low (item_payload s k) l) refl;
+            split = rw e counted;
+            gives = repeat_is μ ∙ rw (pop2_some μ counted, count_low (item_payload s k) (omega (arith, e)), e) refl;
           }
 
 -- ---- for
@@ -183,15 +182,20 @@ module _ {m : Machine} {s e d c l : List ℕ} {μ : Floo.Machine} (R : Rep m s e
           numbered =
               four ∙ rw (is_integer first.words.stands i, is_integer second.words.stands j, is_integer third.words.stands q) refl
 
-          pub for_into : item_payload s y < 2 ^ 32
-              → item_payload s z < 2 ^ 32
-              → Into (perform (bytes "for")) (counting (signed (item_payload s x)) (item_payload s y) (item_payload s z))
-              (integer (item_payload s z) ∷ integer (item_payload s y) ∷ integer (item_payload s x) ∷ []) μ
+          pub for_into : {a b g : ℕ}
+              → a ≡ item_payload s x
+              → b ≡ item_payload s y
+              → g ≡ item_payload s z
+              → b < 2 ^ 32
+              → g < 2 ^ 32
+              → Into (perform (bytes "for")) (counting (signed a) b g) (integer g ∷ integer b ∷ integer a ∷ []) μ
           unfolding for ◌>>=◌ int
-          for_into b g =
+          for_into ea eb eg lb lg =
               record {
                 value = last.value;
                 rest = first.rest;
-                split = numbered;
-                gives = for_is μ ∙ rw (pop4_some μ numbered, word_signed (item_payload s y) b, word_signed (item_payload s z) g) refl;
+                split = rw (ea, eb, eg) numbered;
+                gives =
+                    for_is μ
+                    ∙ rw (pop4_some μ numbered, word_signed (item_payload s y) (omega (arith, eb)), word_signed (item_payload s z) (omega (arith, eg)), ea, eb, eg) refl;
               }

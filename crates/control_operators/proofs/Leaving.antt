@@ -1,5 +1,6 @@
 -- stop, exit and continue: the innermost loop is looked for from the top, and the slots above it go one by one.
 -- Assumes nothing.
+use Rattle.std.specs.Prelude.{Ok, Err, Some, None}
 use mathlib.Core.Path.{◌≡◌, refl, sym, ap, ◌∙◌, subst}
 use mathlib.Core.Bool.{true}
 use mathlib.Core.List.{List, [], ◌∷◌}
@@ -22,8 +23,7 @@ use Rattle.machine.specs.Places.{roots}
 use Rattle.machine.specs.Rep.{Rep, FrameIs, a_pending, a_running, a_looping, a_repeating, a_counting, a_past, Frames, frame}
 use Rattle.machine.specs.Room.{lent, fitted}
 use Rattle.machine.specs.declared.Machine.{Machine}
-use Rattle.machine.specs.declared.Did.{Did}
-use Rattle.machine.specs.declared.Did.TheVariants.{Ok, Fail}
+use Rattle.machine.specs.Answers.{Did}
 use Rattle.machine.proofs.Rooms.{frames_length}
 use Rattle.machine.proofs.Roots.{roots_alike}
 use Rattle.machine.specs.FrameMoves.{MovesFrames, frame_dropped}
@@ -72,7 +72,7 @@ pub halts : {f : Floo.Machine → Result Floo.Machine} {m : Machine} {e c : List
     → DoesState (perform (bytes "stop")) m r
     → DoesCells f m e c c r
 unfolding fitted
-halts {e = e} {c = c} (Fail x) q D =
+halts {e = e} {c = c} (Err x) q D =
     record { does = λ s d l μ R. (ap (λ t. t >>= room_for (lent s e d c l) μ) (q s d l μ R) ∙ (D.does s e d c l μ R).0, refl) }
 halts {e = e} {c = c} (Ok m') q D =
     record {
@@ -146,34 +146,45 @@ passed_one {e} {n} {k} P some few low =
           ∙ ap (λ j. from_loop (drop j μ.exec)) next;
     }
 
-pub found : {m : Machine} {e : List ℕ} {k : ℕ} → Passed e m.frames k → 0 < k → k ≤ m.frames → 2 ≤ frame_kind e (k - 1) → FindsLoop m e k
+pub found : {m : Machine} {e : List ℕ} {k : ℕ} → Passed e m.frames k → 0 < k → k ≤ m.frames → 2 ≤ frame_kind e (k - 1) → FindsLoop m e (Some (k - 1))
 found {m} {e} {k} P some few high =
     record {
       says = λ s d c l μ R.
           let x = at R.frames (m.frames - k) (k - 1) (omega arith) in
+          let same : k ≡ k - 1 + 1 = omega arith in
           P.says m s d c l μ refl R
           ∙ ap from_loop x.split
           ∙ met x.words high (drop (suc (m.frames - k)) μ.exec)
-          ∙ sym x.split;
+          ∙ sym x.split
+          ∙ ap (λ j. drop (m.frames - j) μ.exec) same;
     }
 
-all_dropped : {m : Machine} {s e d c l : List ℕ} {μ : Floo.Machine} → Rep m s e d c l μ → (k : ℕ) → k < 1 → drop (m.frames - k) μ.exec ≡ []
-all_dropped {m} {μ = μ} R k z = drop_of_length-le μ.exec {i = m.frames - k} (omega (arith, frames_length R.frames))
-
-pub not_found : {m : Machine} {e : List ℕ} {k : ℕ} → Passed e m.frames k → k < 1 → FindsLoop m e k
+pub not_found : {m : Machine} {e : List ℕ} {k : ℕ} → Passed e m.frames k → k ≤ 0 → FindsLoop m e None
 unfolding from_loop
 not_found {m} {e} {k} P z =
-    record { says = λ s d c l μ R. P.says m s d c l μ refl R ∙ ap from_loop (all_dropped R k z) ∙ sym (all_dropped R k z) }
+    record {
+      says = λ s d c l μ R.
+          let none : drop (m.frames - k) μ.exec ≡ [] = drop_of_length-le μ.exec {i = m.frames - k} (omega (arith, frames_length R.frames)) in
+          P.says m s d c l μ refl R ∙ ap from_loop none;
+    }
 
 -- ---- dropping slots
 
-pub cut_none : {m : Machine} {e c : List ℕ} (n : ℕ) → MovesFrames (cut_by (n - n)) m m e e c c
+-- After some turns of the loop that leaves k slots, whose number goes up from k to n.
+pub record Cutting (n : ℕ) (m₀ m : Machine) (e c₀ c : List ℕ) (k i : ℕ) : Type 0 where
+  pub left : m.frames + i ≡ n + k
+  pub moves : MovesFrames (cut_by (i - k)) m₀ m e e c₀ c
+
+pub begin : (m : Machine) (e c : List ℕ) (k : ℕ) → Cutting m.frames m m e c c k k
 unfolding cut_by with_exec
-cut_none {m} {e} {c} n =
+begin m e c k =
     record {
-      moves = λ s d l μ R.
-          let z : n - n ≡ 0 = omega arith in
-          subst (λ j. Rep m s e d c l (cut_by j μ)) (sym z) R;
+      left = refl;
+      moves = record {
+        moves = λ s d l μ R.
+            let z : k - k ≡ 0 = omega arith in
+            subst (λ j. Rep m s e d c l (cut_by j μ)) (sym z) R;
+      };
     }
 
 pub cut_one : {m r r' : Machine} {e c c' c'' : List ℕ} (i j : ℕ)
@@ -191,46 +202,52 @@ cut_one {r'} {e} {c''} i j P Q h =
 pub cut_same : {m r : Machine} {e c c' : List ℕ} (i j : ℕ) → MovesFrames (cut_by i) m r e e c c' → i ≡ j → MovesFrames (cut_by j) m r e e c c'
 cut_same {m} {r} {e} {c} {c'} i j P h = subst (λ n. MovesFrames (cut_by n) m r e e c c') h P
 
+module _ {n : ℕ} {m₀ m : Machine} {e c₀ c : List ℕ} {k i : ℕ} (C : Cutting n m₀ m e c₀ c k i) (h : k ≤ i) where
+  pub again : {r : Machine} {c' : List ℕ} → i < n → MovesFrames frame_dropped m r e e c c' → r.frames ≡ m.frames - 1 → Cutting n m₀ r e c₀ c' k (i + 1)
+  again less D one = record { left = omega (arith, C.left); moves = cut_one (i - k) (i + 1 - k) C.moves D (omega arith) }
+
+  pub finish : n ≤ i → i ≤ n → MovesFrames (cut_by (n - k)) m₀ m e e c₀ c
+  finish all few = cut_same (i - k) (n - k) C.moves (omega arith)
+
 -- ---- exit and continue
 
-module _ {m : Machine} {e : List ℕ} {k : ℕ} (F : FindsLoop m e k) where
-  module _ (none : k < 1) where
-    pub exit_none : (s d c l : List ℕ) (μ : Floo.Machine) → Rep m s e d c l μ → perform (bytes "exit") μ ≡ perform (bytes "stop") μ
-    unfolding exit stop
-    exit_none s d c l μ R = exit_is μ ∙ rw (F.says s d c l μ R ∙ all_dropped R k none, exit) refl ∙ sym (stop_is μ)
+module _ {m : Machine} {e : List ℕ} (F : FindsLoop m e None) where
+  pub exit_none : (s d c l : List ℕ) (μ : Floo.Machine) → Rep m s e d c l μ → perform (bytes "exit") μ ≡ perform (bytes "stop") μ
+  unfolding exit stop
+  exit_none s d c l μ R = exit_is μ ∙ rw (F.says s d c l μ R, exit) refl ∙ sym (stop_is μ)
 
-    pub continue_none : (s d c l : List ℕ) (μ : Floo.Machine) → Rep m s e d c l μ → perform (bytes "continue") μ ≡ perform (bytes "stop") μ
-    unfolding continue stop
-    continue_none s d c l μ R = continue_is μ ∙ rw (F.says s d c l μ R ∙ all_dropped R k none, continue) refl ∙ sym (stop_is μ)
+  pub continue_none : (s d c l : List ℕ) (μ : Floo.Machine) → Rep m s e d c l μ → perform (bytes "continue") μ ≡ perform (bytes "stop") μ
+  unfolding continue stop
+  continue_none s d c l μ R = continue_is μ ∙ rw (F.says s d c l μ R, continue) refl ∙ sym (stop_is μ)
 
-  module _ (some : 1 ≤ k) (few : k ≤ m.frames) where
-    exit_cuts : (s d c l : List ℕ) (μ : Floo.Machine) → Rep m s e d c l μ → perform (bytes "exit") μ ≡ ok (cut_by (m.frames - (k - 1)) μ)
-    unfolding exit cut_by
-    exit_cuts s d c l μ R =
-        let x = at R.frames (m.frames - k) (k - 1) (omega arith) in
-        let next : suc (m.frames - k) ≡ m.frames - (k - 1) = omega arith in
-        exit_is μ ∙ rw (F.says s d c l μ R ∙ x.split, exit) refl ∙ ap (λ j. ok (with_exec (drop j μ.exec) μ)) next
+module _ {m : Machine} {e : List ℕ} {k : ℕ} (F : FindsLoop m e (Some k)) (few : k < m.frames) where
+  exit_cuts : (s d c l : List ℕ) (μ : Floo.Machine) → Rep m s e d c l μ → perform (bytes "exit") μ ≡ ok (cut_by (m.frames - k) μ)
+  unfolding exit cut_by
+  exit_cuts s d c l μ R =
+      let x = at R.frames (m.frames - (k + 1)) k (omega arith) in
+      let next : suc (m.frames - (k + 1)) ≡ m.frames - k = omega arith in
+      exit_is μ ∙ rw (F.says s d c l μ R ∙ x.split, exit) refl ∙ ap (λ j. ok (with_exec (drop j μ.exec) μ)) next
 
-    continue_cuts : (s d c l : List ℕ) (μ : Floo.Machine) → Rep m s e d c l μ → perform (bytes "continue") μ ≡ ok (cut_by (m.frames - k) μ)
-    unfolding continue cut_by
-    continue_cuts s d c l μ R =
-        let x = at R.frames (m.frames - k) (k - 1) (omega arith) in
-        continue_is μ ∙ rw (F.says s d c l μ R ∙ x.split, continue) refl ∙ ap (λ fs. ok (with_exec fs μ)) (sym x.split)
+  continue_cuts : (s d c l : List ℕ) (μ : Floo.Machine) → Rep m s e d c l μ → perform (bytes "continue") μ ≡ ok (cut_by (m.frames - (k + 1)) μ)
+  unfolding continue cut_by
+  continue_cuts s d c l μ R =
+      let x = at R.frames (m.frames - (k + 1)) k (omega arith) in
+      continue_is μ ∙ rw (F.says s d c l μ R ∙ x.split, continue) refl ∙ ap (λ fs. ok (with_exec fs μ)) (sym x.split)
 
-    pub exit_does : {r : Machine} {c c' : List ℕ} → MovesFrames (cut_by (m.frames - (k - 1))) m r e e c c' → DoesCells (perform (bytes "exit")) m e c c' (Ok r)
-    unfolding cut_by with_exec
-    exit_does {c} D =
-        record {
-          does = λ s d l μ R.
-              let R' = D.moves s d l μ R in
-              (cut_by (m.frames - (k - 1)) μ, fit_ok (perform (bytes "exit")) s e d c l μ R' (exit_cuts s d c l μ R) refl refl refl, R');
-        }
+  pub exit_does : {r : Machine} {c c' : List ℕ} → MovesFrames (cut_by (m.frames - k)) m r e e c c' → DoesCells (perform (bytes "exit")) m e c c' (Ok r)
+  unfolding cut_by with_exec
+  exit_does {c} D =
+      record {
+        does = λ s d l μ R.
+            let R' = D.moves s d l μ R in
+            (cut_by (m.frames - k) μ, fit_ok (perform (bytes "exit")) s e d c l μ R' (exit_cuts s d c l μ R) refl refl refl, R');
+      }
 
-    pub continue_does : {r : Machine} {c c' : List ℕ} → MovesFrames (cut_by (m.frames - k)) m r e e c c' → DoesCells (perform (bytes "continue")) m e c c' (Ok r)
-    unfolding cut_by with_exec
-    continue_does {c} D =
-        record {
-          does = λ s d l μ R.
-              let R' = D.moves s d l μ R in
-              (cut_by (m.frames - k) μ, fit_ok (perform (bytes "continue")) s e d c l μ R' (continue_cuts s d c l μ R) refl refl refl, R');
-        }
+  pub continue_does : {r : Machine} {c c' : List ℕ} → MovesFrames (cut_by (m.frames - (k + 1))) m r e e c c' → DoesCells (perform (bytes "continue")) m e c c' (Ok r)
+  unfolding cut_by with_exec
+  continue_does {c} D =
+      record {
+        does = λ s d l μ R.
+            let R' = D.moves s d l μ R in
+            (cut_by (m.frames - (k + 1)) μ, fit_ok (perform (bytes "continue")) s e d c l μ R' (continue_cuts s d c l μ R) refl refl refl, R');
+      }

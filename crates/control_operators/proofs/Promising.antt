@@ -1,5 +1,6 @@
 -- From what an operator does to every machine that the words stand for, its promise with the test of room.
 -- Assumes nothing.
+use Rattle.std.specs.Prelude.{Ok, Err}
 use mathlib.Core.Path.{◌≡◌, refl, ap, ◌∙◌}
 use mathlib.Core.List.{List}
 use Prim.Native.Nat.{ℕ, ◌+◌, ◌*◌, ◌/◌, ◌<◌}
@@ -13,8 +14,7 @@ use Rattle.semantics.specs.declared.Error.TheVariants.{ExecStackOverflow}
 use Rattle.machine.specs.Rep.{Rep}
 use Rattle.machine.specs.Room.{lent, fitted}
 use Rattle.machine.specs.declared.Machine.{Machine}
-use Rattle.machine.specs.declared.Did.{Did}
-use Rattle.machine.specs.declared.Did.TheVariants.{Ok, Fail}
+use Rattle.machine.specs.Answers.{Did}
 use Rattle.machine.proofs.Rooms.{rep_fits, room_exec, dictionary_fits, frames_length}
 use Rattle.control_operators.specs.Promises.{DoesState, DoesSlots, DoesCells, DoesFrames}
 
@@ -42,13 +42,13 @@ module _ (f : Floo.Machine → Result Floo.Machine) (s e d c l : List ℕ) (μ :
 
 -- A promise that leaves words out is one for all such words.
 pub state_frames : {f : Floo.Machine → Result Floo.Machine} {m : Machine} (r : Did) → DoesState f m r → (s e c : List ℕ) → DoesFrames f m s s e e c c r
-state_frames (Fail x) D s e c = record { does = λ d l μ R. ((D.does s e d c l μ R).0, (refl, refl, refl)) }
+state_frames (Err x) D s e c = record { does = λ d l μ R. ((D.does s e d c l μ R).0, (refl, refl, refl)) }
 state_frames (Ok m') D s e c = record { does = λ d l μ R. D.does s e d c l μ R }
 
 pub cells_frames : {f : Floo.Machine → Result Floo.Machine} {m : Machine} {e c c' : List ℕ} (r : Did) → DoesCells f m e c c' r → (s : List ℕ) → DoesFrames f m s s e e c c' r
-cells_frames (Fail x) D s = record { does = λ d l μ R. let a = D.does s d l μ R in (a.0, (refl, refl, a.1)) }
+cells_frames (Err x) D s = record { does = λ d l μ R. let a = D.does s d l μ R in (a.0, (refl, refl, a.1)) }
 cells_frames (Ok m') D s = record { does = λ d l μ R. D.does s d l μ R }
 
 pub slots_frames : {f : Floo.Machine → Result Floo.Machine} {m : Machine} {s e e' : List ℕ} (r : Did) → DoesSlots f m s e e' r → (c : List ℕ) → DoesFrames f m s s e e' c c r
-slots_frames (Fail x) D c = record { does = λ d l μ R. let a = D.does d c l μ R in (a.0, (refl, a.1, refl)) }
+slots_frames (Err x) D c = record { does = λ d l μ R. let a = D.does d c l μ R in (a.0, (refl, a.1, refl)) }
 slots_frames (Ok m') D c = record { does = λ d l μ R. D.does d c l μ R }

@@ -1,6 +1,6 @@
 -- What the operators on the flow of control promise: the definition's operator with the test of room after it.
 -- Assumes nothing.
-use Rattle.std.specs.Prelude.{◌≡◌, List, ◌++◌, ℕ, ◌-◌, length, drop}
+use Rattle.std.specs.Prelude.{◌≡◌, List, [], ◌++◌, ℕ, ◌+◌, ◌-◌, length, drop, Option, Some, None}
 use Rattle.semantics.specs.Values.{Value, Result}
 use Rattle.semantics.specs.Machine as Floo
 use Rattle.semantics.specs.Machine.{with_stack, with_exec}
@@ -10,7 +10,7 @@ use Rattle.machine.specs.Places.{Nameless}
 use Rattle.machine.specs.Rep.{Rep, Answer}
 use Rattle.machine.specs.Room.{lent, fitted}
 use Rattle.machine.specs.declared.Machine.{Machine}
-use Rattle.machine.specs.declared.Did.{Did}
+use Rattle.machine.specs.Answers.{Did}
 
 -- The words of stack and execution slots stand for some machine.
 abbrev pub Represented : Machine → List ℕ → List ℕ → Type 0
@@ -56,6 +56,10 @@ pub record Forgets (n : ℕ) (m r : Machine) : Type 0 where
 unfoldable pub cut_by : ℕ → Floo.Machine → Floo.Machine
 cut_by n μ = with_exec (drop n μ.exec) μ
 
--- The lowest k slots are those from the innermost loop down.
-pub record FindsLoop (m : Machine) (e : List ℕ) (k : ℕ) : Type 0 where
-  pub says : (s d c l : List ℕ) (μ : Floo.Machine) → Rep m s e d c l μ → from_loop μ.exec ≡ drop (m.frames - k) μ.exec
+-- There is no loop, or slot k from the bottom is the innermost one's.
+abbrev pub LoopIs : Machine → Floo.Machine → Option ℕ → Type 0
+LoopIs m μ None = from_loop μ.exec ≡ []
+LoopIs m μ (Some k) = from_loop μ.exec ≡ drop (m.frames - (k + 1)) μ.exec
+
+pub record FindsLoop (m : Machine) (e : List ℕ) (r : Option ℕ) : Type 0 where
+  pub says : (s d c l : List ℕ) (μ : Floo.Machine) → Rep m s e d c l μ → LoopIs m μ r

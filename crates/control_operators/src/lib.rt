@@ -2,7 +2,7 @@
 // their order included; where it fails, no word has changed.
 #![tactic(auto)]
 
-ghost use Rattle.std.specs.Prelude.{◌≡◌, ◌+◌, ◌-◌, ◌*◌, ◌≤◌, length};
+ghost use Rattle.std.specs.Prelude.{◌≡◌, ◌+◌, ◌-◌, ◌*◌, ◌≤◌, ◌<◌, length, IfSome};
 ghost use Rattle.semantics.specs.Text.{bytes};
 ghost use Rattle.semantics.specs.Operators.{perform};
 ghost use Rattle.control_operators.specs.Promises.{Represented, DoesState, DoesSlots, DoesCells, DoesFrames, Forgets, FindsLoop, cut_by};
@@ -10,168 +10,125 @@ ghost use Rattle.machine.specs.FrameMoves.{Somewhere, MovesFrames};
 ghost use Rattle.frames.specs.Moves.{SomewhereAll};
 
 use frames::{FOR, LOOP, REPEAT};
-use machine::{Did, ITEM_PAYLOAD, Machine, TAG_BOOLEAN, TAG_INTEGER};
+use machine::{ITEM_PAYLOAD, Machine, TAG_BOOLEAN};
 use semantics::{EXEC_WIDTH, Error, STACK_WIDTH};
+use word::SIGN;
 
-pub fn exec_(m: Machine, stack: &[u32], exec: &mut [u32]) -> Did
+pub fn exec_(m: Machine, stack: &[u32], exec: &mut [u32]) -> Result<Machine, Error>
     requires { Represented m stack.now exec.old }
     ensures { DoesSlots (perform (bytes "exec")) m stack.now exec.old exec.new result }
 {
-    if m.depth < 1 {
-        return Did::Fail(Error::StackUnderflow);
-    }
-    if exec.len() < EXEC_WIDTH * m.frames + EXEC_WIDTH {
-        return Did::Fail(Error::ExecStackOverflow);
-    }
-    Did::Ok(frames::pend_top(m, stack, exec))
+    m.needs(1)?;
+    m.has_slot(exec)?;
+    Ok(frames::pend_top(m, stack, exec))
 }
 
-pub fn loop_(m: Machine, stack: &[u32], exec: &mut [u32]) -> Did
+pub fn loop_(m: Machine, stack: &[u32], exec: &mut [u32]) -> Result<Machine, Error>
     requires { Represented m stack.now exec.old }
     ensures { DoesSlots (perform (bytes "loop")) m stack.now exec.old exec.new result }
 {
-    if m.depth < 1 {
-        return Did::Fail(Error::StackUnderflow);
-    }
-    if exec.len() < EXEC_WIDTH * m.frames + EXEC_WIDTH {
-        return Did::Fail(Error::ExecStackOverflow);
-    }
-    Did::Ok(frames::enter_loop(m, stack, exec, LOOP, 0, 0, 0))
+    m.needs(1)?;
+    m.has_slot(exec)?;
+    Ok(frames::enter_loop(m, stack, exec, LOOP, 0, 0, 0))
 }
 
 // Ruled out: a negative count that repeats; a count that stays on the stack.
-pub fn repeat_(m: Machine, stack: &[u32], exec: &mut [u32]) -> Did
+pub fn repeat_(m: Machine, stack: &[u32], exec: &mut [u32]) -> Result<Machine, Error>
     requires { Represented m stack.now exec.old }
     ensures { DoesSlots (perform (bytes "repeat")) m stack.now exec.old exec.new result }
 {
-    if m.depth < 2 {
-        return Did::Fail(Error::StackUnderflow);
+    m.needs(2)?;
+    let n = m.int_at(stack, 1)?;
+    if SIGN <= n {
+        return Err(Error::RangeCheck);
     }
-    let i = STACK_WIDTH * (m.depth - 2);
-    if stack[i] != TAG_INTEGER {
-        return Did::Fail(Error::TypeCheck);
-    }
-    let n = stack[i + ITEM_PAYLOAD];
-    if 2147483648 <= n {
-        return Did::Fail(Error::RangeCheck);
-    }
-    if exec.len() < EXEC_WIDTH * m.frames + EXEC_WIDTH {
-        return Did::Fail(Error::ExecStackOverflow);
-    }
+    m.has_slot(exec)?;
     let r = frames::enter_loop(m, stack, exec, REPEAT, n, 0, 0);
-    Did::Ok(forget(r, 1))
+    Ok(forget(r, 1))
 }
 
-pub fn for_(m: Machine, stack: &[u32], exec: &mut [u32]) -> Did
+pub fn for_(m: Machine, stack: &[u32], exec: &mut [u32]) -> Result<Machine, Error>
     requires { Represented m stack.now exec.old }
     ensures { DoesSlots (perform (bytes "for")) m stack.now exec.old exec.new result }
 {
-    if m.depth < 4 {
-        return Did::Fail(Error::StackUnderflow);
-    }
-    let i = STACK_WIDTH * (m.depth - 4);
-    let j = STACK_WIDTH * (m.depth - 3);
-    let k = STACK_WIDTH * (m.depth - 2);
-    if stack[i] != TAG_INTEGER {
-        return Did::Fail(Error::TypeCheck);
-    }
-    if stack[j] != TAG_INTEGER {
-        return Did::Fail(Error::TypeCheck);
-    }
-    if stack[k] != TAG_INTEGER {
-        return Did::Fail(Error::TypeCheck);
-    }
-    if exec.len() < EXEC_WIDTH * m.frames + EXEC_WIDTH {
-        return Did::Fail(Error::ExecStackOverflow);
-    }
-    let r = frames::enter_loop(
-        m,
-        stack,
-        exec,
-        FOR,
-        stack[i + ITEM_PAYLOAD],
-        stack[j + ITEM_PAYLOAD],
-        stack[k + ITEM_PAYLOAD],
-    );
-    Did::Ok(forget(r, 3))
+    m.needs(4)?;
+    let initial = m.int_at(stack, 3)?;
+    let increment = m.int_at(stack, 2)?;
+    let last = m.int_at(stack, 1)?;
+    m.has_slot(exec)?;
+    let r = frames::enter_loop(m, stack, exec, FOR, initial, increment, last);
+    Ok(forget(r, 3))
 }
 
 // Ruled out: a body that is kept where the test is false; execstackoverflow where nothing becomes pending.
-pub fn if_(m: Machine, stack: &[u32], exec: &mut [u32], cells: &mut [u32]) -> Did
+pub fn if_(m: Machine, stack: &[u32], exec: &mut [u32], cells: &mut [u32]) -> Result<Machine, Error>
     requires { SomewhereAll m stack.now exec.old cells.old }
     ensures { DoesFrames (perform (bytes "if")) m stack.now stack.now exec.old exec.new cells.old cells.new result }
 {
-    if m.depth < 2 {
-        return Did::Fail(Error::StackUnderflow);
-    }
+    m.needs(2)?;
     let i = STACK_WIDTH * (m.depth - 2);
     if stack[i] != TAG_BOOLEAN {
-        return Did::Fail(Error::TypeCheck);
+        return Err(Error::TypeCheck);
     }
     if stack[i + ITEM_PAYLOAD] == 0 {
         let r = m.drop(stack, cells);
-        return Did::Ok(forget(r, 1));
+        return Ok(forget(r, 1));
     }
-    if exec.len() < EXEC_WIDTH * m.frames + EXEC_WIDTH {
-        return Did::Fail(Error::ExecStackOverflow);
-    }
+    m.has_slot(exec)?;
     let r = frames::pend_top(m, stack, exec);
-    Did::Ok(forget(r, 1))
+    Ok(forget(r, 1))
 }
 
-pub fn ifelse(m: Machine, stack: &[u32], exec: &mut [u32], cells: &mut [u32]) -> Did
+pub fn ifelse(
+    m: Machine,
+    stack: &[u32],
+    exec: &mut [u32],
+    cells: &mut [u32],
+) -> Result<Machine, Error>
     requires { SomewhereAll m stack.now exec.old cells.old }
     ensures { DoesFrames (perform (bytes "ifelse")) m stack.now stack.now exec.old exec.new cells.old cells.new result }
 {
-    if m.depth < 3 {
-        return Did::Fail(Error::StackUnderflow);
-    }
+    m.needs(3)?;
     let i = STACK_WIDTH * (m.depth - 3);
     if stack[i] != TAG_BOOLEAN {
-        return Did::Fail(Error::TypeCheck);
+        return Err(Error::TypeCheck);
     }
-    if exec.len() < EXEC_WIDTH * m.frames + EXEC_WIDTH {
-        return Did::Fail(Error::ExecStackOverflow);
-    }
+    m.has_slot(exec)?;
     if stack[i + ITEM_PAYLOAD] == 0 {
         let p = frames::pend_top(m, stack, exec);
         let r = p.drop(stack, cells);
-        return Did::Ok(forget(r, 1));
+        return Ok(forget(r, 1));
     }
     let p = m.drop(stack, cells);
     let r = frames::pend_top(p, stack, exec);
-    Did::Ok(forget(r, 1))
+    Ok(forget(r, 1))
 }
 
 // Ruled out: slots that go where there is no loop; a loop that stays.
-pub fn exit(m: Machine, exec: &[u32], cells: &mut [u32]) -> Did
+pub fn exit(m: Machine, exec: &[u32], cells: &mut [u32]) -> Result<Machine, Error>
     requires { Somewhere m exec.now cells.old }
     ensures { DoesCells (perform (bytes "exit")) m exec.now cells.old cells.new result }
 {
-    let k = find_loop(m, exec);
-    if k < 1 {
-        return stop(m);
+    match find_loop(m, exec) {
+        None => stop(m),
+        Some(k) => Ok(drop_to(m, exec, cells, k)),
     }
-    Did::Ok(drop_to(m, exec, cells, k - 1))
 }
 
-pub fn continue_(m: Machine, exec: &[u32], cells: &mut [u32]) -> Did
+pub fn continue_(m: Machine, exec: &[u32], cells: &mut [u32]) -> Result<Machine, Error>
     requires { Somewhere m exec.now cells.old }
     ensures { DoesCells (perform (bytes "continue")) m exec.now cells.old cells.new result }
 {
-    let k = find_loop(m, exec);
-    if k < 1 {
-        return stop(m);
+    match find_loop(m, exec) {
+        None => stop(m),
+        Some(k) => Ok(drop_to(m, exec, cells, k + 1)),
     }
-    Did::Ok(drop_to(m, exec, cells, k))
 }
 
-pub fn stop(m: Machine) -> Did
+pub fn stop(m: Machine) -> Result<Machine, Error>
     ensures { DoesState (perform (bytes "stop")) m result }
 {
-    let mut r = m;
-    r.stopped = true;
-    Did::Ok(r)
+    Ok(Machine { stopped: true, ..m })
 }
 
 // The topmost n items, which name no object, go.
@@ -183,19 +140,18 @@ fn forget(mut m: Machine, n: usize) -> Machine
     m
 }
 
-// How many slots there are from the innermost loop down, 0 where there is none.
-fn find_loop(m: Machine, exec: &[u32]) -> usize
+// The place of the innermost loop's slot, counted from the bottom, where there is one.
+fn find_loop(m: Machine, exec: &[u32]) -> Option<usize>
     requires { 8 * m.frames ≤ length exec.now }
-    ensures { (result ≤ m.frames) × FindsLoop m exec.now result }
+    ensures inside { IfSome result (λ k. k < m.frames) }
+    ensures finds { FindsLoop m exec.now result }
 {
-    let mut k = m.frames;
-    while 0 < k {
-        if LOOP <= exec[EXEC_WIDTH * (k - 1)] {
-            return k;
+    for k in (0..m.frames).rev() {
+        if LOOP <= exec[EXEC_WIDTH * k] {
+            return Some(k);
         }
-        k = k - 1;
     }
-    k
+    None
 }
 
 // Slots go until k are left.
@@ -204,7 +160,7 @@ fn drop_to(m: Machine, exec: &[u32], cells: &mut [u32], k: usize) -> Machine
     ensures { MovesFrames (cut_by (m.frames - k)) m result exec.now exec.now cells.old cells.new }
 {
     let mut r = m;
-    while k < r.frames {
+    for _ in k..m.frames {
         r = r.drop_frame(exec, cells);
     }
     r

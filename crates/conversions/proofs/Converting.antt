@@ -1,6 +1,7 @@
 -- What each return of cvs and of its parts shows: the definition's cvs is `converted` of the value's text, and the parts do that to every machine that the words
 -- stand for.
 -- Assumes nothing.
+use Rattle.std.specs.Prelude.{Ok, Err}
 use mathlib.Core.Path.{◌≡◌, refl, sym, ap, ◌∙◌, subst}
 use mathlib.Core.Bool.{Bool, true, false}
 use mathlib.Core.List.{List, [], ◌∷◌, ◌++◌}
@@ -23,8 +24,7 @@ use Rattle.machine.specs.Rep.{Rep, Answer, Somewhere, MovesHeap}
 use Rattle.machine.specs.Room.{lent, fitted, DoesHeap}
 use Rattle.machine.specs.Moves.{dropped, swapped}
 use Rattle.machine.specs.declared.Machine.{Machine}
-use Rattle.machine.specs.declared.Did.{Did}
-use Rattle.machine.specs.declared.Did.TheVariants.{Ok, Fail}
+use Rattle.machine.specs.Answers.{Did}
 use Rattle.machine.proofs.Copying.{word_of}
 use Rattle.machine.proofs.Operands.{pop2_some, pop2_under}
 use Rattle.machine.proofs.Outcomes.{KeepsStore, stack_depth, fails_heap, moves_heap, then_heap, elsewhere, two_items}
@@ -244,7 +244,7 @@ module _ {m : Machine} {s : List ℕ} (deep : 2 ≤ m.depth) (Y : ItemTag 0 m s 
         )
 
     module _ (t : List ℕ) where
-      pub convert_long : k < length t → DoesHeap (converted t) m s s c c (Fail RangeCheck)
+      pub convert_long : k < length t → DoesHeap (converted t) m s s c c (Err RangeCheck)
       convert_long h = fails_heap (λ e d l μ R. too_long μ (target R).split t (omega (arith, h, size_is R)))
 
       pub convert_string_left : {c₁ : List ℕ} → Somewhere m s c → MovesHeap (bytes_filled 0 t) m m s s c c₁ → SomewhereThat (HasString 0) m s c₁
@@ -288,7 +288,7 @@ module _ {m : Machine} {s : List ℕ} (deep : 2 ≤ m.depth) (Y : ItemTag 0 m s 
             ∙ ap (λ (k : ℕ). change (item_id 0 μ) (text (take k from ++ drop (length t) bs)) μ) current_is
             ∙ ap (λ (u : List ℕ). change (item_id 0 μ) (text (u ++ drop (length t) bs)) μ) (take_current from)
 
-      pub string_long : k < n → DoesHeap op m s s c c (Fail RangeCheck)
+      pub string_long : k < n → DoesHeap op m s s c c (Err RangeCheck)
       string_long h =
           fails_heap (λ e d l μ R. string_converted R ∙ too_long μ (target R).split (current (bytes_of (object μ (item_id 1 μ)))) (omega (arith, h, size_is R, current_is R)))
 
@@ -353,16 +353,16 @@ pub cvs_plain : {m : Machine} {s c : List ℕ} {y : Bool} → ItemSealed 0 m s c
 cvs_plain {m} {s} {c} M q = subst (ItemSealed 0 m s c) q M
 
 module _ {m : Machine} {s d c : List ℕ} where
-  pub cvs_short : m.depth < 2 → DoesNamedHeap op m s s d c c (Fail StackUnderflow)
-  cvs_short h = cvs_string (Fail StackUnderflow) (fails_heap (λ e d l μ R. cvs_under μ (omega (arith, h, stack_depth R))))
+  pub cvs_short : m.depth < 2 → DoesNamedHeap op m s s d c c (Err StackUnderflow)
+  cvs_short h = cvs_string (Err StackUnderflow) (fails_heap (λ e d l μ R. cvs_under μ (omega (arith, h, stack_depth R))))
 
   pub cvs_somewhere : SomewhereNamed m s d c → Somewhere m s c
   cvs_somewhere (e, l, μ, R) = (e, d, l, μ, R)
 
   module _ (deep : 2 ≤ m.depth) where
-    pub cvs_mistyped : {t : ℕ} → ItemTag 0 m s t → (t ≡ 8 → ⊥) → DoesNamedHeap op m s s d c c (Fail TypeCheck)
+    pub cvs_mistyped : {t : ℕ} → ItemTag 0 m s t → (t ≡ 8 → ⊥) → DoesNamedHeap op m s s d c c (Err TypeCheck)
     cvs_mistyped Y n =
-        cvs_string (Fail TypeCheck)
+        cvs_string (Err TypeCheck)
         (fails_heap (λ e d l μ R.
         let x = two_items μ.stack (omega (arith, deep, stack_depth R)) in
         let first = ap (λ (r : List Value). tag_of (get_or r 0 null)) x.3 in
@@ -386,9 +386,9 @@ module _ {m : Machine} {s d c : List ℕ} where
         }
 
     module _ {t : ℕ} (Y : ItemTag 0 m s t) (eight : t ≡ 8) {y : Bool} (M : ItemSealed 0 m s c y) where
-      pub cvs_locked : y ≡ true → DoesNamedHeap op m s s d c c (Fail InvalidAccess)
+      pub cvs_locked : y ≡ true → DoesNamedHeap op m s s d c c (Err InvalidAccess)
       cvs_locked q =
-          cvs_string (Fail InvalidAccess)
+          cvs_string (Err InvalidAccess)
           (fails_heap (λ e d l μ R.
           let T = target deep (cvs_tagged Y eight) R in
           cvs_refused μ T.split refl (target_locked M R T q)))

@@ -14,7 +14,7 @@ use Rattle.machine.specs.Rep.{Rep, IsIn, Answer}
 use Rattle.machine.specs.Room.{lent, fitted}
 use Rattle.machine.specs.Moves.{dropped, swapped}
 use Rattle.machine.specs.declared.Machine.{Machine}
-use Rattle.machine.specs.declared.Did.{Did}
+use Rattle.machine.specs.Answers.{Did}
 use Rattle.elements.specs.Elements.{byte_put}
 
 -- The words of stack, dictionary and cells stand for some machine.

@@ -1,5 +1,6 @@
 -- The first slot whose words agree with the packed name is the name's slot: words agree just where the names are the same.
 -- Assumes nothing.
+use Rattle.std.specs.Prelude.{Option, Some, None, IfSome, unwrap_or}
 use mathlib.Core.Path.{◌≡◌, refl, sym, ap, ◌∙◌, subst}
 use mathlib.Core.Bool.{Bool, true, false}
 use mathlib.Core.List.{List, ◌∷◌}
@@ -82,6 +83,11 @@ finds {r = r} short P F low =
           let q = first_slot short P r R.slots (omega arith) (omega (arith, R.naming.many)) F.before (λ x. F.here (omega (arith, R.naming.many))) in
           omega (arith, q);
     }
+
+-- A slot that is found is in use.
+pub found_low : {n : ℕ} (o : Option ℕ) → IfSome o (λ k. k < n) → unwrap_or o n ≤ n
+found_low (Some k) low = omega (arith, low)
+found_low None low = omega arith
 
 -- ---- the name of one slot
 

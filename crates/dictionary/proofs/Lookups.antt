@@ -1,6 +1,7 @@
 -- What a name's slot number says: below the number of slots the name is there, and to give it a slot changes nothing; else it has no slot, nothing is looked
 -- up, and one slot more is made, where there is room. A name keeps its slot where others get theirs.
 -- Assumes nothing.
+use Rattle.std.specs.Prelude.{Option, Some, None, IfSome, unwrap_or}
 use mathlib.Core.Path.{◌≡◌, refl, sym, ap, ◌∙◌, subst}
 use mathlib.Core.List.{List, [], ◌∷◌}
 use mathlib.Core.Logic.{⊎_elim}
@@ -146,3 +147,12 @@ module _ {m : Machine} {s e d c l : List ℕ} {μ : Floo.Machine} (R : Rep m s e
 pub room_slots : (limits : Limits) (before after : Floo.Machine) → limits.dictionary_slots < length after.dictionary → room_for limits before after ≡ fault LimitCheck
 unfolding room_for check ◌>>=◌
 room_slots limits before after many = rw (lt-leb _ _ many) refl
+
+-- ---- what `find` answers
+
+module _ {m : Machine} {d n : List ℕ} {r : Option ℕ} (F : Finds m d n (unwrap_or r m.names)) where
+  pub find_some : {k : ℕ} → IfSome r (λ j. j < m.names) → r ≡ Some k → Finds m d n k × (k < m.names)
+  find_some low q = (subst (λ x. Finds m d n (unwrap_or x m.names)) q F, subst (λ x. IfSome x (λ j. j < m.names)) q low)
+
+  pub find_nothing : r ≡ None → Finds m d n m.names
+  find_nothing q = subst (λ x. Finds m d n (unwrap_or x m.names)) q F

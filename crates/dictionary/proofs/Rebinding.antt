@@ -216,6 +216,10 @@ module _ {m : Machine} {st e d c l : List ℕ} {μ : Floo.Machine} (R : Rep m st
   pub bound_value : {v : Value} → lookup n μ.dictionary ≡ some v → IsIn R.world μ v (binding_tag d k) (binding_payload d k)
   bound_value q = bound_is (binding_at_lem R k n key).0 q
 
+  -- The same, by the words that were read.
+  pub bound_words : {v : Value} {t p : ℕ} → lookup n μ.dictionary ≡ some v → t ≡ binding_tag d k → p ≡ binding_payload d k → IsIn R.world μ v t p
+  bound_words q x y = rw (x, y) (bound_value q)
+
 -- The words of a literal name.
 pub name_words_lem : (w : World) (μ : Floo.Machine) (k : ℕ) {n : List ℕ} → get_elem? (keys μ) k ≡ some n → IsIn w μ (name false n) 5 k
 name_words_lem w μ k key = record { stands = a_literal key; alive = λ l. absurd (omega arith) }

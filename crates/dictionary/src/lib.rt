@@ -2,7 +2,7 @@
 // does to the machine of the definition what its contract names.
 #![tactic(auto)]
 
-ghost use Rattle.std.specs.Prelude.{◌≡◌, ◌+◌, ◌*◌, ◌≤◌, ◌<◌, length, get_or};
+ghost use Rattle.std.specs.Prelude.{◌≡◌, ◌+◌, ◌*◌, ◌≤◌, ◌<◌, length, set, get_or, unwrap_or, IfSome};
 ghost use Rattle.machine.specs.Words.{binding_tag, binding_payload};
 ghost use Rattle.semantics.specs.Sizes.{name_most, dictionary_words_most};
 ghost use Rattle.dictionary.specs.Names.{Finds, Adds};
@@ -10,19 +10,16 @@ ghost use Rattle.dictionary.specs.Listing.{Ends, IsNamed};
 ghost use Rattle.dictionary.specs.Packing.{Packs, Spells, Agrees, Tells, First, Bytes};
 ghost use Rattle.dictionary.specs.Bindings.{BoundItems, BoundFrames, NamedItems, LoadsBinding, PendsBinding, BindsItem, NamedStack, PutsName};
 
-use frames::PENDING;
-use machine::{
-    BINDING_PAYLOAD, BINDING_TAG, FRAME_PAYLOAD, FRAME_TAG, ITEM_PAYLOAD, Machine, SPELLING,
-    TAG_LITERAL, TAG_NULL, TAG_UNBOUND,
-};
-use semantics::{DICTIONARY_WIDTH, EXEC_WIDTH, STACK_WIDTH};
+use heap::Value;
+use machine::{BINDING_PAYLOAD, BINDING_TAG, Machine, SPELLING, TAG_LITERAL, TAG_UNBOUND};
+use semantics::DICTIONARY_WIDTH;
 
-// The slot of a name; the number of slots where it has none. The name is packed once, so that a slot takes a comparison of words and none of bytes.
+// The slot of a name, if it has one. The name is packed once, so that a slot takes a comparison of words and none of bytes.
 // Ruled out: a name taken for a longer one that starts like it; a slot past the last one.
-pub fn find(m: Machine, dict: &[u32], name: &[u8]) -> usize
+pub fn find(m: Machine, dict: &[u32], name: &[u8]) -> Option<usize>
     requires { (length name.now ≤ name_most) × (12 * m.names ≤ length dict.now) × (length dict.now ≤ dictionary_words_most) }
-    ensures finds { Finds m dict.now name.now result }
-    ensures upper_bound { result ≤ m.names }
+    ensures finds { Finds m dict.now name.now (unwrap_or result m.names) }
+    ensures upper_bound { IfSome result (λ k. k < m.names) }
 {
     let mut words = [0u32; 8];
     pack(name, &mut words, 0);
@@ -32,7 +29,7 @@ pub fn find(m: Machine, dict: &[u32], name: &[u8]) -> usize
 
 // A name that has no slot takes the next one, unbound.
 // Ruled out: a slot over that of another name; bytes of an earlier name left after the new one.
-pub fn add(m: Machine, dict: &mut [u32], name: &[u8]) -> Machine
+pub fn add(mut m: Machine, dict: &mut [u32], name: &[u8]) -> Machine
     requires { (length name.now ≤ name_most) × (12 * m.names + 12 ≤ length dict.old) × (length dict.old ≤ dictionary_words_most) }
     ensures adds { Adds m result dict.old dict.new name.now }
     ensures names_value { (result.names ≡ m.names + 1) × (result.depth ≡ m.depth) × (result.frames ≡ m.frames) × (result.lists ≡ m.lists) }
@@ -40,9 +37,8 @@ pub fn add(m: Machine, dict: &mut [u32], name: &[u8]) -> Machine
     let n = m.names;
     spell(dict, n, name);
     dict[DICTIONARY_WIDTH * n + BINDING_TAG] = TAG_UNBOUND;
-    let mut r = m;
-    r.names = n + 1;
-    r
+    m.names = n + 1;
+    m
 }
 
 // A name's length and bytes go into a slot.
@@ -69,19 +65,8 @@ pub fn load_binding(
     ensures loads_binding { LoadsBinding slot i m result stack.old stack.new dict.now cells.old cells.new }
     ensures depth_value { result.depth ≡ m.depth }
 {
-    let k = m.depth - 1 - i;
-    let at = DICTIONARY_WIDTH * slot;
-    let tag = dict[at + BINDING_TAG];
-    let pay = dict[at + BINDING_PAYLOAD];
-    let old = stack[STACK_WIDTH * k];
-    let was = stack[STACK_WIDTH * k + ITEM_PAYLOAD];
-    let lists = m.lists;
-    let left = machine::recount(lists, cells, old, was, tag, pay);
-    stack[STACK_WIDTH * k] = tag;
-    stack[STACK_WIDTH * k + ITEM_PAYLOAD] = pay;
-    let mut r = m;
-    r.lists = left;
-    r
+    let value = binding(dict, slot);
+    m.put_value(stack, cells, i, value)
 }
 
 // A copy of the slot's binding becomes pending.
@@ -97,25 +82,14 @@ pub fn pend_binding(
     ensures pends_binding { PendsBinding slot m result exec.old exec.new dict.now cells.old cells.new }
     ensures depth_value { (result.depth ≡ m.depth) × (result.frames ≡ m.frames + 1) }
 {
-    let n = m.frames;
-    let at = DICTIONARY_WIDTH * slot;
-    let tag = dict[at + BINDING_TAG];
-    let pay = dict[at + BINDING_PAYLOAD];
-    let lists = m.lists;
-    let counted = machine::recount(lists, cells, TAG_NULL, 0, tag, pay);
-    exec[EXEC_WIDTH * n] = PENDING;
-    exec[EXEC_WIDTH * n + FRAME_TAG] = tag;
-    exec[EXEC_WIDTH * n + FRAME_PAYLOAD] = pay;
-    let mut r = m;
-    r.frames = n + 1;
-    r.lists = counted;
-    r
+    let value = binding(dict, slot);
+    frames::pend(m, exec, cells, value)
 }
 
 // The slot's binding becomes a copy of item i.
 // Ruled out: the old binding let go before the new one is counted; another slot's binding changed.
 pub fn bind_item(
-    m: Machine,
+    mut m: Machine,
     stack: &[u32],
     dict: &mut [u32],
     cells: &mut [u32],
@@ -126,19 +100,13 @@ pub fn bind_item(
     ensures binds_item { BindsItem slot i m result stack.now dict.old dict.new cells.old cells.new }
     ensures depth_value { result.depth ≡ m.depth }
 {
-    let k = m.depth - 1 - i;
-    let tag = stack[STACK_WIDTH * k];
-    let pay = stack[STACK_WIDTH * k + ITEM_PAYLOAD];
-    let at = DICTIONARY_WIDTH * slot;
-    let old = dict[at + BINDING_TAG];
-    let was = dict[at + BINDING_PAYLOAD];
     let lists = m.lists;
-    let left = machine::recount(lists, cells, old, was, tag, pay);
-    dict[at + BINDING_TAG] = tag;
-    dict[at + BINDING_PAYLOAD] = pay;
-    let mut r = m;
-    r.lists = left;
-    r
+    let new = machine::item(stack, m.depth - 1 - i);
+    let old = binding(dict, slot);
+    let left = machine::recount(lists, cells, old, new);
+    set_binding(dict, slot, new);
+    m.lists = left;
+    m
 }
 
 // Item i gives way to the literal name that has this slot.
@@ -148,32 +116,37 @@ pub fn put_name(m: Machine, stack: &mut [u32], cells: &mut [u32], slot: u32, i: 
     ensures puts_name { PutsName slot i m result stack.old stack.new cells.old cells.new }
     ensures depth_value { result.depth ≡ m.depth }
 {
-    let k = m.depth - 1 - i;
-    let old = stack[STACK_WIDTH * k];
-    let was = stack[STACK_WIDTH * k + ITEM_PAYLOAD];
-    let lists = m.lists;
-    let left = machine::recount(lists, cells, old, was, TAG_LITERAL, slot);
-    stack[STACK_WIDTH * k] = TAG_LITERAL;
-    stack[STACK_WIDTH * k + ITEM_PAYLOAD] = slot;
-    let mut r = m;
-    r.lists = left;
-    r
+    m.put_value(
+        stack,
+        cells,
+        i,
+        Value {
+            tag: TAG_LITERAL,
+            pay: slot,
+        },
+    )
 }
 
-// The tag of the slot's binding.
-pub fn binding_tag(dict: &[u32], slot: usize) -> u32
+// The slot's binding.
+// Ruled out: another slot's; the words of the name read for it.
+#[inline(always)]
+pub fn binding(dict: &[u32], slot: usize) -> Value
     requires { (12 * slot + 12 ≤ length dict.now) × (length dict.now ≤ dictionary_words_most) }
-    ensures { result ≡ binding_tag dict.now slot }
+    ensures { (result.tag ≡ binding_tag dict.now slot) × (result.pay ≡ binding_payload dict.now slot) }
 {
-    dict[DICTIONARY_WIDTH * slot + BINDING_TAG]
+    Value {
+        tag: dict[DICTIONARY_WIDTH * slot + BINDING_TAG],
+        pay: dict[DICTIONARY_WIDTH * slot + BINDING_PAYLOAD],
+    }
 }
 
-// The payload of the slot's binding.
-pub fn binding_payload(dict: &[u32], slot: usize) -> u32
-    requires { (12 * slot + 12 ≤ length dict.now) × (length dict.now ≤ dictionary_words_most) }
-    ensures { result ≡ binding_payload dict.now slot }
+// The slot's binding becomes the value; nothing is counted.
+fn set_binding(dict: &mut [u32], slot: usize, value: Value)
+    requires { (12 * slot + 12 ≤ length dict.old) × (length dict.old ≤ dictionary_words_most) }
+    ensures { dict.new ≡ set (set dict.old (12 * slot + 9) value.tag) (12 * slot + 10) value.pay }
 {
-    dict[DICTIONARY_WIDTH * slot + BINDING_PAYLOAD]
+    dict[DICTIONARY_WIDTH * slot + BINDING_TAG] = value.tag;
+    dict[DICTIONARY_WIDTH * slot + BINDING_PAYLOAD] = value.pay;
 }
 
 // Whether the slot has this name.
@@ -192,30 +165,26 @@ pub fn blank_from(list: &[u8], at: usize) -> usize
     requires { at ≤ length list.now }
     ensures { Ends list.now at result }
 {
-    let mut end = at;
-    while end < list.len() {
+    for end in at..list.len() {
         if list[end] == b' ' {
             return end;
         }
-        end = end + 1;
     }
-    end
+    list.len()
 }
 
-// The first of n slots that has this size and these words; n where none has.
-fn first(dict: &[u32], n: usize, size: u32, words: &[u32]) -> usize
+// The first of n slots that has this size and these words.
+fn first(dict: &[u32], n: usize, size: u32, words: &[u32]) -> Option<usize>
     requires { (12 * n ≤ length dict.now) × (length dict.now ≤ dictionary_words_most) × (length words.now ≡ 8) }
-    ensures first { First dict.now n size words.now result }
-    ensures upper_bound { result ≤ n }
+    ensures first { First dict.now n size words.now (unwrap_or result n) }
+    ensures upper_bound { IfSome result (λ k. k < n) }
 {
-    let mut k = 0;
-    while k < n {
+    for k in 0..n {
         if agrees(dict, DICTIONARY_WIDTH * k, size, words) {
-            return k;
+            return Some(k);
         }
-        k = k + 1;
     }
-    k
+    None
 }
 
 // Whether the slot at this place has this size and these words. The sizes mostly differ.
@@ -226,12 +195,10 @@ fn agrees(dict: &[u32], at: usize, size: u32, words: &[u32]) -> bool
     if dict[at] != size {
         return false;
     }
-    let mut i = 0;
-    while i < 8 {
+    for i in 0..8 {
         if dict[at + SPELLING + i] != words[i] {
             return false;
         }
-        i = i + 1;
     }
     true
 }
@@ -241,10 +208,8 @@ fn pack(name: &[u8], words: &mut [u32], at: usize)
     requires { (at + 8 ≤ length words.old) × (length words.old ≤ dictionary_words_most) }
     ensures { Packs 8 name.now at words.old words.new }
 {
-    let mut i = 0;
-    while i < 8 {
+    for i in 0..8 {
         words[at + i] = packed(name, 4 * i);
-        i = i + 1;
     }
 }
 

@@ -1,5 +1,6 @@
 -- cvn: the string's current bytes are read, and the item gives way to the name of these bytes by its slot, which is found or added.
 -- Assumes nothing.
+use Rattle.std.specs.Prelude.{Ok, Err}
 use mathlib.Core.Path.{◌≡◌, refl, sym, ap, ◌∙◌, subst}
 use mathlib.Core.Bool.{Bool, false}
 use mathlib.Core.List.{List, ◌∷◌}
@@ -22,8 +23,7 @@ use Rattle.machine.specs.Words.{item_tag}
 use Rattle.machine.specs.Rep.{Rep}
 use Rattle.machine.specs.Room.{lent, fitted}
 use Rattle.machine.specs.declared.Machine.{Machine}
-use Rattle.machine.specs.declared.Did.{Did}
-use Rattle.machine.specs.declared.Did.TheVariants.{Ok, Fail}
+use Rattle.machine.specs.Answers.{Did}
 use Rattle.machine.proofs.Copying.{word_of}
 use Rattle.machine.proofs.Operands.{pop1_some, pop1_under}
 use Rattle.machine.proofs.Outcomes.{stack_depth, first_item}
@@ -78,7 +78,7 @@ module _ {m : Machine} {s d c : List ℕ} where
           ))
 
     module _ (low : k ≤ m.names) (high : m.names ≤ k) where
-      pub named_full : length d < 12 * m.names + 12 → DoesDictionary (item_named n) m s s d d c c (Fail LimitCheck)
+      pub named_full : length d < 12 * m.names + 12 → DoesDictionary (item_named n) m s s d d c c (Err LimitCheck)
       unfolding fitted ◌>>=◌
       named_full h =
           record {
@@ -178,11 +178,11 @@ module _ (μ : Floo.Machine) where
 -- ---- the returns
 
 module _ {m : Machine} {s d c : List ℕ} where
-  pub cvn_short : m.depth < 1 → DoesDictionary (perform (bytes "cvn")) m s s d d c c (Fail StackUnderflow)
+  pub cvn_short : m.depth < 1 → DoesDictionary (perform (bytes "cvn")) m s s d d c c (Err StackUnderflow)
   cvn_short h = fails (λ e l μ R. cvn_under μ (omega (arith, stack_depth R)))
 
   module _ (one : 1 ≤ m.depth) where
-    pub cvn_mistyped : (item_tag s (m.depth - 1) ≡ 8 → ⊥) → DoesDictionary (perform (bytes "cvn")) m s s d d c c (Fail TypeCheck)
+    pub cvn_mistyped : (item_tag s (m.depth - 1) ≡ 8 → ⊥) → DoesDictionary (perform (bytes "cvn")) m s s d d c c (Err TypeCheck)
     cvn_mistyped q =
         fails (λ e l μ R. cvn_type μ (omega (arith, stack_depth R)) (stands_no_string (word_of R 0 (m.depth - 1) (omega arith)).stands q))
 
@@ -194,7 +194,7 @@ module _ {m : Machine} {s d c : List ℕ} where
       cvn_string (e, l, μ, R) = (e, d, l, μ, R, has_string R)
 
       module _ {n : ℕ} (Z : CurrentSize 0 m s c n) where
-        pub cvn_over : name_most < n → DoesDictionary (perform (bytes "cvn")) m s s d d c c (Fail LimitCheck)
+        pub cvn_over : name_most < n → DoesDictionary (perform (bytes "cvn")) m s s d d c c (Err LimitCheck)
         cvn_over h =
             fails
             (λ e l μ R.

@@ -1,5 +1,6 @@
 -- Each element of a procedure is bound, one after another: the elements before q are bound, the others as they were. The dictionary does not change meanwhile.
 -- Assumes nothing.
+use Rattle.std.specs.Prelude.{Ok, Err}
 use mathlib.Core.Path.{◌≡◌, refl, sym, ap, ◌∙◌, subst}
 use mathlib.Core.Bool.{Bool, true, false}
 use mathlib.Core.List.{List, [], ◌∷◌, map}
@@ -21,7 +22,6 @@ use Rattle.store.proofs.Standing.{is_procedure_lem}
 use Rattle.machine.specs.Words.{item_tag, item_payload}
 use Rattle.machine.specs.Rep.{Rep}
 use Rattle.machine.specs.declared.Machine.{Machine}
-use Rattle.machine.specs.declared.Did.TheVariants.{Ok, Fail}
 use Rattle.machine.proofs.Copying.{word_of}
 use Rattle.machine.proofs.Operands.{pop1_some, pop1_under}
 use Rattle.machine.proofs.Outcomes.{stack_depth, first_item}
@@ -223,11 +223,11 @@ module _ (μ : Floo.Machine) where
       ∙ ap (λ t. ok (with_stack t (change id (elements (map (bound μ) (elements_in μ id))) μ))) (ap (λ y. y ∷ f.1) (sym x) ∙ sym f.2)
 
 module _ {m : Machine} {s d c : List ℕ} where
-  pub bind_short : m.depth < 1 → DoesDictionary (perform (bytes "bind")) m s s d d c c (Fail StackUnderflow)
+  pub bind_short : m.depth < 1 → DoesDictionary (perform (bytes "bind")) m s s d d c c (Err StackUnderflow)
   bind_short h = fails (λ e l μ R. bind_under μ (omega (arith, stack_depth R)))
 
   module _ (one : 1 ≤ m.depth) where
-    pub bind_mistyped : (item_tag s (m.depth - 1) ≡ 10 → ⊥) → DoesDictionary (perform (bytes "bind")) m s s d d c c (Fail TypeCheck)
+    pub bind_mistyped : (item_tag s (m.depth - 1) ≡ 10 → ⊥) → DoesDictionary (perform (bytes "bind")) m s s d d c c (Err TypeCheck)
     bind_mistyped q =
         fails (λ e l μ R. bind_type μ (omega (arith, stack_depth R)) (stands_no_procedure (word_of R 0 (m.depth - 1) (omega arith)).stands q))
 

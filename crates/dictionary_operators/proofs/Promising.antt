@@ -1,5 +1,6 @@
 -- From what an operator does to every machine that the words stand for, its promise with the test of room.
 -- Assumes nothing.
+use Rattle.std.specs.Prelude.{Ok, Err}
 use mathlib.Core.Path.{◌≡◌, refl, sym, ap, ◌∙◌, subst}
 use mathlib.Core.List.{List}
 use Prim.Native.Nat.{ℕ}
@@ -11,8 +12,7 @@ use Rattle.semantics.specs.declared.Error.{Error}
 use Rattle.machine.specs.Rep.{Rep, Answer}
 use Rattle.machine.specs.Room.{lent, fitted}
 use Rattle.machine.specs.declared.Machine.{Machine}
-use Rattle.machine.specs.declared.Did.{Did}
-use Rattle.machine.specs.declared.Did.TheVariants.{Ok, Fail}
+use Rattle.machine.specs.Answers.{Did}
 use Rattle.machine.proofs.Rooms.{rep_passes, fitted_fails}
 use Rattle.dictionary_operators.specs.Promises.{DoesDictionary}
 
@@ -26,7 +26,7 @@ abbrev pub Becomes : (Floo.Machine → Result Floo.Machine) → Machine → List
 Becomes f m' s' d' c' e l μ = (after : Floo.Machine) × (f μ ≡ ok after) × (length after.store ≡ length μ.store) × Rep m' s' e d' c' l after
 
 module _ {f : Floo.Machine → Result Floo.Machine} {m : Machine} {s d c : List ℕ} where
-  pub fails : {x : Error} → ((e l : List ℕ) (μ : Floo.Machine) → Rep m s e d c l μ → f μ ≡ fault x) → DoesDictionary f m s s d d c c (Fail x)
+  pub fails : {x : Error} → ((e l : List ℕ) (μ : Floo.Machine) → Rep m s e d c l μ → f μ ≡ fault x) → DoesDictionary f m s s d d c c (Err x)
   fails h = record { does = λ e l μ R. (fitted_fails (lent s e d c l) f μ (h e l μ R), (refl, refl, refl)) }
 
   pub does : {m' : Machine} {s' d' c' : List ℕ}

@@ -1,5 +1,6 @@
 -- What each return of def and load shows, by the words that the code has compared and by what its primitives did.
 -- Assumes nothing.
+use Rattle.std.specs.Prelude.{Ok, Err}
 use mathlib.Core.Path.{◌≡◌, refl}
 use mathlib.Core.List.{List}
 use Prim.Native.Nat.{ℕ, ◌+◌, ◌-◌, ◌*◌, ◌≤◌, ◌<◌}
@@ -15,7 +16,6 @@ use Rattle.machine.specs.Words.{item_tag, item_payload, binding_tag}
 use Rattle.machine.specs.Rep.{Somewhere, MovesHeap}
 use Rattle.machine.specs.Moves.{dropped}
 use Rattle.machine.specs.declared.Machine.{Machine}
-use Rattle.machine.specs.declared.Did.TheVariants.{Ok, Fail}
 use Rattle.machine.proofs.Outcomes.{stack_depth}
 use Rattle.dictionary.specs.Bindings.{NamedItems, BoundItems, BindsItem, LoadsBinding}
 use Rattle.dictionary.proofs.Rebinding.{slot_room}
@@ -36,11 +36,11 @@ slot_in m s = item_payload s (topmost m)
 module _ {m : Machine} {s d c : List ℕ} where
   -- ---- def
 
-  pub def_short : m.depth < 2 → DoesDictionary (perform (bytes "def")) m s s d d c c (Fail StackUnderflow)
+  pub def_short : m.depth < 2 → DoesDictionary (perform (bytes "def")) m s s d d c c (Err StackUnderflow)
   def_short h = fails (λ e l μ R. def_under μ (omega (arith, stack_depth R)))
 
   module _ (two : 2 ≤ m.depth) where
-    pub def_mistyped : (item_tag s (second m) ≡ 5 → ⊥) → DoesDictionary (perform (bytes "def")) m s s d d c c (Fail TypeCheck)
+    pub def_mistyped : (item_tag s (second m) ≡ 5 → ⊥) → DoesDictionary (perform (bytes "def")) m s s d d c c (Err TypeCheck)
     def_mistyped q = fails (λ e l μ R. def_typed R (second m) (omega arith) q)
 
     module _ (q : item_tag s (second m) ≡ 5) where
@@ -70,11 +70,11 @@ module _ {m : Machine} {s d c : List ℕ} where
 
   -- ---- load
 
-  pub load_short : m.depth < 1 → DoesDictionary (perform (bytes "load")) m s s d d c c (Fail StackUnderflow)
+  pub load_short : m.depth < 1 → DoesDictionary (perform (bytes "load")) m s s d d c c (Err StackUnderflow)
   load_short h = fails (λ e l μ R. load_under μ (omega (arith, stack_depth R)))
 
   module _ (one : 1 ≤ m.depth) where
-    pub load_mistyped : (item_tag s (topmost m) ≡ 5 → ⊥) → DoesDictionary (perform (bytes "load")) m s s d d c c (Fail TypeCheck)
+    pub load_mistyped : (item_tag s (topmost m) ≡ 5 → ⊥) → DoesDictionary (perform (bytes "load")) m s s d d c c (Err TypeCheck)
     load_mistyped q = fails (λ e l μ R. load_typed R (topmost m) (omega arith) q)
 
     module _ (q : item_tag s (topmost m) ≡ 5) where
@@ -83,7 +83,7 @@ module _ {m : Machine} {s d c : List ℕ} where
           let N = named R 0 (topmost m) (omega arith) q in
           (slot_room R (slot_in m s) N.text N.slot, R.rooms.dict_few)
 
-      pub load_unbound : binding_tag d (slot_in m s) ≡ 7 → DoesDictionary (perform (bytes "load")) m s s d d c c (Fail Undefined)
+      pub load_unbound : binding_tag d (slot_in m s) ≡ 7 → DoesDictionary (perform (bytes "load")) m s s d d c c (Err Undefined)
       load_unbound z =
           fails
           (λ e l μ R.

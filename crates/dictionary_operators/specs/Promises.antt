@@ -6,7 +6,7 @@ use Rattle.semantics.specs.Machine as Floo
 use Rattle.machine.specs.Rep.{Rep, Answer}
 use Rattle.machine.specs.Room.{lent, fitted}
 use Rattle.machine.specs.declared.Machine.{Machine}
-use Rattle.machine.specs.declared.Did.{Did}
+use Rattle.machine.specs.Answers.{Did}
 
 -- The words of stack, dictionary and cells stand for some machine.
 abbrev pub Represented : Machine → List ℕ → List ℕ → List ℕ → Type 0

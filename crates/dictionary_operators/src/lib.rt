@@ -11,76 +11,86 @@ ghost use Rattle.dictionary_operators.specs.Binding.{HasProcedure, HasElementAt,
 ghost use Rattle.dictionary_operators.specs.Interning.{item_named};
 
 use machine::{
-    Did, ITEM_PAYLOAD, Machine, TAG_EXECUTABLE, TAG_LITERAL, TAG_OPERATOR, TAG_PROCEDURE,
-    TAG_STRING, TAG_UNBOUND,
+    Machine, TAG_EXECUTABLE, TAG_LITERAL, TAG_OPERATOR, TAG_PROCEDURE, TAG_STRING, TAG_UNBOUND,
 };
 use semantics::{DICTIONARY_WIDTH, Error, NAME_MOST, STACK_WIDTH};
 
 // Ruled out: the operands taken for each other; a binding whose object is counted for the item and not for the name.
-pub fn def(m: Machine, stack: &[u32], dict: &mut [u32], cells: &mut [u32]) -> Did
+pub fn def(m: Machine, stack: &[u32], dict: &mut [u32], cells: &mut [u32]) -> Result<Machine, Error>
     requires { Represented m stack.now dict.old cells.old }
     ensures { DoesDictionary (perform (bytes "def")) m stack.now stack.now dict.old dict.new cells.old cells.new result }
 {
     if m.depth < 2 {
-        return Did::Fail(Error::StackUnderflow);
+        return Err(Error::StackUnderflow);
     }
-    let i = STACK_WIDTH * (m.depth - 2);
-    if stack[i] != TAG_LITERAL {
-        return Did::Fail(Error::TypeCheck);
+    let name = machine::item(stack, m.depth - 2);
+    if name.tag != TAG_LITERAL {
+        return Err(Error::TypeCheck);
     }
-    let slot = stack[i + ITEM_PAYLOAD] as usize;
+    let slot = name.pay as usize;
     let bound = dictionary::bind_item(m, stack, dict, cells, slot, 0);
     let one = bound.drop(stack, cells);
-    Did::Ok(one.drop(stack, cells))
+    Ok(one.drop(stack, cells))
 }
 
 // Ruled out: an unbound name taken for one that is bound to null; typecheck for an unbound name.
-pub fn load(m: Machine, stack: &mut [u32], dict: &[u32], cells: &mut [u32]) -> Did
+pub fn load(
+    m: Machine,
+    stack: &mut [u32],
+    dict: &[u32],
+    cells: &mut [u32],
+) -> Result<Machine, Error>
     requires { Represented m stack.old dict.now cells.old }
     ensures { DoesDictionary (perform (bytes "load")) m stack.old stack.new dict.now dict.now cells.old cells.new result }
 {
     if m.depth < 1 {
-        return Did::Fail(Error::StackUnderflow);
+        return Err(Error::StackUnderflow);
     }
-    let i = STACK_WIDTH * (m.depth - 1);
-    if stack[i] != TAG_LITERAL {
-        return Did::Fail(Error::TypeCheck);
+    let name = machine::item(stack, m.depth - 1);
+    if name.tag != TAG_LITERAL {
+        return Err(Error::TypeCheck);
     }
-    let slot = stack[i + ITEM_PAYLOAD] as usize;
-    if dictionary::binding_tag(dict, slot) == TAG_UNBOUND {
-        return Did::Fail(Error::Undefined);
+    let slot = name.pay as usize;
+    let bound = dictionary::binding(dict, slot);
+    if bound.tag == TAG_UNBOUND {
+        return Err(Error::Undefined);
     }
-    Did::Ok(dictionary::load_binding(m, stack, dict, cells, slot, 0))
+    Ok(dictionary::load_binding(m, stack, dict, cells, slot, 0))
 }
 
 // Ruled out: a name that is bound to a procedure replaced; the elements of a procedure within the procedure changed.
-pub fn bind(m: Machine, stack: &[u32], dict: &[u32], cells: &mut [u32]) -> Did
+pub fn bind(m: Machine, stack: &[u32], dict: &[u32], cells: &mut [u32]) -> Result<Machine, Error>
     requires { Represented m stack.now dict.now cells.old }
     ensures { DoesDictionary (perform (bytes "bind")) m stack.now stack.now dict.now dict.now cells.old cells.new result }
 {
     if m.depth < 1 {
-        return Did::Fail(Error::StackUnderflow);
+        return Err(Error::StackUnderflow);
     }
     if stack[STACK_WIDTH * (m.depth - 1)] != TAG_PROCEDURE {
-        return Did::Fail(Error::TypeCheck);
+        return Err(Error::TypeCheck);
     }
-    Did::Ok(bind_elements(m, stack, dict, cells))
+    Ok(bind_elements(m, stack, dict, cells))
 }
 
 // Ruled out: a name of 32 bytes; the bytes after the first zero taken into the name; a slot taken for a name that has one.
-pub fn cvn(m: Machine, stack: &mut [u32], dict: &mut [u32], cells: &mut [u32]) -> Did
+pub fn cvn(
+    m: Machine,
+    stack: &mut [u32],
+    dict: &mut [u32],
+    cells: &mut [u32],
+) -> Result<Machine, Error>
     requires { Represented m stack.old dict.old cells.old }
     ensures { DoesDictionary (perform (bytes "cvn")) m stack.old stack.new dict.old dict.new cells.old cells.new result }
 {
     if m.depth < 1 {
-        return Did::Fail(Error::StackUnderflow);
+        return Err(Error::StackUnderflow);
     }
     if stack[STACK_WIDTH * (m.depth - 1)] != TAG_STRING {
-        return Did::Fail(Error::TypeCheck);
+        return Err(Error::TypeCheck);
     }
     let size = strings::current_length(m, stack, cells, 0);
     if NAME_MOST < size as usize {
-        return Did::Fail(Error::LimitCheck);
+        return Err(Error::LimitCheck);
     }
     let mut name = [0u8; NAME_MOST];
     strings::read_bytes(m, stack, cells, 0, size, &mut name);
@@ -88,19 +98,24 @@ pub fn cvn(m: Machine, stack: &mut [u32], dict: &mut [u32], cells: &mut [u32]) -
 }
 
 // Item 0 gives way to the literal name of these bytes, which takes a slot where it has none.
-fn name_item(m: Machine, stack: &mut [u32], dict: &mut [u32], cells: &mut [u32], name: &[u8]) -> Did
+fn name_item(
+    m: Machine,
+    stack: &mut [u32],
+    dict: &mut [u32],
+    cells: &mut [u32],
+    name: &[u8],
+) -> Result<Machine, Error>
     requires { (1 ≤ m.depth) × (length name.now ≤ name_most) × Represented m stack.old dict.old cells.old }
     ensures { DoesDictionary (item_named name.now) m stack.old stack.new dict.old dict.new cells.old cells.new result }
 {
-    let slot = dictionary::find(m, dict, name);
-    if slot < m.names {
-        return Did::Ok(dictionary::put_name(m, stack, cells, slot as u32, 0));
+    if let Some(slot) = dictionary::find(m, dict, name) {
+        return Ok(dictionary::put_name(m, stack, cells, slot as u32, 0));
     }
     if dict.len() < DICTIONARY_WIDTH * m.names + DICTIONARY_WIDTH {
-        return Did::Fail(Error::LimitCheck);
+        return Err(Error::LimitCheck);
     }
     let r = dictionary::add(m, dict, name);
-    Did::Ok(dictionary::put_name(r, stack, cells, slot as u32, 0))
+    Ok(dictionary::put_name(r, stack, cells, m.names as u32, 0))
 }
 
 // Each element of the procedure that is item 0 is bound.
@@ -110,33 +125,31 @@ fn bind_elements(m: Machine, stack: &[u32], dict: &[u32], cells: &mut [u32]) -> 
 {
     let n = elements::size_of(m, stack, cells, 0);
     let mut r = m;
-    let mut q = 0;
-    while q < n {
+    for q in 0..n {
         r = bind_element(r, stack, dict, cells, q);
-        q = q + 1;
     }
     r
 }
 
 // Element q of the procedure that is item 0, where it is an executable name that is bound to an operator, becomes the operator.
-fn bind_element(m: Machine, stack: &[u32], dict: &[u32], cells: &mut [u32], q: u32) -> Machine
+fn bind_element(mut m: Machine, stack: &[u32], dict: &[u32], cells: &mut [u32], q: u32) -> Machine
     requires { (1 ≤ m.depth) × HasElementAt q m stack.now dict.now cells.old }
     ensures binds_element { BindsElement q m result stack.now dict.now cells.old cells.new }
     ensures depth_value { result.depth ≡ m.depth }
 {
-    let h = stack[STACK_WIDTH * (m.depth - 1) + ITEM_PAYLOAD];
+    let h = machine::item(stack, m.depth - 1).pay;
     let c = heap::seek(cells, h, q);
-    if heap::get(cells, c, 0) != TAG_EXECUTABLE {
+    let name = heap::value_of(cells, c);
+    if name.tag != TAG_EXECUTABLE {
         return m;
     }
-    let slot = heap::get(cells, c, 1) as usize;
-    if dictionary::binding_tag(dict, slot) != TAG_OPERATOR {
+    let slot = name.pay as usize;
+    let bound = dictionary::binding(dict, slot);
+    if bound.tag != TAG_OPERATOR {
         return m;
     }
-    let pay = dictionary::binding_payload(dict, slot);
     let lists = m.lists;
-    let left = heap::assign(lists, cells, c, TAG_OPERATOR, pay);
-    let mut r = m;
-    r.lists = left;
-    r
+    let left = heap::assign(lists, cells, c, bound);
+    m.lists = left;
+    m
 }

@@ -39,7 +39,7 @@ use Rattle.machine.proofs.Roots.{roots_at, set_here, set_there}
 use Rattle.machine.proofs.Copying.{word_of}
 use Rattle.machine.proofs.Worlds as Worlds
 use Rattle.machine.proofs.Restacking.{with_depth}
-use Rattle.elements.specs.Elements.{free_cells, array_made, string_made}
+use Rattle.elements.specs.Elements.{MakesObject, free_cells, array_made, string_made}
 use Rattle.elements.proofs.Arrays.{array_tags}
 use Rattle.machine.proofs.Copying.{held, low}
 use Rattle.machine.proofs.Rehousing.{roots_store, rehoused}
@@ -166,30 +166,39 @@ module _ {m : Machine} {st e d c l : List ℕ} {μ : Floo.Machine} (R : Rep m st
 
 -- ---- an array, and a string
 
-module _ {m : Machine} {st e d c l : List ℕ} {μ : Floo.Machine} (R : Rep m st e d c l μ) (i k : ℕ) (h : m.depth ≡ k + suc i) (p : Nameless (get_or μ.stack i null))
-    (n x : ℕ) {s : Lists} {c' : List ℕ} (z : s.dead ≡ m.lists.dead) where
-  pub array_moves : Made 0 n x m.lists c s c' → MovesHeap (array_made i n) m (with_depth m.depth s m) st (set (set st (2 * k) 9) (2 * k + 1) x) c c'
+module _ {m : Machine} {st e d c l : List ℕ} {μ : Floo.Machine} (R : Rep m st e d c l μ) (i : ℕ) (inside : i < m.depth) (p : Nameless (get_or μ.stack i null))
+    (n : ℕ) where
+  abbrev k : ℕ
+  k = m.depth - 1 - i
+
+  h : m.depth ≡ k + suc i
+  h = omega (arith, inside)
+
+  pub array_moves : {r : Machine} {st' c' : List ℕ} → MakesObject i 0 n 9 m r st st' c c' → MovesHeap (array_made i n) m r st st' c c'
   unfolding array_made make made
-  array_moves M =
+  array_moves {r} {st'} {c'} N =
       record {
         moves = λ e d l μ R'.
             let H = R'.stored in
-            made_rep R' i k h (plain_tag R i k h p) x (elements (replicate n null)) (rep_array H.full H.objects refl x n M)
-            (M _ _ H.full).6 (z ∙ H.none_dead)
-            (array false (length μ.store)) 9 (omega arith) (new_array_lem R'.world.ρ μ.store x (replicate n null));
+            subst (λ y. Rep y st' e d c' l (array_made i n μ)) (sym N.rest)
+            (rw N.words
+            (made_rep R' i k h (plain_tag R i k h p) N.header (elements (replicate n null)) (rep_array H.full H.objects refl N.header n N.made)
+            (N.made _ _ H.full).6 (N.none_dead ∙ H.none_dead)
+            (array false (length μ.store)) 9 (omega arith) (new_array_lem R'.world.ρ μ.store N.header (replicate n null))));
       }
 
-  pub string_moves : Made (n + 1) ((n + 7) / 8) x m.lists c s c'
-      → MovesHeap (string_made i n) m (with_depth m.depth s m) st (set (set st (2 * k) 8) (2 * k + 1) x) c c'
+  pub string_moves : {r : Machine} {st' c' : List ℕ} → MakesObject i (n + 1) ((n + 7) / 8) 8 m r st st' c c' → MovesHeap (string_made i n) m r st st' c c'
   unfolding string_made make made
-  string_moves M =
-      let N = subst (λ kind. Made kind ((n + 7) / 8) x m.lists c s c') (add-one n) M in
+  string_moves {r} {st'} {c'} N =
+      let M = subst (λ kind. Made kind ((n + 7) / 8) N.header m.lists c r.lists c') (add-one n) N.made in
       record {
         moves = λ e d l μ R'.
             let H = R'.stored in
-            made_rep R' i k h (plain_tag R i k h p) x (text (replicate n 0)) (rep_string H.full H.objects refl x n N)
-            (N _ _ H.full).6 (z ∙ H.none_dead)
-            (string (length μ.store)) 8 (omega arith) (new_string R'.world.ρ μ.store x (replicate n 0));
+            subst (λ y. Rep y st' e d c' l (string_made i n μ)) (sym N.rest)
+            (rw N.words
+            (made_rep R' i k h (plain_tag R i k h p) N.header (text (replicate n 0)) (rep_string H.full H.objects refl N.header n M)
+            (M _ _ H.full).6 (N.none_dead ∙ H.none_dead)
+            (string (length μ.store)) 8 (omega arith) (new_string R'.world.ρ μ.store N.header (replicate n 0))));
       }
 
 -- ---- room

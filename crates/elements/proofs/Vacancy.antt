@@ -1,6 +1,7 @@
 -- The test of room for new objects: it passes where their cells are at most the free ones and all else fits, and fails with VMerror where they are more;
 -- the free cells are those that no held object takes. So an operator that makes objects needs only to compare two numbers.
 -- Assumes nothing.
+use Rattle.std.specs.Prelude.{Ok, Err}
 use mathlib.Core.Path.{◌≡◌, refl, ap, ◌∙◌}
 use mathlib.Core.List.{List, [], ◌∷◌, ◌++◌}
 use Prim.Native.Nat.{ℕ, ◌/◌, ◌≤◌, ◌<◌}
@@ -20,7 +21,6 @@ use Rattle.store.proofs.Rooming.{lists_for}
 use Rattle.machine.specs.Rep.{Rep, MovesHeap}
 use Rattle.machine.specs.Room.{lent, fitted, DoesHeap}
 use Rattle.machine.specs.declared.Machine.{Machine}
-use Rattle.machine.specs.declared.Did.TheVariants.{Ok, Fail}
 use Rattle.machine.proofs.Rooms.{stack_fits, exec_fits, dictionary_fits, log_fits}
 use Rattle.machine.proofs.Rooted.{rooted}
 use Rattle.elements.specs.Elements.{free_cells}
@@ -89,7 +89,7 @@ module _ {f : Floo.Machine → Result Floo.Machine} {m : Machine} {s c : List �
   -- The objects that it would make want more cells than are free.
   pub full_heap : ((e d l : List ℕ) (μ : Floo.Machine) → Rep m s e d c l μ
       → (after : Floo.Machine) × (new : List Object) × (f μ ≡ ok after) × Makes new μ after × (length after.stack ≤ length s / 2) × (free_cells m c < sum_of cells new))
-      → DoesHeap f m s s c c (Fail VmError)
+      → DoesHeap f m s s c c (Err VmError)
   unfolding fitted ◌>>=◌
   full_heap h =
       record {

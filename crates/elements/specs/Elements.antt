@@ -1,10 +1,11 @@
 -- What the primitives on elements and bytes do to a machine of the definition, and what they ask of it. Items are counted from the top, from 0.
 -- Assumes nothing.
-use Rattle.std.specs.Prelude.{◌≡◌, Bool, true, false, List, ℕ, ◌+◌, ◌-◌, ◌<◌, length, get_or, set, replicate}
+use Rattle.std.specs.Prelude.{◌≡◌, Bool, true, false, List, ℕ, ◌+◌, ◌-◌, ◌*◌, ◌<◌, length, get_or, set, replicate}
 use Rattle.semantics.specs.Values.{Value, integer, boolean, null, mark, operator, name, string, array, Object, elements, text, ok, object_id}
 use Rattle.semantics.specs.Machine as Floo
 use Rattle.semantics.specs.Machine.{with_stack, object, elements_of, bytes_of, make, made, change, member, protect}
 use Rattle.heap.specs.Chain.{live}
+use Rattle.heap.specs.Grow.{Made}
 use Rattle.heap.specs.Shape.{Ghost, Shape, cells}
 use Rattle.store.specs.Rep.{is_text, object_at}
 use Rattle.machine.specs.Places.{Nameless}
@@ -143,6 +144,15 @@ array_made i n μ = with_stack (set μ.stack i (array false (made μ))) (make (e
 -- Item i gives way to a new string, of n zeros.
 unfoldable pub string_made : ℕ → ℕ → Floo.Machine → Floo.Machine
 string_made i n μ = with_stack (set μ.stack i (string (made μ))) (make (text (replicate n 0)) μ)
+
+-- Item i is a new object of header `header`, of this kind and size, by the words: no place but the item names it.
+pub record MakesObject (i kind size tag : ℕ) (m r : Machine) (s s' c c' : List ℕ) : Type 0 where
+  pub header : ℕ
+  pub made : Made kind size header m.lists c r.lists c'
+  pub none_dead : r.lists.dead ≡ m.lists.dead
+  pub used : r.lists.listed + m.lists.edge + size + 1 ≡ m.lists.listed + r.lists.edge
+  pub words : s' ≡ set (set s (2 * (m.depth - 1 - i)) tag) (2 * (m.depth - 1 - i) + 1) header
+  pub rest : r ≡ record { depth = m.depth; frames = m.frames; names = m.names; written = m.written; lists = r.lists; stopped = m.stopped }
 
 -- ---- by header
 

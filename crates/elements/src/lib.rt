@@ -2,14 +2,15 @@
 // the machine that they stand for what its contract names. `put_byte_at` takes a string by its header, and shows the world.
 #![tactic(auto)]
 
-ghost use Rattle.std.specs.Prelude.{◌≡◌, List, ℕ, ◌+◌, ◌*◌, ◌/◌, ◌^◌, ◌≤◌, ◌<◌, length};
+ghost use Rattle.std.specs.Prelude.{◌≡◌, List, ℕ, ◌+◌, ◌-◌, ◌*◌, ◌/◌, ◌^◌, ◌≤◌, ◌<◌, length};
 ghost use Rattle.store.specs.Rep.{byte_of, with_byte};
+ghost use Rattle.machine.specs.Words.{item_payload};
 ghost use Rattle.machine.specs.Rep.{Somewhere, MovesHeap};
 ghost use Rattle.elements.specs.Elements.{HasArray, HasElement, HasString, HasByte, HasObject, HasPlain, HasCell, SomewhereThat};
-ghost use Rattle.elements.specs.Elements.{free_cells, ItemTag, ArraySize, StringSize, ByteOf, ItemSealed, item_sealed, element_copied, element_put, byte_put, PutsByte, array_made, string_made};
+ghost use Rattle.elements.specs.Elements.{free_cells, ItemTag, ArraySize, StringSize, ByteOf, ItemSealed, item_sealed, element_copied, element_put, byte_put, PutsByte, array_made, string_made, MakesObject};
 
-use machine::{ITEM_PAYLOAD, Machine, TAG_ARRAY, TAG_STRING};
-use semantics::STACK_WIDTH;
+use heap::Value;
+use machine::{Machine, TAG_ARRAY, TAG_STRING};
 
 // The tag of item i.
 // Ruled out: an item counted from the bottom; the payload read for the tag.
@@ -17,8 +18,7 @@ pub fn tag_of(m: Machine, stack: &[u32], i: usize) -> u32
     requires { (i < m.depth) × (2 * m.depth ≤ length stack.now) }
     ensures { ItemTag i m stack.now result }
 {
-    let k = m.depth - 1 - i;
-    stack[STACK_WIDTH * k]
+    machine::item(stack, m.depth - 1 - i).tag
 }
 
 // How many cells are free.
@@ -37,8 +37,7 @@ pub fn size_of(m: Machine, stack: &[u32], cells: &[u32], i: usize) -> u32
     requires { (i < m.depth) × SomewhereThat (HasArray i) m stack.now cells.now }
     ensures { ArraySize i m stack.now cells.now result }
 {
-    let k = m.depth - 1 - i;
-    let h = stack[STACK_WIDTH * k + ITEM_PAYLOAD];
+    let h = header_of(m, stack, i);
     heap::size(cells, h)
 }
 
@@ -48,8 +47,7 @@ pub fn is_sealed(m: Machine, stack: &[u32], cells: &[u32], i: usize) -> bool
     requires { (i < m.depth) × SomewhereThat (HasObject i) m stack.now cells.now }
     ensures { ItemSealed i m stack.now cells.now result }
 {
-    let k = m.depth - 1 - i;
-    let h = stack[STACK_WIDTH * k + ITEM_PAYLOAD];
+    let h = header_of(m, stack, i);
     heap::is_sealed(cells, h)
 }
 
@@ -59,15 +57,14 @@ pub fn seal(m: Machine, stack: &[u32], cells: &mut [u32], i: usize)
     requires { (i < m.depth) × SomewhereThat (HasObject i) m stack.now cells.old }
     ensures { MovesHeap (item_sealed i) m m stack.now stack.now cells.old cells.new }
 {
-    let k = m.depth - 1 - i;
-    let h = stack[STACK_WIDTH * k + ITEM_PAYLOAD];
+    let h = header_of(m, stack, i);
     heap::seal(cells, h);
 }
 
 // Item j gives way to a copy of element q of the array that is item i. The element is counted before the item is let go: the item may be the array itself.
 // Ruled out: the array let go before its element is counted; an element of another place.
 pub fn copy_element(
-    mut m: Machine,
+    m: Machine,
     stack: &mut [u32],
     cells: &mut [u32],
     i: usize,
@@ -78,21 +75,10 @@ pub fn copy_element(
     ensures moves_heap { MovesHeap (element_copied i q j) m result stack.old stack.new cells.old cells.new }
     ensures depth_value { result.depth ≡ m.depth }
 {
-    let n = m.depth;
-    let k = n - 1 - i;
-    let o = n - 1 - j;
-    let lists = m.lists;
-    let h = stack[STACK_WIDTH * k + ITEM_PAYLOAD];
+    let h = header_of(m, stack, i);
     let c = heap::seek(cells, h, q);
-    let tag = heap::get(cells, c, 0);
-    let pay = heap::get(cells, c, 1);
-    let old = stack[STACK_WIDTH * o];
-    let was = stack[STACK_WIDTH * o + ITEM_PAYLOAD];
-    let left = machine::recount(lists, cells, old, was, tag, pay);
-    stack[STACK_WIDTH * o] = tag;
-    stack[STACK_WIDTH * o + ITEM_PAYLOAD] = pay;
-    m.lists = left;
-    m
+    let value = heap::value_of(cells, c);
+    m.put_value(stack, cells, j, value)
 }
 
 // Element q of the array that is item i becomes a copy of item j.
@@ -109,15 +95,11 @@ pub fn put_element(
     ensures moves_heap { MovesHeap (element_put i q j) m result stack.now stack.now cells.old cells.new }
     ensures depth_value { result.depth ≡ m.depth }
 {
-    let n = m.depth;
-    let k = n - 1 - i;
-    let o = n - 1 - j;
     let lists = m.lists;
-    let h = stack[STACK_WIDTH * k + ITEM_PAYLOAD];
-    let tag = stack[STACK_WIDTH * o];
-    let pay = stack[STACK_WIDTH * o + ITEM_PAYLOAD];
+    let h = header_of(m, stack, i);
+    let value = machine::item(stack, m.depth - 1 - j);
     let c = heap::seek(cells, h, q);
-    let left = heap::assign(lists, cells, c, tag, pay);
+    let left = heap::assign(lists, cells, c, value);
     m.lists = left;
     m
 }
@@ -128,8 +110,7 @@ pub fn maximum(m: Machine, stack: &[u32], cells: &[u32], i: usize) -> u32
     requires { (i < m.depth) × SomewhereThat (HasString i) m stack.now cells.now }
     ensures { StringSize i m stack.now cells.now result }
 {
-    let k = m.depth - 1 - i;
-    let h = stack[STACK_WIDTH * k + ITEM_PAYLOAD];
+    let h = header_of(m, stack, i);
     heap::kind(cells, h) - 1
 }
 
@@ -139,8 +120,7 @@ pub fn get_byte(m: Machine, stack: &[u32], cells: &[u32], i: usize, q: u32) -> u
     requires { (i < m.depth) × SomewhereThat (HasByte i q) m stack.now cells.now }
     ensures { ByteOf i q m stack.now cells.now result }
 {
-    let k = m.depth - 1 - i;
-    let h = stack[STACK_WIDTH * k + ITEM_PAYLOAD];
+    let h = header_of(m, stack, i);
     let c = heap::seek(cells, h, q / 8);
     let w = heap::get(cells, c, (q % 8 / 4) as usize);
     byte_of(w, q % 8 % 4)
@@ -152,8 +132,7 @@ pub fn put_byte(m: Machine, stack: &[u32], cells: &mut [u32], i: usize, q: u32, 
     requires { (i < m.depth) × SomewhereThat (HasByte i q) m stack.now cells.old }
     ensures { MovesHeap (byte_put i q b) m m stack.now stack.now cells.old cells.new }
 {
-    let k = m.depth - 1 - i;
-    let h = stack[STACK_WIDTH * k + ITEM_PAYLOAD];
+    let h = header_of(m, stack, i);
     put_byte_at(cells, h, q, b);
 }
 
@@ -179,37 +158,56 @@ pub fn byte_of(w: u32, j: u32) -> u8
 
 // Item i, which names no object, gives way to a new array of n nulls.
 // Ruled out: an array that no place names; one of another length; a cell taken that is not its own.
-pub fn new_array(mut m: Machine, stack: &mut [u32], cells: &mut [u32], i: usize, n: u32) -> Machine
+pub fn new_array(m: Machine, stack: &mut [u32], cells: &mut [u32], i: usize, n: u32) -> Machine
     requires { (i < m.depth) × (n + 1 ≤ free_cells m cells.old) × SomewhereThat (HasPlain i) m stack.old cells.old }
     ensures moves_heap { MovesHeap (array_made i n) m result stack.old stack.new cells.old cells.new }
     ensures depth_value { result.depth ≡ m.depth }
     ensures room { free_cells result cells.new + (n + 1) ≡ free_cells m cells.old }
 {
-    let k = m.depth - 1 - i;
-    let lists = m.lists;
-    let t = heap::allocate(lists, cells, 0, n);
-    let left = t.lists;
-    stack[STACK_WIDTH * k] = TAG_ARRAY;
-    stack[STACK_WIDTH * k + ITEM_PAYLOAD] = t.cell;
-    m.lists = left;
-    m
+    new_object(m, stack, cells, i, 0, n, TAG_ARRAY)
 }
 
 // Item i, which names no object, gives way to a new string of maximum n, all zeros.
 // Ruled out: a last cell that is missing where n is no multiple of 8; bytes left from before.
-pub fn new_string(mut m: Machine, stack: &mut [u32], cells: &mut [u32], i: usize, n: u32) -> Machine
+pub fn new_string(m: Machine, stack: &mut [u32], cells: &mut [u32], i: usize, n: u32) -> Machine
     requires { (i < m.depth) × ((n + 7) / 8 + 1 ≤ free_cells m cells.old) × SomewhereThat (HasPlain i) m stack.old cells.old }
     ensures moves_heap { MovesHeap (string_made i n) m result stack.old stack.new cells.old cells.new }
     ensures depth_value { result.depth ≡ m.depth }
 {
+    new_object(m, stack, cells, i, n + 1, (n + 7) / 8, TAG_STRING)
+}
+
+// Item i, which names no object, gives way to a new object of this kind and so many cells. What the tag has to do with the kind is the caller's.
+fn new_object(
+    mut m: Machine,
+    stack: &mut [u32],
+    cells: &mut [u32],
+    i: usize,
+    kind: u32,
+    size: u32,
+    tag: u32,
+) -> Machine
+    requires { (i < m.depth) × (size + 1 ≤ free_cells m cells.old) × Somewhere m stack.old cells.old }
+    ensures makes_object { MakesObject i kind size tag m result stack.old stack.new cells.old cells.new }
+    ensures depth_value { result.depth ≡ m.depth }
+    ensures room { free_cells result cells.new + (size + 1) ≡ free_cells m cells.old }
+{
     let k = m.depth - 1 - i;
     let lists = m.lists;
-    let t = heap::allocate(lists, cells, n + 1, (n + 7) / 8);
+    let t = heap::allocate(lists, cells, kind, size);
     let left = t.lists;
-    stack[STACK_WIDTH * k] = TAG_STRING;
-    stack[STACK_WIDTH * k + ITEM_PAYLOAD] = t.cell;
+    machine::set_item(stack, k, Value { tag, pay: t.cell });
     m.lists = left;
     m
+}
+
+// The header that item i names.
+#[inline(always)]
+fn header_of(m: Machine, stack: &[u32], i: usize) -> u32
+    requires { (i < m.depth) × (2 * m.depth ≤ length stack.now) }
+    ensures { result ≡ item_payload stack.now (m.depth - 1 - i) }
+{
+    machine::item(stack, m.depth - 1 - i).pay
 }
 
 // The word with b for its byte j.
@@ -226,14 +224,5 @@ fn unit(j: u32) -> u32
     requires { j < 4 }
     ensures { result ≡ 2 ^ (8 * j) }
 {
-    if j == 0 {
-        return 1;
-    }
-    if j == 1 {
-        return 256;
-    }
-    if j == 2 {
-        return 65536;
-    }
-    16777216
+    1 << (8 * j)
 }

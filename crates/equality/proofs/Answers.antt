@@ -1,7 +1,8 @@
 -- eq and ne by one law of the definition's `equality f`: both operands give way to what f makes of the comparison.
 -- Assumes nothing.
+use Rattle.std.specs.Prelude.{Ok, Err}
 use mathlib.Core.Path.{◌≡◌, refl, sym, ap, ◌∙◌, subst}
-use mathlib.Core.Bool.{Bool, true, false}
+use mathlib.Core.Bool.{Bool, true, false, not, beq}
 use mathlib.Core.List.{List, ◌∷◌}
 use Prim.Native.Nat.{ℕ, ◌-◌, ◌+◌, ◌*◌, ◌≤◌, ◌<◌}
 use native.Mathlib.Omega.{arith}
@@ -19,7 +20,6 @@ use Rattle.machine.specs.Moves.{dropped}
 use Rattle.machine.specs.Operands.{Pushes, a_boolean}
 use Rattle.machine.specs.Room.{DoesHeap}
 use Rattle.machine.specs.declared.Machine.{Machine}
-use Rattle.machine.specs.declared.Did.TheVariants.{Ok, Fail}
 use Rattle.machine.proofs.Operands.{pop2_some, pop2_under}
 use Rattle.machine.proofs.Outcomes.{stack_depth, two_items, fails_heap, moves_heap, KeepsStore}
 use Rattle.equality.specs.Comparing.{Compares, answered, name_of, turned_by}
@@ -28,6 +28,14 @@ pub named_is : (negated : Bool) (μ : Floo.Machine) → perform (name_of negated
 unfolding textual perform find table ◌is◌ name_of turned_by
 named_is false μ = refl
 named_is true μ = refl
+
+-- The answer differs from `negated` where the turned answer holds.
+pub turned : (b negated : Bool) → not (beq b negated) ≡ turned_by negated b
+unfolding turned_by
+turned true true = refl
+turned true false = refl
+turned false true = refl
+turned false false = refl
 
 answered_store : (b : Bool) → KeepsStore (answered b)
 unfolding answered dropped push with_stack
@@ -51,7 +59,7 @@ equality_gives f μ {rest = rest} {b = b} split says =
     ∙ ap (λ (l : List Value). ok (push (boolean (f b)) (with_stack (drop 1 (drop 1 l)) μ))) (sym split)
 
 module _ {op : Floo.Machine → Result Floo.Machine} (f : Bool → Bool) (named : (μ : Floo.Machine) → op μ ≡ equality f μ) {m : Machine} {s c : List ℕ} where
-  pub equality_short : m.depth < 2 → DoesHeap op m s s c c (Fail StackUnderflow)
+  pub equality_short : m.depth < 2 → DoesHeap op m s s c c (Err StackUnderflow)
   equality_short h = fails_heap (λ e d l μ R. named μ ∙ equality_none f μ (omega (arith, stack_depth R)))
 
   pub equality_good : {r b : Bool} {m' : Machine} {s' c' : List ℕ}

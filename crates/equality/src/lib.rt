@@ -11,22 +11,25 @@ ghost use Rattle.elements.specs.Elements.{HasString, ByteOf, SomewhereThat};
 ghost use Rattle.equality.specs.Comparing.{Compares, HasStrings, SameBytes, answered, name_of, turned_by};
 
 use machine::{
-    Did, ITEM_PAYLOAD, Machine, TAG_ARRAY, TAG_BOOLEAN, TAG_EXECUTABLE, TAG_LITERAL, TAG_MARK,
-    TAG_NULL, TAG_PROCEDURE, TAG_STRING,
+    ITEM_PAYLOAD, Machine, TAG_ARRAY, TAG_BOOLEAN, TAG_EXECUTABLE, TAG_LITERAL, TAG_MARK, TAG_NULL,
+    TAG_PROCEDURE, TAG_STRING,
 };
 use semantics::{Error, STACK_WIDTH};
 
 // eq, or ne where `negated` holds. In one, so that the comparison stands once in the code.
 // Ruled out: a literal and an executable name that differ; two strings that are equal only where they are one; an error for operands of two kinds.
-pub fn compare(m: Machine, stack: &mut [u32], cells: &mut [u32], negated: bool) -> Did
+pub fn compare(
+    m: Machine,
+    stack: &mut [u32],
+    cells: &mut [u32],
+    negated: bool,
+) -> Result<Machine, Error>
     requires { Somewhere m stack.old cells.old }
     ensures { DoesHeap (perform (name_of negated)) m stack.old stack.new cells.old cells.new result }
 {
-    if m.depth < 2 {
-        return Did::Fail(Error::StackUnderflow);
-    }
-    let truth = turned(equal(m, stack, cells), negated);
-    Did::Ok(answer(m, stack, cells, truth))
+    m.needs(2)?;
+    let truth = equal(m, stack, cells) != negated;
+    Ok(answer(m, stack, cells, truth))
 }
 
 // Whether the two topmost items are equal. Of null and mark the payload says nothing.
@@ -61,8 +64,7 @@ fn same_bytes(m: Machine, stack: &[u32], cells: &[u32]) -> bool
     ensures { SameBytes m stack.now cells.now result }
 {
     let most = elements::maximum(m, stack, cells, 1);
-    let mut q = 0;
-    while q < most {
+    for q in 0..most {
         let a = byte_or_zero(m, stack, cells, 1, q);
         if a != byte_or_zero(m, stack, cells, 0, q) {
             return false;
@@ -70,9 +72,8 @@ fn same_bytes(m: Machine, stack: &[u32], cells: &[u32]) -> bool
         if a == 0 {
             return true;
         }
-        q = q + 1;
     }
-    byte_or_zero(m, stack, cells, 0, q) == 0
+    byte_or_zero(m, stack, cells, 0, most) == 0
 }
 
 // Byte q of the string that is item i; 0 past its maximum, as there are no current bytes there either.
@@ -90,23 +91,11 @@ fn byte_or_zero(m: Machine, stack: &[u32], cells: &[u32], i: usize, q: u32) -> u
 fn kind_of(tag: u32) -> u32
     ensures { result ≡ tag_as false tag }
 {
-    if tag == TAG_EXECUTABLE {
-        return TAG_LITERAL;
+    match tag {
+        TAG_EXECUTABLE => TAG_LITERAL,
+        TAG_PROCEDURE => TAG_ARRAY,
+        _ => tag,
     }
-    if tag == TAG_PROCEDURE {
-        return TAG_ARRAY;
-    }
-    tag
-}
-
-// The truth value, or the other one.
-fn turned(truth: bool, negated: bool) -> bool
-    ensures { result ≡ turned_by negated truth }
-{
-    if negated {
-        return !truth;
-    }
-    truth
 }
 
 // The two topmost items give way to a truth value.
@@ -116,8 +105,5 @@ fn answer(m: Machine, stack: &mut [u32], cells: &mut [u32], truth: bool) -> Mach
 {
     let one = m.drop(stack, cells);
     let two = one.drop(stack, cells);
-    if truth {
-        return two.push_scalar(stack, TAG_BOOLEAN, 1);
-    }
-    two.push_scalar(stack, TAG_BOOLEAN, 0)
+    two.push_scalar(stack, TAG_BOOLEAN, truth as u32)
 }

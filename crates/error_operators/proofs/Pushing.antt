@@ -1,5 +1,6 @@
 -- A stored name is pushed by its word: null goes first, and the name takes its place. errorname and command push the one and the other.
 -- Assumes nothing.
+use Rattle.std.specs.Prelude.{Ok, Err}
 use mathlib.Core.Path.{◌≡◌, refl, sym, ap, ◌∙◌, subst}
 use mathlib.Core.List.{List, ◌∷◌}
 use mathlib.Core.Option.{Option, none, some}
@@ -21,8 +22,7 @@ use Rattle.machine.specs.Operands.{a_null, Pushes}
 use Rattle.machine.specs.Rep.{Rep, Noted, nothing, noted}
 use Rattle.machine.specs.Room.{lent, fitted}
 use Rattle.machine.specs.declared.Machine.{Machine}
-use Rattle.machine.specs.declared.Did.{Did}
-use Rattle.machine.specs.declared.Did.TheVariants.{Ok, Fail}
+use Rattle.machine.specs.Answers.{Did}
 use Rattle.machine.proofs.Outcomes.{stack_depth}
 use Rattle.machine.proofs.Rooms.{room_stack, rep_passes, dictionary_fits, exec_fits}
 use Rattle.dictionary.specs.Bindings.{NamedStack, PutsName}
@@ -46,7 +46,7 @@ noted_some {names} (noted {k = k} {n = n} h) z =
 -- ---- push_noted
 
 module _ {w : ℕ} {m : Machine} {s c : List ℕ} where
-  pub noted_over : length s < 2 * m.depth + 2 → PushesNoted w m s s c c (Fail StackOverflow)
+  pub noted_over : length s < 2 * m.depth + 2 → PushesNoted w m s s c c (Err StackOverflow)
   unfolding noted_pushed fitted lent push with_stack ◌>>=◌
   noted_over over = record {
     does = λ e d l μ R o N.
@@ -92,7 +92,7 @@ latest_pushed : {f : Floo.Machine → Result Floo.Machine} {w : ℕ} {m : Machin
     → PushesNoted w m s s' c c' r
     → DoesDictionary f m s s' d d c c' r
 unfolding fitted
-latest_pushed {s = s} {d = d} {c = c} (Fail x) h P = record {
+latest_pushed {s = s} {d = d} {c = c} (Err x) h P = record {
   does = λ e l μ R.
       let o = h e l μ R in
       let a = P.does e d l μ R o.0 o.1 in

@@ -1,5 +1,6 @@
 -- onerror by the tags of its operands and by the row of the error that its name is, and what each of its returns shows.
 -- Assumes nothing.
+use Rattle.std.specs.Prelude.{Ok, Err}
 use mathlib.Core.Path.{◌≡◌, refl, ap, ◌∙◌}
 use mathlib.Core.Bool.{true, false}
 use mathlib.Core.List.{List}
@@ -19,7 +20,6 @@ use Rattle.machine.specs.Words.{item_tag, item_payload}
 use Rattle.machine.specs.Rep.{Somewhere, MovesHeap}
 use Rattle.machine.specs.Moves.{dropped}
 use Rattle.machine.specs.declared.Machine.{Machine}
-use Rattle.machine.specs.declared.Did.TheVariants.{Ok, Fail}
 use Rattle.machine.proofs.Outcomes.{stack_depth}
 use Rattle.dictionary.proofs.Rebinding.{slot_room}
 use Rattle.handlers.specs.Handling.{NamesRow, BindsHandler}
@@ -60,11 +60,11 @@ abbrev slot_in : Machine → List ℕ → ℕ
 slot_in m s = item_payload s (second m)
 
 module _ {m : Machine} {s d c : List ℕ} where
-  pub onerror_short : m.depth < 2 → DoesDictionary (perform (bytes "onerror")) m s s d d c c (Fail StackUnderflow)
+  pub onerror_short : m.depth < 2 → DoesDictionary (perform (bytes "onerror")) m s s d d c c (Err StackUnderflow)
   onerror_short h = fails (λ e l μ R. onerror_is μ ∙ named_under setting μ (omega (arith, stack_depth R)))
 
   module _ (two : 2 ≤ m.depth) where
-    pub onerror_mistyped : (item_tag s (second m) ≡ 5 → ⊥) → DoesDictionary (perform (bytes "onerror")) m s s d d c c (Fail TypeCheck)
+    pub onerror_mistyped : (item_tag s (second m) ≡ 5 → ⊥) → DoesDictionary (perform (bytes "onerror")) m s s d d c c (Err TypeCheck)
     onerror_mistyped q = fails (λ e l μ R. onerror_is μ ∙ named_typed setting R (second m) (omega arith) q)
 
     module _ (q : item_tag s (second m) ≡ 5) where
@@ -74,7 +74,7 @@ module _ {m : Machine} {s d c : List ℕ} where
           (slot_room R (slot_in m s) N.text N.slot, R.rooms.dict_few)
 
       module _ {j : ℕ} (X : NamesRow d (slot_in m s) j) where
-        pub onerror_unknown : error_count ≤ j → DoesDictionary (perform (bytes "onerror")) m s s d d c c (Fail RangeCheck)
+        pub onerror_unknown : error_count ≤ j → DoesDictionary (perform (bytes "onerror")) m s s d d c c (Err RangeCheck)
         onerror_unknown high =
             fails
             (λ e l μ R.

@@ -9,7 +9,7 @@ use Rattle.machine.specs.Places.{keys}
 use Rattle.machine.specs.Rep.{Rep, Noted, Answer}
 use Rattle.machine.specs.Room.{lent, fitted}
 use Rattle.machine.specs.declared.Machine.{Machine}
-use Rattle.machine.specs.declared.Did.{Did}
+use Rattle.machine.specs.Answers.{Did}
 
 unfoldable pub noted_pushed : Option (List ℕ) → Floo.Machine → Result Floo.Machine
 noted_pushed o μ = ok (push (name_or_null o) μ)

@@ -1,5 +1,6 @@
 -- What is printed of a run: its log and outcome, read back from the buffers, or its refusal.
 -- Assumes nothing.
+use Rattle.std.specs.Prelude.{Ok, Err}
 use mathlib.Core.Path.{◌≡◌, refl, sym, ap, ◌∙◌, subst}
 use mathlib.Core.List.{List, ◌++◌}
 use Prim.Native.Nat.{ℕ, zero, suc, ◌+◌, ◌≤◌, ◌<◌}
@@ -14,9 +15,9 @@ use Rattle.semantics.specs.Steps.{initial}
 use Rattle.semantics.specs.Setup.{Lent, refusal, printed}
 use Rattle.text.specs.Writing.{Written}
 use Rattle.text.proofs.Pasting.{then, respelt}
-use Rattle.runner.specs.Promise.{Runs, AnswerIs, lent_of, the_run}
-use Rattle.runner.specs.declared.Answer.{Answer}
-use Rattle.runner.specs.declared.Answer.TheVariants.{Refused, Ran}
+use Rattle.runner.specs.Promise.{Answer, Runs, AnswerIs, lent_of, the_run}
+use Rattle.setup.specs.Lending.{number_of}
+use Rattle.setup.specs.declared.Refusal.{Refusal}
 use Rattle.runner.specs.declared.Report.{Report}
 use Rattle.floo.specs.Sizes.{fuel, sizes, page}
 use Rattle.floo.specs.Telling.{Within, told}
@@ -58,30 +59,31 @@ lent s e d c l o (p, q, u, v, w, x) = rw (p, q, u, v, w, x)
 
 module _ {script s s' e e' d d' c c' l l' o o' : List ℕ} {a : Answer} (runs : Runs script fuel s s' e e' d d' c c' l l' o o' a) where
   counted : (b : Answer) → AnswerIs script fuel s s' e e' d d' c c' l l' o o' b → length l' + length o' ≤ page → Within b l' o'
-  counted (Refused n) is h = tt
-  counted (Ran x) is h = let p = within is.1.log in let q = within is.1.outcome in (p, q, omega (arith, p, q, h))
+  counted (Err r) is h = tt
+  counted (Ok x) is h = let p = within is.1.log in let q = within is.1.outcome in (p, q, omega (arith, p, q, h))
 
   pub counts : length l' + length o' ≤ page → Within a l' o'
   counts h = counted a runs.answers h
 
   defined : (b : Answer) → AnswerIs script fuel s s' e e' d d' c c' l l' o o' b → printed script fuel (lent_of s e d c l o) ≡ told b l' o'
-  defined (Refused n) is = printed_refusal script (lent_of s e d c l o) n is.0 is.1
-  defined (Ran x) is = rw (read_back is.1.log, read_back is.1.outcome) (printed_run script (lent_of s e d c l o) is.0)
+  defined (Err r) is = printed_refusal script (lent_of s e d c l o) (number_of r) is.0 is.1
+  defined (Ok x) is = rw (read_back is.1.log, read_back is.1.outcome) (printed_run script (lent_of s e d c l o) is.0)
 
   pub prints : {page new : List ℕ} {r : ℕ} → Sized s e d c l o → Written 0 (told a l' o') page new r → Written 0 (printed script fuel sizes) page new r
   prints sized w = respelt (ap (printed script fuel) (sym (lent s e d c l o sized)) ∙ defined a runs.answers) w
 
 -- ---- an answer told
 
-pub within_run : (l o : List ℕ) {a : Answer} {x : Report} → a ≡ Ran x → Within a l o → (x.log ≤ length l) × (x.outcome ≤ length o) × (x.log + x.outcome ≤ page)
+pub within_run : (l o : List ℕ) {a : Answer} {x : Report} → a ≡ Ok x → Within a l o → (x.log ≤ length l) × (x.outcome ≤ length o) × (x.log + x.outcome ≤ page)
 within_run l o p h = subst (λ (b : Answer). Within b l o) p h
 
-pub parts : (l o : List ℕ) {a : Answer} {x : Report} → a ≡ Ran x → Within a l o → (length (take x.log l) ≡ x.log) × (length (take x.outcome o) ≡ x.outcome)
+pub parts : (l o : List ℕ) {a : Answer} {x : Report} → a ≡ Ok x → Within a l o → (length (take x.log l) ≡ x.log) × (length (take x.outcome o) ≡ x.outcome)
 parts l o p h = let few = within_run l o p h in (length-take-le _ _ few.0, length-take-le _ _ few.1)
 
-pub told_refusal : (l o : List ℕ) {a : Answer} {n : ℕ} {page new : List ℕ} {r : ℕ} → a ≡ Refused n → Written 0 (line (bytes "refused") (decimal n)) page new r → Written 0 (told a l o) page new r
-told_refusal l o p w = respelt (ap (λ (b : Answer). told b l o) p) w
+pub told_refusal : (l o : List ℕ) {a : Answer} {x : Refusal} {n : ℕ} {page new : List ℕ} {r : ℕ}
+    → a ≡ Err x → n ≡ number_of x → Written 0 (line (bytes "refused") (decimal n)) page new r → Written 0 (told a l o) page new r
+told_refusal l o p q w = respelt (ap (λ (b : Answer). told b l o) p ∙ ap (λ n. line (bytes "refused") (decimal n)) (sym q)) w
 
 pub told_run : (l o : List ℕ) {a : Answer} {x : Report} {page mid new : List ℕ} {next r : ℕ}
-    → a ≡ Ran x → Written 0 (take x.log l) page mid next → Written next (take x.outcome o) mid new r → Written 0 (told a l o) page new r
+    → a ≡ Ok x → Written 0 (take x.log l) page mid next → Written next (take x.outcome o) mid new r → Written 0 (told a l o) page new r
 told_run l o p u w = respelt (ap (λ (b : Answer). told b l o) p) (then (omega arith) u w)

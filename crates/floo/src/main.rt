@@ -10,11 +10,12 @@ ghost use Rattle.text.specs.Writing.{Written};
 ghost use Rattle.floo.specs.Sizes.{fuel, sizes};
 ghost use Rattle.floo.specs.Telling.{Within, told};
 
-use runner::Answer;
+use runner::Report;
 use semantics::{
     CELL_WIDTH, DICTIONARY_MOST, DICTIONARY_WIDTH, EXEC_MOST, EXEC_WIDTH, FUEL_MOST, HEAD_ROOM,
     ITEM_ROOM, SCRIPT_MOST, STACK_MOST, STACK_WIDTH,
 };
+use setup::Refusal;
 use std::io;
 use std::io::{Read, Write};
 
@@ -78,13 +79,18 @@ fn write_page(script: &[u8], page: &mut [u8; PAGE]) -> usize
 }
 
 // A refusal's line, or the start of the log and the start of the outcome.
-fn write_answer(answer: Answer, log: &[u8], outcome: &[u8], page: &mut [u8; PAGE]) -> usize
+fn write_answer(
+    answer: Result<Report, Refusal>,
+    log: &[u8],
+    outcome: &[u8],
+    page: &mut [u8; PAGE],
+) -> usize
     requires { Within answer log.now outcome.now }
     ensures { Written 0 (told answer log.now outcome.now) page.old page.new result }
 {
     match answer {
-        Answer::Refused(number) => text::write_number(page, 0, b"refused", number),
-        Answer::Ran(report) => {
+        Err(refusal) => text::write_number(page, 0, b"refused", refusal.number()),
+        Ok(report) => {
             let logged = report.log;
             let written = report.outcome;
             let next = text::copy(page, 0, &log[..logged]);

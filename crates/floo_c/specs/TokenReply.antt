@@ -6,8 +6,6 @@ use Rattle.semantics.specs.declared.Fault.{Fault}
 use Rattle.semantics.specs.declared.Fault.TheVariants.{BadNumber, BadEscape, OpenString, BadBrace, BadByte, OverLimit}
 use Rattle.semantics.specs.declared.Kind.{Kind}
 use Rattle.semantics.specs.declared.Kind.TheVariants.{Integer, String, LiteralName, ExecutableName, OpenBrace, CloseBrace, End}
-use Rattle.token.specs.declared.Located.{Located}
-use Rattle.token.specs.declared.Located.TheVariants.{TooLong, PastEnd, Faulty, At}
 use Rattle.floo_c.specs.declared.TokenReply.{TokenReply}
 
 -- The number of each fault, with its name in the paper (`fault_text`). No fault has the number 0. 1 was syntaxerror.
@@ -43,22 +41,3 @@ abbrev pub token_reply_of : ℕ → setup.Reading → TokenReply
 token_reply_of offset (setup.refused n) = record { refused = n; fault = 0; kind = 0; place = 0; next = offset; start = 0; size = 0 }
 token_reply_of offset (setup.faulty f) = record { refused = 0; fault = number_of f; kind = 0; place = place_of f; next = offset; start = 0; size = 0 }
 token_reply_of offset (setup.read k n start size) = record { refused = 0; fault = 0; kind = kind_number k; place = 0; next = n; start = start; size = size }
-
--- The number of the refusal and that of the fault, of a reading that found no token.
-abbrev pub refusal_number : Located → ℕ
-refusal_number TooLong = 1
-refusal_number PastEnd = 10
-refusal_number (Faulty f) = 0
-refusal_number (At k n start size) = 0
-
-abbrev pub fault_number : Located → ℕ
-fault_number TooLong = 0
-fault_number PastEnd = 0
-fault_number (Faulty f) = number_of f
-fault_number (At k n start size) = 0
-
-abbrev pub fault_place : Located → ℕ
-fault_place TooLong = 0
-fault_place PastEnd = 0
-fault_place (Faulty f) = place_of f
-fault_place (At k n start size) = 0

@@ -4,11 +4,10 @@
 ghost use Rattle.std.specs.Prelude.{◌≡◌, ◌+◌, ◌≤◌, length};
 ghost use Rattle.semantics.specs.Setup as setup;
 ghost use Rattle.floo_c.specs.Reply.{Replies};
-ghost use Rattle.floo_c.specs.TokenReply.{token_reply_of, refusal_number, fault_number, fault_place, number_of, place_of, kind_number};
+ghost use Rattle.floo_c.specs.TokenReply.{token_reply_of, number_of, place_of, kind_number};
 
-use runner::Answer;
 use semantics::{Fault, Kind};
-use token::Located;
+use token::Refused;
 
 // The number of the refusal, or 0 and what the run came to.
 #[repr(C)]
@@ -52,13 +51,13 @@ pub extern "C" fn floo_run(
     match runner::run(
         script, fuel, stack, execution, dictionary, cells, log, outcome,
     ) {
-        Answer::Refused(number) => Reply {
-            refused: number,
+        Err(refusal) => Reply {
+            refused: refusal.number(),
             steps: 0,
             log: 0,
             outcome: 0,
         },
-        Answer::Ran(report) => Reply {
+        Ok(report) => Reply {
             refused: 0,
             steps: report.steps,
             log: report.log,
@@ -74,23 +73,19 @@ pub extern "C" fn floo_token(script: &[u8], offset: usize) -> TokenReply
     ensures value { result ≡ token_reply_of offset (setup.reading script.now offset) }
     ensures size_in_bounds { result.start + result.size ≤ length script.now }
 {
-    let located = token::locate(script, offset);
-    let Located::At(kind, next, start, size) = located else {
-        return no_token(
-            refusal_number(located),
-            fault_number(located),
-            fault_place(located),
-            offset,
-        );
-    };
-    TokenReply {
-        refused: 0,
-        fault: 0,
-        kind: kind_number(kind),
-        place: 0,
-        next,
-        start,
-        size,
+    match token::locate(script, offset) {
+        Ok(token) => TokenReply {
+            refused: 0,
+            fault: 0,
+            kind: kind_number(token.kind),
+            place: 0,
+            next: token.next,
+            start: token.start,
+            size: token.size,
+        },
+        Err(Refused::TooLong) => no_token(1, 0, 0, offset),
+        Err(Refused::PastEnd) => no_token(10, 0, 0, offset),
+        Err(Refused::Faulty(f)) => no_token(0, number_of(f), place_of(f), offset),
     }
 }
 
@@ -106,42 +101,6 @@ fn no_token(refused: u32, fault: u32, place: u32, offset: usize) -> TokenReply
         next: offset,
         start: 0,
         size: 0,
-    }
-}
-
-// The number of the refusal; 0 where there is none.
-fn refusal_number(located: Located) -> u32
-    ensures { result ≡ refusal_number located }
-{
-    match located {
-        Located::TooLong => 1,
-        Located::PastEnd => 10,
-        Located::Faulty(_) => 0,
-        Located::At(_, _, _, _) => 0,
-    }
-}
-
-// The number of the fault; 0 where there is none.
-fn fault_number(located: Located) -> u32
-    ensures { result ≡ fault_number located }
-{
-    match located {
-        Located::TooLong => 0,
-        Located::PastEnd => 0,
-        Located::Faulty(f) => number_of(f),
-        Located::At(_, _, _, _) => 0,
-    }
-}
-
-// The offset of the first byte that could not be accepted; 0 where there is none.
-fn fault_place(located: Located) -> u32
-    ensures { result ≡ fault_place located }
-{
-    match located {
-        Located::TooLong => 0,
-        Located::PastEnd => 0,
-        Located::Faulty(f) => place_of(f),
-        Located::At(_, _, _, _) => 0,
     }
 }
 

@@ -1,6 +1,6 @@
 -- The run with the label, and what it leaves for the book.
 -- Assumes nothing.
-use mathlib.Core.Path.{◌≡◌, refl, sym, ap, ◌∙◌, subst}
+use mathlib.Core.Path.{◌≡◌, refl, sym, ◌∙◌, subst}
 use mathlib.Core.Bool.{Bool, true, false, not}
 use mathlib.Core.List.{List}
 use Prim.Native.Nat.{ℕ}
@@ -17,13 +17,13 @@ use Rattle.step.specs.Stepping.{state_of}
 use Rattle.runner.specs.Promise.{CarriesOut}
 use Rattle.runner.specs.declared.Proceeded.{Proceeded}
 use Rattle.lending.specs.Lending.{Carries}
-use Rattle.book.specs.Books.{blank}
 use Rattle.book.specs.declared.Record.{Record}
 use Rattle.floor.specs.Floor.{labelled, run_of, is_final}
 use Rattle.floor.specs.Promise.{asked, is_finished, ReadsEntry, Left, CarriesLabel}
 use Rattle.floor.specs.declared.Answer.TheVariants.{NotFinished, BadStack}
 use Rattle.floor.specs.declared.Ran.{Ran}
-use Rattle.floor.specs.declared.Read.{Read}
+use Rattle.std.specs.Prelude.{None}
+use Rattle.std.specs.Prelude as std
 
 final_is : (script : List ℕ) (names : List (List ℕ)) (x : Ending) → is_final (ending_of script names x) ≡ is_finished x
 unfolding is_final ending_of
@@ -52,14 +52,14 @@ module _ {script : List ℕ} {fuel : ℕ} {label s s' e e' d d' c c' l l' o o' :
   pub stack_there : Somewhere done.state.machine s' c'
   stack_there = (e', d', l', C.ends.machine, C.ends.rep)
 
-  pub not_final : {t : Bool} → t ≡ is_finished done.ending → not t ≡ true → {x : Record} → x ≡ blank
-      → CarriesLabel script fuel label s s' e e' d d' c c' l l' o o' (record { answer = NotFinished; report = done.report; live = false; entry = x })
-  not_final {t} q n {x} b =
+  pub not_final : {t : Bool} → t ≡ is_finished done.ending → not t ≡ true
+      → CarriesLabel script fuel label s s' e e' d d' c c' l l' o o' (record { answer = NotFinished; report = done.report; entry = None })
+  not_final {t} q n =
       let over : is_final ended.ending ≡ false = final_is script (keys C.ends.machine) done.ending ∙ sym q ∙ not-true t n in
-      so refl (rw over (refl, ap (λ (y : Record). record { live = false; entry = y }) b))
+      so refl (rw over (refl, refl))
 
-  pub final : {t : Bool} → t ≡ is_finished done.ending → not t ≡ false → {read : Read} → ReadsEntry done.state.machine s' c' read
-      → CarriesLabel script fuel label s s' e e' d d' c c' l l' o o' (record { answer = BadStack; report = done.report; live = read.live; entry = read.entry })
+  pub final : {t : Bool} → t ≡ is_finished done.ending → not t ≡ false → {read : std.Option Record} → ReadsEntry done.state.machine s' c' read
+      → CarriesLabel script fuel label s s' e e' d d' c c' l l' o o' (record { answer = BadStack; report = done.report; entry = read })
   final {t} q n {read} R =
       let over : is_final ended.ending ≡ true = final_is script (keys C.ends.machine) done.ending ∙ sym q ∙ not-false t n in
       so refl (rw over (refl, R.says e' d' l' C.ends.machine C.ends.rep))

@@ -11,7 +11,13 @@ use borrow.Author.Tests.{lt-ltb, le-ltb}
 use Rattle.semantics.specs.Sizes.{name_count}
 use Rattle.semantics.specs.Values.{cells}
 use Rattle.semantics.specs.Setup.{limits, refusal}
+use Rattle.std.specs.Prelude.{Result, Ok, Err, IsErrAnd}
+use Rattle.setup.specs.declared.Refusal.{Refusal}
+use Rattle.setup.specs.Lending.{number_of}
+use Rattle.setup.proofs.Accepting.{number_some}
 use Rattle.floor.specs.Floor.{Asked, label_most, before}
+use Rattle.floor.specs.Promise.{before_of}
+use Rattle.floor.specs.declared.Answer.{Answer}
 use Rattle.floor.specs.declared.Answer.TheVariants.{Refused, BookMalformed, LabelTooLong, NoSlot, NoCells}
 
 module _ (a : Asked) (sound : Bool) {n : ℕ} (q : n ≡ refusal a.script a.fuel a.lent) where
@@ -47,3 +53,9 @@ module _ (a : Asked) (sound : Bool) {n : ℕ} (q : n ≡ refusal a.script a.fuel
           pub goes_on_lem : (length a.label + 7) / 8 + 1 ≤ a.lent.cell_words / 4 → none ≡ before a sound
           unfolding before limits cells
           goes_on_lem h = rw (before, accepted, t, le-ltb _ _ short, le-ltb _ _ slot, le-ltb (a.lent.cell_words / 4) (1 + (length a.label + 7) / 8) (omega (arith, h))) refl
+
+-- Setup's refusal is passed on by its number.
+pub refusal_passed : (a : Asked) (sound : Bool) (r : Result (Unit {0}) Answer) (x : Refusal)
+    → number_of x ≡ refusal a.script a.fuel a.lent → IsErrAnd r (λ y. y ≡ Refused (number_of x)) → before_of r ≡ before a sound
+refusal_passed a sound (Ok k) x q h = absurd h
+refusal_passed a sound (Err y) x q h = ap (λ (z : Answer). some z) h ∙ is_refused a sound q (number_some x)

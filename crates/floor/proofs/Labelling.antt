@@ -24,12 +24,13 @@ use Rattle.lending.specs.Lending as lending
 use Rattle.floor.specs.Floor.{Asked, label_most, before, labelled, run_of}
 use Rattle.floor.specs.Promise.{asked, Nothing, RunOrNone, Left, CarriesLabel, LeftOrNone, Labelled}
 use Rattle.floor.specs.declared.Answer.{Answer}
+use Rattle.std.specs.Prelude.{None}
 use Rattle.floor.specs.declared.Ran.{Ran}
 
 -- ---- refused
 
 module _ (a : Asked) (sound : Bool) (s e d c l o : List ℕ) where
-  pub stopped : {x : Answer} → some x ≡ before a sound → {r : Ran} → (r.answer ≡ x) × (r.live ≡ false) × Nothing r.report → Labelled a sound s s e e d d c c l l o o r
+  pub stopped : {x : Answer} → some x ≡ before a sound → {r : Ran} → (r.answer ≡ x) × (r.entry ≡ None) × Nothing r.report → Labelled a sound s s e e d d c c l l o o r
   stopped q {r} (k, m, n) = record {
     left = subst (LeftOrNone a r) q (k, m);
     run = subst (RunOrNone a s s e e d d c c l l o o r.report) q (n, refl, refl, refl, refl, refl, refl);
@@ -87,7 +88,7 @@ module _ (script : List ℕ) (fuel : ℕ) (label : List ℕ) (sound : Bool) (s e
       let P = passed a sound q in
       let A = accepted script fuel (lent_of s e d c l o) P.setup in
       record {
-        setup = ready script fuel s e d c l o {n = 0} (sym P.setup) (λ h. omega (arith, h));
+        setup = ready script fuel s e d c l o (sym P.setup);
         scratch = omega (arith, length-take-le (length s / 2 * 2) s (omega arith), A.stack_slots.0);
         short = label_short;
         unknown = label_unknown;

@@ -1,5 +1,4 @@
 pub mod Checking
-pub mod Answering
 pub mod Reading
 pub mod Carrying
 pub mod Labelling

@@ -1,7 +1,6 @@
 -- What the stack's items say: three of them, of the form, or none.
 -- Assumes nothing.
 use mathlib.Core.Path.{◌≡◌, refl, sym, ap, ◌∙◌, subst}
-use mathlib.Core.Bool.{true}
 use mathlib.Core.List.{List, [], ◌∷◌, ◌++◌}
 use mathlib.Core.Option.{Option, none, some}
 use Prim.Native.Nat.{ℕ, zero, suc, ◌+◌, ◌-◌, ◌≤◌, ◌<◌}
@@ -26,7 +25,9 @@ use Rattle.strings.proofs.Reading.{read_all}
 use Rattle.book.specs.Books.{greatest, is_place_length, record_of}
 use Rattle.floor.specs.Floor.{number_in, place_in, entry_with, entry_from}
 use Rattle.floor.specs.Promise.{read_of, ReadsEntry}
-use Rattle.floor.specs.declared.Read.{Read}
+use Rattle.std.specs.Prelude.{Some}
+use Rattle.std.specs.Prelude as std
+use Rattle.book.specs.declared.Record.{Record}
 
 -- ---- values
 
@@ -126,10 +127,10 @@ padded out t n long size front rest =
 -- ---- returns
 
 module _ {m : Machine} {s c : List ℕ} where
-  none_so : {r : Read} → r ≡ read_of none → ((e d l : List ℕ) (μ : Floo.Machine) → Rep m s e d c l μ → entry_from μ μ.stack ≡ none) → ReadsEntry m s c r
+  none_so : {r : std.Option Record} → r ≡ read_of none → ((e d l : List ℕ) (μ : Floo.Machine) → Rep m s e d c l μ → entry_from μ μ.stack ≡ none) → ReadsEntry m s c r
   none_so q f = record { says = λ e d l μ R. q ∙ ap read_of (sym (f e d l μ R)) }
 
-  pub not_so_deep : {r : Read} → r ≡ read_of none → (m.depth ≡ 3 → ⊥) → ReadsEntry m s c r
+  pub not_so_deep : {r : std.Option Record} → r ≡ read_of none → (m.depth ≡ 3 → ⊥) → ReadsEntry m s c r
   not_so_deep q h = none_so q (λ e d l μ R. not_three μ μ.stack (λ x. h (sym (items_length R.items) ∙ x)))
 
   module _ (deep : m.depth ≡ 3) where
@@ -137,25 +138,25 @@ module _ {m : Machine} {s c : List ℕ} where
         → entry_from μ μ.stack ≡ entry_with (number_in (get_or μ.stack 2 null)) (place_in μ (get_or μ.stack 1 null)) (number_in (get_or μ.stack 0 null))
     items {μ = μ} R = three μ μ.stack (items_length R.items ∙ deep)
 
-    pub time_else : {r : Read} {t : ℕ} → r ≡ read_of none → ItemTag 0 m s t → (t ≡ 1 → ⊥) → ReadsEntry m s c r
+    pub time_else : {r : std.Option Record} {t : ℕ} → r ≡ read_of none → ItemTag 0 m s t → (t ≡ 1 → ⊥) → ReadsEntry m s c r
     time_else q Z h = none_so q (λ e d l μ R.
         items R ∙ ap (entry_with (number_in (get_or μ.stack 2 null)) (place_in μ (get_or μ.stack 1 null))) (number_else (get_or μ.stack 0 null) (λ x. h (Z.says e d c l μ R ∙ x)))
         ∙ no_time (number_in (get_or μ.stack 2 null)) (place_in μ (get_or μ.stack 1 null)))
 
-    without_place : {r : Read} → r ≡ read_of none → ((e d l : List ℕ) (μ : Floo.Machine) → Rep m s e d c l μ → place_in μ (get_or μ.stack 1 null) ≡ none) → ReadsEntry m s c r
+    without_place : {r : std.Option Record} → r ≡ read_of none → ((e d l : List ℕ) (μ : Floo.Machine) → Rep m s e d c l μ → place_in μ (get_or μ.stack 1 null) ≡ none) → ReadsEntry m s c r
     without_place q f = none_so q (λ e d l μ R.
         items R ∙ ap (λ p. entry_with (number_in (get_or μ.stack 2 null)) p (number_in (get_or μ.stack 0 null))) (f e d l μ R)
         ∙ no_place (number_in (get_or μ.stack 2 null)) (number_in (get_or μ.stack 0 null)))
 
-    without_number : {r : Read} → r ≡ read_of none → ((e d l : List ℕ) (μ : Floo.Machine) → Rep m s e d c l μ → number_in (get_or μ.stack 2 null) ≡ none) → ReadsEntry m s c r
+    without_number : {r : std.Option Record} → r ≡ read_of none → ((e d l : List ℕ) (μ : Floo.Machine) → Rep m s e d c l μ → number_in (get_or μ.stack 2 null) ≡ none) → ReadsEntry m s c r
     without_number q f = none_so q (λ e d l μ R.
         items R ∙ ap (λ n. entry_with n (place_in μ (get_or μ.stack 1 null)) (number_in (get_or μ.stack 0 null))) (f e d l μ R)
         ∙ no_number (place_in μ (get_or μ.stack 1 null)) (number_in (get_or μ.stack 0 null)))
 
-    pub place_is_else : {r : Read} {t : ℕ} → r ≡ read_of none → ItemTag 1 m s t → (t ≡ 8 → ⊥) → ReadsEntry m s c r
+    pub place_is_else : {r : std.Option Record} {t : ℕ} → r ≡ read_of none → ItemTag 1 m s t → (t ≡ 8 → ⊥) → ReadsEntry m s c r
     place_is_else q Z h = without_place q (λ e d l μ R. place_else μ (get_or μ.stack 1 null) (λ x. h (Z.says e d c l μ R ∙ x)))
 
-    pub number_is_else : {r : Read} {t : ℕ} → r ≡ read_of none → ItemTag 2 m s t → (t ≡ 1 → ⊥) → ReadsEntry m s c r
+    pub number_is_else : {r : std.Option Record} {t : ℕ} → r ≡ read_of none → ItemTag 2 m s t → (t ≡ 1 → ⊥) → ReadsEntry m s c r
     number_is_else q Z h = without_number q (λ e d l μ R. number_else (get_or μ.stack 2 null) (λ x. h (Z.says e d c l μ R ∙ x)))
 
     -- The lowest item is the number, and the topmost the time.
@@ -165,10 +166,10 @@ module _ {m : Machine} {s c : List ℕ} where
     time_item : {t : ℕ} → ItemTag 0 m s t → t ≡ 1 → {e d l : List ℕ} {μ : Floo.Machine} → Rep m s e d c l μ → get_or μ.stack 0 null ≡ integer (item_payload s 2)
     time_item Z h {e} {d} {l} {μ} R = is_integer (word_of R 0 2 deep).stands (item_tag_lem R 0 2 deep ∙ sym (Z.says e d c l μ R) ∙ h)
 
-    pub number_too_great : {r : Read} {t : ℕ} → r ≡ read_of none → ItemTag 2 m s t → t ≡ 1 → greatest < item_payload s 0 → ReadsEntry m s c r
+    pub number_too_great : {r : std.Option Record} {t : ℕ} → r ≡ read_of none → ItemTag 2 m s t → t ≡ 1 → greatest < item_payload s 0 → ReadsEntry m s c r
     number_too_great q Z h over = without_number q (λ e d l μ R. ap number_in (number_item Z h R) ∙ number_over (item_payload s 0) over)
 
-    pub time_too_great : {r : Read} {t : ℕ} → r ≡ read_of none → ItemTag 0 m s t → t ≡ 1 → greatest < item_payload s 2 → ReadsEntry m s c r
+    pub time_too_great : {r : std.Option Record} {t : ℕ} → r ≡ read_of none → ItemTag 0 m s t → t ≡ 1 → greatest < item_payload s 2 → ReadsEntry m s c r
     time_too_great q Z h over = none_so q (λ e d l μ R.
         items R ∙ ap (entry_with (number_in (get_or μ.stack 2 null)) (place_in μ (get_or μ.stack 1 null))) (ap number_in (time_item Z h R) ∙ number_over (item_payload s 2) over)
         ∙ no_time (number_in (get_or μ.stack 2 null)) (place_in μ (get_or μ.stack 1 null)))
@@ -185,10 +186,10 @@ module _ {m : Machine} {s c : List ℕ} where
         size_is : {e d l : List ℕ} {μ : Floo.Machine} (R : Rep m s e d c l μ) → n ≡ length (bytes μ (a_string R).id)
         size_is {e} {d} {l} {μ} R = S.says e d l μ R (a_string R).id (a_string R).item
 
-        pub place_too_short : {r : Read} → r ≡ read_of none → n < 1 → ReadsEntry m s c r
+        pub place_too_short : {r : std.Option Record} → r ≡ read_of none → n < 1 → ReadsEntry m s c r
         place_too_short q h = without_place q (λ e d l μ R. ap (place_in μ) (a_string R).item ∙ place_empty μ (a_string R).id (omega (arith, size_is R, h)))
 
-        pub place_too_long : {r : Read} → r ≡ read_of none → 31 < n → ReadsEntry m s c r
+        pub place_too_long : {r : std.Option Record} → r ≡ read_of none → 31 < n → ReadsEntry m s c r
         place_too_long q h = without_place q (λ e d l μ R. ap (place_in μ) (a_string R).item ∙ place_over μ (a_string R).id (omega (arith, size_is R, h)))
 
         pub bytes_here : Somewhere m s c → SomewhereThat (HasBytes 1 0 n) m s c
@@ -199,7 +200,7 @@ module _ {m : Machine} {s c : List ℕ} where
         module _ (some_bytes : 1 ≤ n) (few_bytes : n ≤ 31) {u v : ℕ} (Y : ItemTag 2 m s u) (number : u ≡ 1) (X : ItemTag 0 m s v) (time : v ≡ 1)
             (low : item_payload s 0 ≤ greatest) (early : item_payload s 2 ≤ greatest) where
           pub entry_there : {out : List ℕ} → length out ≡ 31 → ReadsBytes 1 n m s c (replicate 31 0) out
-              → ReadsEntry m s c (record { live = true; entry = record { number = item_payload s 0; place = out; length = n; time = item_payload s 2 } })
+              → ReadsEntry m s c (Some (record { number = item_payload s 0; place = out; length = n; time = item_payload s 2 }))
           unfolding record_of entry_with
           entry_there {out} long B = record {
             says = λ e d l μ R.
@@ -212,7 +213,7 @@ module _ {m : Machine} {s c : List ℕ} where
                 ∙ ap (λ x. entry_with x (place_in μ (get_or μ.stack 1 null)) (number_in (get_or μ.stack 0 null))) (ap number_in (number_item Y number R) ∙ number_there (item_payload s 0) low)
                 ∙ ap (λ x. entry_with (some (item_payload s 0)) x (number_in (get_or μ.stack 0 null))) (ap (place_in μ) H.item ∙ place_there μ H.id (omega (arith, size, some_bytes)) (omega (arith, size, few_bytes)))
                 ∙ ap (λ x. entry_with (some (item_payload s 0)) (some t) x) (ap number_in (time_item X time R) ∙ number_there (item_payload s 2) early) in
-                ap (λ (x : List ℕ). record { live = true; entry = record { number = item_payload s 0; place = x; length = n; time = item_payload s 2 } }) place
-                ∙ ap (λ k. record { live = true; entry = record { number = item_payload s 0; place = t ++ replicate (31 - length t) 0; length = k; time = item_payload s 2 } }) size
+                ap (λ (x : List ℕ). Some (record { number = item_payload s 0; place = x; length = n; time = item_payload s 2 })) place
+                ∙ ap (λ k. Some (record { number = item_payload s 0; place = t ++ replicate (31 - length t) 0; length = k; time = item_payload s 2 })) size
                 ∙ ap read_of (sym found);
           }

@@ -1,6 +1,7 @@
 -- What a scan promises, on every input (02, W3).
 -- Assumes nothing.
-use Rattle.std.specs.Prelude.{◌≡◌, Bool, true, false, cond, List, ℕ, length}
+use Rattle.std.specs.Prelude.{◌≡◌, Bool, true, false, cond, Some, None, Result, Ok, Err, List, ℕ, length}
+use Rattle.std.specs.Prelude as std
 use Rattle.std.proofs.Math.Option.{Option, none, some}
 use Rattle.semantics.specs.Machine as Floo
 use Rattle.semantics.specs.Steps.{Run}
@@ -10,16 +11,13 @@ use Rattle.machine.specs.Rep.{Rep}
 use Rattle.machine.specs.declared.Machine.{Machine}
 use Rattle.runner.specs.Promise.{lent_of, whole, RunIs, CarriesOut}
 use Rattle.runner.specs.declared.Report.{Report}
-use Rattle.book.specs.Books.{Entry, blank, record_of, is_sound}
+use Rattle.book.specs.Books.{Entry, record_of, is_sound}
 use Rattle.book.specs.declared.Record.{Record}
 use Rattle.book.specs.declared.Entered.{Entered}
 use Rattle.floor.specs.Floor.{Asked, before, labelled, run_of, entry_from, is_final, answer_for, scan_of}
 use Rattle.floor.specs.declared.Answer.{Answer}
 use Rattle.floor.specs.declared.Answer.TheVariants.{NotFinished, BadStack}
-use Rattle.floor.specs.declared.Before.{Before}
-use Rattle.floor.specs.declared.Before.TheVariants.{Go, Stop}
 use Rattle.floor.specs.declared.Ran.{Ran}
-use Rattle.floor.specs.declared.Read.{Read}
 use Rattle.floor.specs.declared.Scanned.{Scanned}
 
 -- All that a scan is given but the book.
@@ -48,9 +46,9 @@ pub record Scans (a : Asked) (b b' : List Record) (n : ℕ) (s s' e e' d d' c c'
 -- ---- the parts
 
 -- The refusals before the run.
-abbrev pub before_of : Before → Option Answer
-before_of Go = none
-before_of (Stop x) = some x
+abbrev pub before_of : Result (Unit {0}) Answer → Option Answer
+before_of (Ok _) = none
+before_of (Err x) = some x
 
 -- Whether a run is finished, by its ending in numbers.
 abbrev pub is_finished : Ending → Bool
@@ -61,18 +59,18 @@ is_finished (Failed e command) = false
 is_finished (Misread f) = false
 
 -- What the stack's items say.
-abbrev pub read_of : Option Entry → Read
-read_of none = record { live = false; entry = blank }
-read_of (some x) = record { live = true; entry = record_of x }
+abbrev pub read_of : Option Entry → std.Option Record
+read_of none = None
+read_of (some x) = Some (record_of x)
 
-pub record ReadsEntry (m : Machine) (s c : List ℕ) (r : Read) : Type 0 where
+pub record ReadsEntry (m : Machine) (s c : List ℕ) (r : std.Option Record) : Type 0 where
   pub says : (e d l : List ℕ) (μ : Floo.Machine) → Rep m s e d c l μ → r ≡ read_of (entry_from μ μ.stack)
 
 -- What a run left for the book.
 abbrev pub Left : Run → Ran → Type 0
 Left run r =
     (r.answer ≡ cond (is_final run.ending) BadStack NotFinished)
-    × (record { live = r.live; entry = r.entry } ≡ cond (is_final run.ending) (read_of (entry_from run.final.machine run.final.machine.stack)) (read_of none))
+    × (r.entry ≡ cond (is_final run.ending) (read_of (entry_from run.final.machine run.final.machine.stack)) None)
 
 -- With whole slots.
 pub record CarriesLabel (script : List ℕ) (fuel : ℕ) (label s s' e e' d d' c c' l l' o o' : List ℕ) (r : Ran) : Type 0 where
@@ -80,7 +78,7 @@ pub record CarriesLabel (script : List ℕ) (fuel : ℕ) (label s s' e e' d d' c
   pub left : Left (run_of (asked script fuel label s e d c l o)) r
 
 abbrev pub LeftOrNone : Asked → Ran → Option Answer → Type 0
-LeftOrNone a r (some x) = (r.answer ≡ x) × (r.live ≡ false)
+LeftOrNone a r (some x) = (r.answer ≡ x) × (r.entry ≡ None)
 LeftOrNone a r none = Left (run_of a) r
 
 pub record Labelled (a : Asked) (sound : Bool) (s s' e e' d d' c c' l l' o o' : List ℕ) (r : Ran) : Type 0 where
@@ -88,10 +86,6 @@ pub record Labelled (a : Asked) (sound : Bool) (s s' e e' d d' c c' l l' o o' : 
   pub run : RunOrNone a s s' e e' d d' c c' l l' o o' r.report (before a sound)
 
 -- The answer, given what became of the entry.
-abbrev pub scanned_of : Ran → Entered → ℕ → Scanned
-scanned_of r e n =
-    record {
-      answer = cond r.live (answer_for e.fate e.at) r.answer;
-      report = r.report;
-      count = cond r.live e.count n;
-    }
+abbrev pub scanned_of : Ran → std.Option Entered → ℕ → Scanned
+scanned_of r (Some e) n = record { answer = answer_for e.fate e.at; report = r.report; count = e.count }
+scanned_of r None n = record { answer = r.answer; report = r.report; count = n }

@@ -2,14 +2,13 @@
 // second library, on top of the runner.
 #![tactic(auto)]
 
-ghost use Rattle.std.specs.Prelude.{◌≡◌, false};
-ghost use Rattle.std.proofs.Math.Option.{none};
+ghost use Rattle.std.specs.Prelude.{◌≡◌, None};
 ghost use Rattle.semantics.specs.Text.{bytes};
-ghost use Rattle.setup.specs.Lending.{lent_of};
+ghost use Rattle.setup.specs.Lending.{lent_of, number_of};
 ghost use Rattle.machine.specs.Rep.{Somewhere};
-ghost use Rattle.book.specs.Books.{blank};
+ghost use Rattle.floor.specs.declared.Answer.TheVariants.{Refused};
 ghost use Rattle.floor.specs.Floor.{before, answer_for};
-ghost use Rattle.floor.specs.Promise.{asked, Scans, before_of, read_of, Labelled, CarriesLabel, ReadsEntry, scanned_of, Nothing, is_finished};
+ghost use Rattle.floor.specs.Promise.{asked, Scans, before_of, Labelled, CarriesLabel, ReadsEntry, scanned_of, Nothing, is_finished};
 ghost use Rattle.lending.specs.Lending as lending;
 
 use book::{Entered, Fate, Record};
@@ -17,7 +16,7 @@ use ending::Ending;
 use machine::{ITEM_PAYLOAD, Machine, TAG_INTEGER, TAG_STRING};
 use runner::Report;
 use semantics::{CELL_WIDTH, DICTIONARY_WIDTH, EXEC_WIDTH, NAME_COUNT, STACK_WIDTH};
-use setup::Lent;
+use setup::{Lent, Refusal};
 
 // A label has at most so many bytes, and a place; numbers and times are at most this.
 const LABEL_MOST: usize = 512;
@@ -27,7 +26,7 @@ const PLACE_MOST: usize = 31;
 const GREATEST: u32 = 2147483647;
 
 // What a scan came to: a refusal of setup by its number, or by its name; the place in the book where a record was replaced or added.
-#[derive(Clone, Copy)]
+#[derive(Clone, Copy, PartialEq, Eq, Debug)]
 pub enum Answer {
     Refused(u32),
     BookMalformed,
@@ -50,27 +49,20 @@ pub struct Scanned {
     pub count: usize,
 }
 
-// What the run left for the book: an entry where `live`, else the answer.
+// What the run left for the book: an entry, or none, and then the answer.
 #[derive(Clone, Copy)]
 pub struct Ran {
     pub answer: Answer,
     pub report: Report,
-    pub live: bool,
-    pub entry: Record,
+    pub entry: Option<Record>,
 }
 
-// What is refused before the run, or nothing.
-#[derive(Clone, Copy)]
-enum Before {
-    Go,
-    Stop(Answer),
-}
+impl From<Refusal> for Answer {
+    ghost from_gives = { λ r a. a ≡ Refused (number_of r) };
 
-// An entry read from the stack, where `live`.
-#[derive(Clone, Copy)]
-struct Read {
-    live: bool,
-    entry: Record,
+    fn from(refusal: Refusal) -> Answer {
+        Answer::Refused(refusal.number())
+    }
 }
 
 // A scan: the label is lent, the script is run, and its entry goes into the book.
@@ -94,7 +86,7 @@ pub fn scan(
     let ran = run_labelled(
         script, fuel, label, sound, stack, exec, dict, cells, log, outcome,
     );
-    let entered = book::enter(book, count, ran.live, ran.entry);
+    let entered = book::enter(book, count, ran.entry);
     answered(ran, entered, count)
 }
 
@@ -123,8 +115,8 @@ pub fn run_labelled(
         outcome: outcome.len(),
     };
     match check(script, fuel, label, sound, lent) {
-        Before::Stop(answer) => refused(answer),
-        Before::Go => {
+        Err(answer) => refused(answer),
+        Ok(()) => {
             // words past whole slots are not lent on
             let a = stack.len() / STACK_WIDTH * STACK_WIDTH;
             let b = exec.len() / EXEC_WIDTH * EXEC_WIDTH;
@@ -147,26 +139,23 @@ pub fn run_labelled(
 
 // What is refused before the run, in the paper's order.
 // Ruled out: the label judged before the book; a label of 513 bytes; a label without a slot of its own.
-fn check(script: &[u8], fuel: u32, label: &[u8], sound: bool, lent: Lent) -> Before
+fn check(script: &[u8], fuel: u32, label: &[u8], sound: bool, lent: Lent) -> Result<(), Answer>
     ensures { before_of result ≡ before (record { script = script.now; fuel = fuel; label = label.now; lent = lent_of lent }) sound }
 {
-    let number = setup::refusal(script, fuel, lent);
-    if 0 < number {
-        return Before::Stop(Answer::Refused(number));
-    }
+    setup::check(script, fuel, lent)?;
     if !sound {
-        return Before::Stop(Answer::BookMalformed);
+        return Err(Answer::BookMalformed);
     }
     if LABEL_MOST < label.len() {
-        return Before::Stop(Answer::LabelTooLong);
+        return Err(Answer::LabelTooLong);
     }
     if lent.dict / DICTIONARY_WIDTH < NAME_COUNT + 1 {
-        return Before::Stop(Answer::NoSlot);
+        return Err(Answer::NoSlot);
     }
     if lent.cells / CELL_WIDTH < (label.len() + 7) / 8 + 1 {
-        return Before::Stop(Answer::NoCells);
+        return Err(Answer::NoCells);
     }
-    Before::Go
+    Ok(())
 }
 
 // The run with whole slots, and the entry that it leaves.
@@ -188,109 +177,74 @@ fn carry_label(
         script, fuel, b"label", label, stack, exec, dict, cells, log, outcome,
     );
     let report = done.report;
-    let ending = done.ending;
-    if !is_final(ending) {
+    if !is_final(done.ending) {
         return Ran {
             answer: Answer::NotFinished,
-            report: report,
-            live: false,
-            entry: no_record(),
+            report,
+            entry: None,
         };
     }
     let st = done.state;
-    let m = st.machine;
-    let read = read_entry(m, stack, cells);
-    let entry = read.entry;
+    let entry = read_entry(st.machine, stack, cells);
     Ran {
         answer: Answer::BadStack,
-        report: report,
-        live: read.live,
-        entry: entry,
+        report,
+        entry,
     }
 }
 
 // The entry that the stack's items are: a socket number, a place and a scan time, from the bottom, and no more.
 // Ruled out: a number below 0; an empty place; a place of 32 bytes; bytes after its length that are not 0.
-fn read_entry(m: Machine, stack: &[u32], cells: &[u32]) -> Read
+fn read_entry(m: Machine, stack: &[u32], cells: &[u32]) -> Option<Record>
     requires { Somewhere m stack.now cells.now }
     ensures { ReadsEntry m stack.now cells.now result }
 {
     if m.depth != 3 {
-        return no_entry();
+        return None;
     }
     if elements::tag_of(m, stack, 0) != TAG_INTEGER {
-        return no_entry();
+        return None;
     }
     if elements::tag_of(m, stack, 1) != TAG_STRING {
-        return no_entry();
+        return None;
     }
     if elements::tag_of(m, stack, 2) != TAG_INTEGER {
-        return no_entry();
+        return None;
     }
     let number = stack[ITEM_PAYLOAD];
     let time = stack[2 * STACK_WIDTH + ITEM_PAYLOAD];
     if GREATEST < number {
-        return no_entry();
+        return None;
     }
     if GREATEST < time {
-        return no_entry();
+        return None;
     }
     let size = strings::current_length(m, stack, cells, 1);
     if size < 1 {
-        return no_entry();
+        return None;
     }
     if PLACE_MOST < size as usize {
-        return no_entry();
+        return None;
     }
     let mut place = [0u8; PLACE_MOST];
     strings::read_bytes(m, stack, cells, 1, size, &mut place);
-    let entry = Record {
-        number: number,
-        place: place,
+    Some(Record {
+        number,
+        place,
         length: size,
-        time: time,
-    };
-    Read {
-        live: true,
-        entry: entry,
-    }
-}
-
-fn no_entry() -> Read
-    ensures { result ≡ read_of none }
-{
-    Read {
-        live: false,
-        entry: no_record(),
-    }
-}
-
-fn no_record() -> Record
-    ensures { result ≡ blank }
-{
-    Record {
-        number: 0,
-        place: [0; PLACE_MOST],
-        length: 0,
-        time: 0,
-    }
+        time,
+    })
 }
 
 fn is_final(ending: Ending) -> bool
     ensures { result ≡ is_finished ending }
 {
-    match ending {
-        Ending::Finished => true,
-        Ending::Stopped => false,
-        Ending::OutOfFuel => false,
-        Ending::Failed(_, _) => false,
-        Ending::Misread(_) => false,
-    }
+    matches!(ending, Ending::Finished)
 }
 
 // No run is made.
 fn refused(answer: Answer) -> Ran
-    ensures { (result.answer ≡ answer) × (result.live ≡ false) × Nothing result.report }
+    ensures { (result.answer ≡ answer) × (result.entry ≡ None) × Nothing result.report }
 {
     let machine = Machine {
         depth: 0,
@@ -300,39 +254,34 @@ fn refused(answer: Answer) -> Ran
         lists: heap::fresh(),
         stopped: false,
     };
-    let report = Report {
-        steps: 0,
-        log: 0,
-        outcome: 0,
-        machine: machine,
-    };
     Ran {
-        answer: answer,
-        report: report,
-        live: false,
-        entry: no_record(),
+        answer,
+        report: Report {
+            steps: 0,
+            log: 0,
+            outcome: 0,
+            machine,
+        },
+        entry: None,
     }
 }
 
 // The answer, given what became of the entry.
-fn answered(ran: Ran, entered: Entered, count: usize) -> Scanned
+fn answered(ran: Ran, entered: Option<Entered>, count: usize) -> Scanned
     ensures { result ≡ scanned_of ran entered count }
 {
     let report = ran.report;
-    if ran.live {
-        let fate = entered.fate;
-        let answer = answer_for(fate, entered.at);
-        return Scanned {
-            answer: answer,
-            report: report,
+    match entered {
+        Some(entered) => Scanned {
+            answer: answer_for(entered.fate, entered.at),
+            report,
             count: entered.count,
-        };
-    }
-    let answer = ran.answer;
-    Scanned {
-        answer: answer,
-        report: report,
-        count: count,
+        },
+        None => Scanned {
+            answer: ran.answer,
+            report,
+            count,
+        },
     }
 }
 

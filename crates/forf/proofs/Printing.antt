@@ -8,16 +8,16 @@ use lib.Seq.{take_at}
 use native.Mathlib.Nat.{zero-add}
 use native.Mathlib.Omega.{arith}
 use Rattle.semantics.specs.Sizes.{fuel_most, stack_most, head_room, item_room}
-use Rattle.semantics.specs.Text.{bytes, decimal}
+use Rattle.semantics.specs.Text.{bytes}
 use Rattle.semantics.specs.Outcome.{line}
 use Rattle.semantics.specs.ObjectOperators.{pasted}
 use Rattle.text.specs.Writing.{Written}
 use Rattle.text.proofs.Pasting.{respelt}
-use Rattle.forf_semantics.specs.Setup.{Lent, verdict, refused, memory_slots, printed}
-use Rattle.forf_runner.specs.Promise.{Runs, AnswerIs, lent_of, the_run}
-use Rattle.forf_runner.specs.declared.Answer.{Answer}
-use Rattle.forf_runner.specs.declared.Answer.TheVariants.{Refused, MemorySlots, Ran}
-use Rattle.forf.specs.Telling.{sizes, printed_text, told, Within}
+use Rattle.forf_semantics.specs.Setup.{Lent, verdict, printed}
+use Rattle.forf_runner.specs.Promise.{Answer, number_of, verdict_of, Runs, AnswerIs, lent_of, the_run}
+use Rattle.std.specs.Prelude.{Option, Some, None, Ok, Err}
+use Rattle.forf_runner.specs.declared.Refusal.{Refusal}
+use Rattle.forf.specs.Telling.{sizes, printed_text, refusal_line, told, Within}
 
 length_within : (t l : List ℕ) → length t ≤ length (pasted 0 t l)
 unfolding pasted
@@ -36,28 +36,23 @@ read_back {t} {l} w = rw (w.end, w.bytes, zero-add) (read_pasted t l)
 -- ---- the definition's text
 
 module _ (script : List ℕ) (l : Lent) (mem : List ℕ) where
-  printed_refusal : {n : ℕ} → verdict script fuel_most l mem ≡ refused n → (printed script fuel_most l mem).text ≡ line (bytes "refused") (decimal n)
-  unfolding printed
-  printed_refusal e = rw (printed, e) refl
-
-  printed_memory : verdict script fuel_most l mem ≡ memory_slots → (printed script fuel_most l mem).text ≡ bytes "refused=memory not 32 slots\n"
+  printed_refusal : (o : Option ℕ) → verdict script fuel_most l mem ≡ verdict_of o → (printed script fuel_most l mem).text ≡ refusal_line o
   unfolding printed line bytes
-  printed_memory e = rw (printed, e) refl
+  printed_refusal (Some n) e = rw (printed, e) refl
+  printed_refusal None e = rw (printed, e) refl
 
 module _ {script s s' e e' mem mem' out out' : List ℕ} {a : Answer} (R : Runs script fuel_most s s' e e' mem mem' out out' a) where
   pub counts : length out' ≤ head_room + item_room * stack_most → Within a out'
   counts h = by a R.answers
     where
       by : (b : Answer) → AnswerIs script fuel_most s s' e e' mem mem' out out' b → Within b out'
-      by (Refused n) R = tt
-      by MemorySlots R = tt
-      by (Ran r) R = (within R.1.outcome, h)
+      by (Err r) R = tt
+      by (Ok r) R = (within R.1.outcome, h)
 
   defined : (b : Answer) → AnswerIs script fuel_most s s' e e' mem mem' out out' b → (printed script fuel_most (lent_of s e out) mem).text ≡ told b out'
   unfolding printed the_run
-  defined (Refused n) R = printed_refusal script (lent_of s e out) mem R.0
-  defined MemorySlots R = printed_memory script (lent_of s e out) mem R.0
-  defined (Ran r) R = rw (read_back R.1.outcome) (rw (printed, R.0) refl)
+  defined (Err r) R = printed_refusal script (lent_of s e out) mem (number_of r) R.0
+  defined (Ok r) R = rw (read_back R.1.outcome) (rw (printed, R.0) refl)
 
   pub prints : {page new : List ℕ} {r : ℕ} → lent_of s e out ≡ sizes → mem ≡ replicate 32 0 → Written 0 (told a out') page new r → Written 0 (printed_text script) page new r
   unfolding printed_text
@@ -67,6 +62,11 @@ module _ {script s s' e e' mem mem' out out' : List ℕ} {a : Answer} (R : Runs 
 
 pub told_as : (o : List ℕ) {a b : Answer} {page new : List ℕ} {r : ℕ} → a ≡ b → Written 0 (told b o) page new r → Written 0 (told a o) page new r
 told_as o p w = respelt (ap (λ (x : Answer). told x o) p) w
+
+-- a refusal told by its number
+pub told_refusal : (o : List ℕ) {a : Answer} {r : Refusal} {m n : Option ℕ} {page new : List ℕ} {q : ℕ} → a ≡ Err r → m ≡ number_of r → m ≡ n
+    → Written 0 (refusal_line n) page new q → Written 0 (told a o) page new q
+told_refusal o e p k w = told_as o e (respelt (ap refusal_line (sym p ∙ k)) w)
 
 pub within_as : (o : List ℕ) {a b : Answer} → a ≡ b → Within a o → Within b o
 within_as o p h = subst (λ (x : Answer). Within x o) p h

@@ -8,7 +8,7 @@ ghost use Rattle.semantics.specs.Sizes.{script_most};
 ghost use Rattle.text.specs.Writing.{Written};
 ghost use Rattle.forf.specs.Telling.{Within, told, printed_text};
 
-use forf_runner::{Answer, MEMORY_SLOTS};
+use forf_runner::{MEMORY_SLOTS, Refusal, Report};
 use semantics::{
     EXEC_MOST, EXEC_WIDTH, FUEL_MOST, HEAD_ROOM, ITEM_ROOM, SCRIPT_MOST, STACK_MOST, STACK_WIDTH,
 };
@@ -62,16 +62,15 @@ fn write_page(script: &[u8], page: &mut [u8; OUTCOME]) -> usize
 }
 
 // A refusal's line, or the start of the outcome.
-fn write_answer(answer: Answer, outcome: &[u8], page: &mut [u8; OUTCOME]) -> usize
+fn write_answer(answer: Result<Report, Refusal>, outcome: &[u8], page: &mut [u8; OUTCOME]) -> usize
     requires { Within answer outcome.now }
     ensures { Written 0 (told answer outcome.now) page.old page.new result }
 {
     match answer {
-        Answer::Refused(number) => text::write_number(page, 0, b"refused", number),
-        Answer::MemorySlots => text::copy(page, 0, b"refused=memory not 32 slots\n"),
-        Answer::Ran(report) => {
-            let written = report.outcome;
-            text::copy(page, 0, &outcome[..written])
-        }
+        Ok(report) => text::copy(page, 0, &outcome[..report.outcome]),
+        Err(refusal) => match refusal.number() {
+            Some(number) => text::write_number(page, 0, b"refused", number),
+            None => text::copy(page, 0, b"refused=memory not 32 slots\n"),
+        },
     }
 }

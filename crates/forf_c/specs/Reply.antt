@@ -1,21 +1,20 @@
 -- The answers by their numbers, as C has them.
 -- Assumes nothing.
-use Rattle.std.specs.Prelude.{◌≡◌, List, ℕ}
+use Rattle.std.specs.Prelude.{◌≡◌, Option, Some, None, Ok, Err, List, ℕ}
 use Rattle.forf_semantics.specs.Setup as setup
 use Rattle.forf_semantics.specs.declared.Kind.{Kind}
 use Rattle.forf_semantics.specs.declared.Kind.TheVariants.{Integer, Word, OpenBrace, CloseBrace, End}
-use Rattle.forf_token.specs.declared.Located.{Located}
-use Rattle.forf_token.specs.declared.Located.TheVariants.{TooLong, PastEnd, Faulty, At}
-use Rattle.forf_runner.specs.Promise.{Runs}
-use Rattle.forf_runner.specs.declared.Answer.{Answer}
-use Rattle.forf_runner.specs.declared.Answer.TheVariants.{Refused, MemorySlots, Ran}
+use Rattle.forf_runner.specs.Promise.{Answer, number_of, Runs}
 use Rattle.forf_c.specs.declared.Reply.{Reply}
 use Rattle.forf_c.specs.declared.TokenReply.{TokenReply}
 
+abbrev pub refusal_reply : Option ℕ → Reply
+refusal_reply (Some n) = record { refused = n; memory = 0; steps = 0; outcome = 0 }
+refusal_reply None = record { refused = 0; memory = 1; steps = 0; outcome = 0 }
+
 abbrev pub reply_of : Answer → Reply
-reply_of (Refused n) = record { refused = n; memory = 0; steps = 0; outcome = 0 }
-reply_of MemorySlots = record { refused = 0; memory = 1; steps = 0; outcome = 0 }
-reply_of (Ran r) = record { refused = 0; memory = 0; steps = r.steps; outcome = r.outcome }
+reply_of (Err r) = refusal_reply (number_of r)
+reply_of (Ok r) = record { refused = 0; memory = 0; steps = r.steps; outcome = r.outcome }
 
 -- The reply is that of an answer for which the runner's promise holds.
 pub record Replies (script : List ℕ) (fuel : ℕ) (s s' e e' mem mem' out out' : List ℕ) (r : Reply) : Type 0 where
@@ -31,18 +30,6 @@ kind_number Word = 2
 kind_number OpenBrace = 3
 kind_number CloseBrace = 4
 kind_number End = 5
-
-abbrev pub refusal_number : Located → ℕ
-refusal_number TooLong = 1
-refusal_number PastEnd = 10
-refusal_number Faulty = 0
-refusal_number (At k n start size) = 0
-
-abbrev pub fault_number : Located → ℕ
-fault_number TooLong = 0
-fault_number PastEnd = 0
-fault_number Faulty = 1
-fault_number (At k n start size) = 0
 
 abbrev pub token_reply_of : ℕ → setup.Reading → TokenReply
 token_reply_of offset (setup.refused n) = record { refused = n; fault = 0; kind = 0; next = offset; start = 0; size = 0 }

@@ -3,11 +3,11 @@
 
 ghost use Rattle.std.specs.Prelude.{◌≡◌, ◌+◌, ◌≤◌, length};
 ghost use Rattle.forf_semantics.specs.Setup as setup;
-ghost use Rattle.forf_c.specs.Reply.{Replies, reply_of, token_reply_of, refusal_number, fault_number, kind_number};
+ghost use Rattle.forf_c.specs.Reply.{Replies, reply_of, token_reply_of, kind_number};
 
-use forf_runner::Answer;
+use forf_runner::{Refusal, Report};
 use forf_semantics::Kind;
-use forf_token::Located;
+use forf_token::Refused;
 
 // The number of the refusal, or 0; 1 where the memory has not 32 slots, or 0; and what the run came to.
 #[repr(C)]
@@ -56,42 +56,45 @@ pub extern "C" fn forf_token(script: &[u8], offset: usize) -> TokenReply
     ensures value { result ≡ token_reply_of offset (setup.reading script.now offset) }
     ensures size_in_bounds { result.start + result.size ≤ length script.now }
 {
-    let located = forf_token::locate(script, offset);
-    let Located::At(kind, next, start, size) = located else {
-        return no_token(refusal_number(located), fault_number(located), offset);
-    };
-    TokenReply {
-        refused: 0,
-        fault: 0,
-        kind: kind_number(kind),
-        next,
-        start,
-        size,
+    match forf_token::locate(script, offset) {
+        Ok(token) => TokenReply {
+            refused: 0,
+            fault: 0,
+            kind: kind_number(token.kind),
+            next: token.next,
+            start: token.start,
+            size: token.size,
+        },
+        Err(Refused::TooLong) => no_token(1, 0, offset),
+        Err(Refused::PastEnd) => no_token(10, 0, offset),
+        Err(Refused::Faulty(_)) => no_token(0, 1, offset),
     }
 }
 
 // An answer by its numbers: C has no name for the enum.
-fn reply_of(answer: Answer) -> Reply
+fn reply_of(answer: Result<Report, Refusal>) -> Reply
     ensures { result ≡ reply_of answer }
 {
     match answer {
-        Answer::Refused(number) => Reply {
-            refused: number,
-            memory: 0,
-            steps: 0,
-            outcome: 0,
-        },
-        Answer::MemorySlots => Reply {
-            refused: 0,
-            memory: 1,
-            steps: 0,
-            outcome: 0,
-        },
-        Answer::Ran(report) => Reply {
+        Ok(report) => Reply {
             refused: 0,
             memory: 0,
             steps: report.steps,
             outcome: report.outcome,
+        },
+        Err(refusal) => match refusal.number() {
+            Some(refused) => Reply {
+                refused,
+                memory: 0,
+                steps: 0,
+                outcome: 0,
+            },
+            None => Reply {
+                refused: 0,
+                memory: 1,
+                steps: 0,
+                outcome: 0,
+            },
         },
     }
 }
@@ -107,30 +110,6 @@ fn no_token(refused: u32, fault: u32, offset: usize) -> TokenReply
         next: offset,
         start: 0,
         size: 0,
-    }
-}
-
-// The number of the refusal; 0 where there is none.
-fn refusal_number(located: Located) -> u32
-    ensures { result ≡ refusal_number located }
-{
-    match located {
-        Located::TooLong => 1,
-        Located::PastEnd => 10,
-        Located::Faulty => 0,
-        Located::At(_, _, _, _) => 0,
-    }
-}
-
-// 1 where the token is a syntaxerror.
-fn fault_number(located: Located) -> u32
-    ensures { result ≡ fault_number located }
-{
-    match located {
-        Located::TooLong => 0,
-        Located::PastEnd => 0,
-        Located::Faulty => 1,
-        Located::At(_, _, _, _) => 0,
     }
 }
 

@@ -1,16 +1,14 @@
 -- A token that was read, in the laws of groups: where a group ends, from its next token on.
 -- Assumes nothing.
-use mathlib.Core.Path.{◌≡◌, refl, sym, ap, subst, ◌∙◌}
+use mathlib.Core.Path.{◌≡◌, refl, sym, subst, ◌∙◌}
 use mathlib.Core.List.{List}
 use Prim.Native.Nat.{ℕ, suc, ◌+◌, ◌-◌, ◌≤◌, ◌<◌}
 use native.Mathlib.Omega.{arith}
 use lib.ListN.{length, drop}
 use Rattle.semantics.specs.Values.{ok, fault, ◌>>=◌}
 use Rattle.semantics.specs.ResultLaws.{gives_ok, then_ok, ok_one}
-use Rattle.forf_semantics.specs.Errors.{Result}
 use Rattle.forf_semantics.specs.Tokens.{lexeme, lex}
-use Rattle.forf_semantics.specs.Tokens as tokens
-use Rattle.forf_semantics.specs.Items.{Group, skip, read_group}
+use Rattle.forf_semantics.specs.Items.{skip, read_group}
 use Rattle.forf_semantics.specs.TokenLaws.{Fits}
 use Rattle.forf_semantics.proofs.TokenLaws.{skip_le, token_fits}
 use Rattle.forf_semantics.specs.GroupLaws.{Inside}
@@ -19,22 +17,11 @@ use Rattle.forf_semantics.specs.RestLaws.{TokenAt}
 use Rattle.forf_semantics.specs.EndLaws.{end_of, group_end}
 use Rattle.forf_semantics.proofs.EndLaws.{end_number, end_word, end_group, end_too_deep, end_close, end_missing, end_fault}
 use Rattle.forf_semantics.specs.declared.Error.TheVariants.{SyntaxError}
-use Rattle.forf_token.specs.Lexing.{token_of, Lexes, LexedAt}
+use Rattle.forf_token.specs.Lexing.{token_of, Lexes}
 use Rattle.forf_token.specs.declared.Token.{Token}
 use Rattle.forf_token.specs.declared.Token.TheVariants.{Integer, Word, OpenBrace, CloseBrace, End}
-use Rattle.forf_token.specs.declared.Lexed.{Lexed}
-use Rattle.forf_token.specs.declared.Lexed.TheVariants as lexed
-use Rattle.forf_groups.specs.Reading.{ended_is}
-use Rattle.forf_groups.specs.declared.Ended.{Ended}
-use Rattle.forf_groups.specs.declared.Ended.TheVariants as ended
 
 -- ---- a token that was read
-
-pub told : {script : List ℕ} {start next : ℕ} {l : Lexed} {t u : Token} → LexedAt script start l → l ≡ lexed.Token t next → t ≡ u → Lexes script start u next
-told {script} {start} {next} L e f = subst (λ (v : Token). Lexes script start v next) f (subst (LexedAt script start) e L)
-
-pub untold : (script : List ℕ) (start : ℕ) (l : Lexed) → LexedAt script start l → l ≡ lexed.Bad → lex (drop start script) ≡ fault SyntaxError
-untold script start l L e = subst (LexedAt script start) e L
 
 -- How many bytes it takes.
 pub token_size : {script : List ℕ} {start next : ℕ} {t : Token} → Lexes script start t next → Fits (length script - start) (token_of script start next t) (next - start)
@@ -67,12 +54,6 @@ end_inside script depth from end h e =
     let (g, p, q) = then_ok (read_group script (length script) depth from) _ e in
     let i : Inside (length script) from g = gives_ok (group_takes script depth from h) p in
     subst (λ (n : ℕ). (from < n) × (n ≤ length script)) (ok_one q) i
-
-pub ended_at : (r : Ended) {end : ℕ} {q : Result ℕ} → ended_is r ≡ q → r ≡ ended.At end → q ≡ ok end
-ended_at r e f = sym e ∙ ap ended_is f
-
-pub ended_bad : (r : Ended) {q : Result ℕ} → ended_is r ≡ q → r ≡ ended.Bad → q ≡ fault SyntaxError
-ended_bad r e f = sym e ∙ ap ended_is f
 
 -- The loop: the group that is read from `from` on ends where the one from `at` on does.
 pub record Reads (script : List ℕ) (depth from at : ℕ) : Type 0 where
@@ -124,16 +105,17 @@ module _ {script : List ℕ} {depth from at start : ℕ} (R : Reads script depth
         (subst (λ (n : ℕ). group_end script n at ≡ (group_end script (depth - 1) (skip script at + (next - start)) >>= group_end script n)) d
         (end_group script at R.passed R.inside (depth - 1) (token_at at s T)))
 
-    pub inner_ends : (r : Ended) → ended_is r ≡ group_end script (depth - 1) next → r ≡ ended.Bad → fault SyntaxError ≡ group_end script depth from
+    pub inner_ends : fault SyntaxError ≡ group_end script (depth - 1) next → fault SyntaxError ≡ group_end script depth from
     unfolding ◌>>=◌
-    inner_ends r e f = sym (R.same ∙ inner ∙ rw (ended_bad r e f) refl)
+    inner_ends e = sym (R.same ∙ inner ∙ rw (sym e) refl)
 
-    pub inner_inside : (r : Ended) {after : ℕ} → ended_is r ≡ group_end script (depth - 1) next → r ≡ ended.At after → (next < after) × (after ≤ length script)
-    inner_inside r e f = end_inside script (depth - 1) next _ T.inside (ended_at r e f)
+    module _ {after : ℕ} (e : ok after ≡ group_end script (depth - 1) next) where
+      pub inner_inside : (next < after) × (after ≤ length script)
+      inner_inside = end_inside script (depth - 1) next _ T.inside (sym e)
 
-    pub inner_on : (r : Ended) {after : ℕ} → ended_is r ≡ group_end script (depth - 1) next → r ≡ ended.At after → Reads script depth from after
-    unfolding ◌>>=◌
-    inner_on r e f =
-        let i = inner_inside r e f in
-        let o = open_later T in
-        record { passed = omega arith; inside = i.1; same = R.same ∙ inner ∙ rw (ended_at r e f) refl }
+      pub inner_on : Reads script depth from after
+      unfolding ◌>>=◌
+      inner_on =
+          let i = inner_inside in
+          let o = open_later T in
+          record { passed = omega arith; inside = i.1; same = R.same ∙ inner ∙ rw (sym e) refl }

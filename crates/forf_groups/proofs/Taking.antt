@@ -17,15 +17,11 @@ use Rattle.forf_semantics.proofs.TokenLaws.{skip_le}
 use Rattle.forf_semantics.specs.declared.Error.TheVariants.{SyntaxError}
 use Rattle.forf_token.specs.Lexing.{Lexes}
 use Rattle.forf_token.specs.declared.Token.TheVariants.{Integer, Word, OpenBrace, CloseBrace, End}
-use Rattle.forf_groups.specs.Reading.{ended_is, Takes, Nothing, ReadAt}
-use Rattle.forf_groups.specs.declared.Ended.{Ended}
-use Rattle.forf_groups.specs.declared.Ended.TheVariants as ended
+use Rattle.forf_groups.specs.Reading.{Takes, Nothing}
 use Rattle.forf_groups.specs.declared.Item as items
 use Rattle.forf_groups.specs.declared.Item.TheVariants.{Number, Substack}
 use Rattle.forf_groups.specs.declared.Item.TheVariants as item
-use Rattle.forf_groups.specs.declared.Read.{Read}
-use Rattle.forf_groups.specs.declared.Read.TheVariants as read
-use Rattle.forf_groups.proofs.Ending.{token_at, next_is, token_size, number_later, word_later, open_later, end_inside, ended_at, ended_bad}
+use Rattle.forf_groups.proofs.Ending.{token_at, next_is, token_size, number_later, word_later, open_later, end_inside}
 
 ends : (start next : ℕ) → start ≤ next → start + (next - start) ≡ next
 ends start next h = omega arith
@@ -71,29 +67,29 @@ module _ {script : List ℕ} {start next : ℕ} where
   end_nothing T = record { fails = rw T.lexes refl; rest = λ at s K. absurd (body_end script at K (next - start) (token_at at (sym s) T)) }
 
   -- A substack, read whole.
-  module _ (T : Lexes script start OpenBrace next) (r : Ended) (e : ended_is r ≡ group_end script 15 next) where
-    pub open_nothing : r ≡ ended.Bad → Nothing script start
+  module _ (T : Lexes script start OpenBrace next) where
+    pub open_nothing : fault SyntaxError ≡ group_end script 15 next → Nothing script start
     open_nothing f =
         let n = ends start next T.later in
         record {
-          fails = take_fault script start (next - start) T.lexes SyntaxError (subst (λ (m : ℕ). group_end script 15 m ≡ fault SyntaxError) (sym n) (ended_bad r e f));
+          fails = take_fault script start (next - start) T.lexes SyntaxError (subst (λ (m : ℕ). group_end script 15 m ≡ fault SyntaxError) (sym n) (sym f));
           rest = λ at s K.
               let (end, g, b, k, l) = body_group script at K (next - start) (token_at at (sym s) T) in
-              absurd (fault_ok (sym (subst (λ (m : ℕ). group_end script 15 m ≡ fault SyntaxError) (sym (next_is at (sym s) T)) (ended_bad r e f)) ∙ g));
+              absurd (fault_ok (sym (subst (λ (m : ℕ). group_end script 15 m ≡ fault SyntaxError) (sym (next_is at (sym s) T)) (sym f)) ∙ g));
         }
 
-    pub group_taken : {end : ℕ} → r ≡ ended.At end → Takes script start (Substack next) end
+    pub group_taken : {end : ℕ} → ok end ≡ group_end script 15 next → Takes script start (Substack next) end
     group_taken {end} f =
         let n = ends start next T.later in
         let o = open_later T in
-        let i = end_inside script 15 next end T.inside (ended_at r e f) in
-        let (t, k) = take_group script start (next - start) T.lexes end (rw n (omega arith)) (rw n T.inside) (subst (λ (m : ℕ). group_end script 15 m ≡ ok end) (sym n) (ended_at r e f)) in
+        let i = end_inside script 15 next end T.inside (sym f) in
+        let (t, k) = take_group script start (next - start) T.lexes end (rw n (omega arith)) (rw n T.inside) (subst (λ (m : ℕ). group_end script 15 m ≡ ok end) (sym n) (sym f)) in
         record {
           takes = subst (λ (m : ℕ). take_token script start ≡ taken (group (body_at script m)) end) n t;
           rest = λ at s K.
               let (end₂, g, b, known, last) = body_group script at K (next - start) (token_at at (sym s) T) in
               let q : group_end script 15 next ≡ ok end₂ = subst (λ (m : ℕ). group_end script 15 m ≡ ok end₂) (next_is at (sym s) T) g in
-              let same : end₂ ≡ end = ok_one (sym q ∙ ended_at r e f) in (
+              let same : end₂ ≡ end = ok_one (sym q ∙ sym f) in (
                 subst (λ (m : ℕ). body_at script at ≡ group (body_at script m) then body_at script end) (next_is at (sym s) T)
                     (subst (λ (m : ℕ). body_at script at ≡ group (body_at script (skip script at + (next - start))) then body_at script m) same b),
                 subst (Known script) same last,
@@ -121,29 +117,26 @@ pub record Counts (script : List ℕ) (from at n : ℕ) : Type 0 where
 pub count_begin : {script : List ℕ} {from : ℕ} → Known script from → Counts script from from 0
 count_begin K = record { known = K; sum = omega arith; few = omega arith }
 
-module _ {script : List ℕ} {from at n start : ℕ} (C : Counts script from at n) (s : start ≡ skip script at) (r : Read) (R : ReadAt script start r) where
-  pub count_ends : r ≡ read.Nothing → n ≡ count (body_at script from)
+module _ {script : List ℕ} {from at n start : ℕ} (C : Counts script from at n) (s : start ≡ skip script at) where
+  pub count_ends : Nothing script start → n ≡ count (body_at script from)
   unfolding count
-  count_ends e =
-      let N : Nothing script start = subst (ReadAt script start) e R in
+  count_ends N =
       let z : count (body_at script at) ≡ 0 = ap count (N.rest at (sym s) C.known) in
       let c = C.sum in
       omega arith
 
-  pub count_inside : {i : items.Item} {next : ℕ} → r ≡ read.Item i next → (at < next) × (next ≤ length script)
-  count_inside {i} {next} e =
-      let T : Takes script start i next = subst (ReadAt script start) e R in
+  pub count_inside : {i : items.Item} {next : ℕ} → Takes script start i next → (at < next) × (next ≤ length script)
+  count_inside {i} {next} T =
       let k = skip_le script at C.known.inside in
       let l = T.later in
       (omega arith, T.inside)
 
-  pub count_again : {i : items.Item} {next : ℕ} → r ≡ read.Item i next → Counts script from next (n + 1)
+  pub count_again : {i : items.Item} {next : ℕ} → Takes script start i next → Counts script from next (n + 1)
   unfolding count
-  count_again {i} {next} e =
-      let T : Takes script start i next = subst (ReadAt script start) e R in
+  count_again {i} {next} T =
       let (b, k) = T.rest at (sym s) C.known in
       let z : count (body_at script at) ≡ suc (count (body_at script next)) = ap count b in
       let c = C.sum in
       let f = C.few in
-      let h = count_inside e in
+      let h = count_inside T in
       record { known = k; sum = omega arith; few = omega arith }

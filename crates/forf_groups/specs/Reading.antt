@@ -1,6 +1,6 @@
 -- What an item that is read means: what the definition takes there, outside braces and in a substack that is known by its offset.
 -- Assumes nothing.
-use Rattle.std.specs.Prelude.{◌≡◌, List, ℕ, ◌+◌, ◌<◌, ◌≤◌, length, take, drop}
+use Rattle.std.specs.Prelude.{◌≡◌, List, ℕ, ◌+◌, ◌<◌, ◌≤◌, length, take, drop, Result as Reply, Ok, Err, Option, Some, None}
 use Rattle.semantics.specs.Sizes.{name_most, script_most}
 use Rattle.semantics.specs.Values.{ok, fault}
 use Rattle.forf_semantics.specs.Errors.{Result}
@@ -8,16 +8,13 @@ use Rattle.forf_semantics.specs.Items.{number, word, group, none, ◌then◌, sk
 use Rattle.forf_semantics.specs.Items as items
 use Rattle.forf_semantics.specs.BodyLaws.{body_at, Known}
 use Rattle.forf_semantics.specs.declared.Error.TheVariants.{SyntaxError}
-use Rattle.forf_groups.specs.declared.Ended.{Ended}
-use Rattle.forf_groups.specs.declared.Ended.TheVariants as ended
+use Rattle.forf_token.specs.declared.SyntaxError.{SyntaxError as Bad}
 use Rattle.forf_groups.specs.declared.Item.{Item}
 use Rattle.forf_groups.specs.declared.Item.TheVariants.{Number, Word, Substack}
-use Rattle.forf_groups.specs.declared.Read.{Read}
-use Rattle.forf_groups.specs.declared.Read.TheVariants as read
 
-abbrev pub ended_is : Ended → Result ℕ
-ended_is (ended.At e) = ok e
-ended_is ended.Bad = fault SyntaxError
+abbrev pub ended_is : Reply ℕ Bad → Result ℕ
+ended_is (Ok e) = ok e
+ended_is (Err e) = fault SyntaxError
 
 -- An offset of a script that setup accepts.
 pub record Readable (script : List ℕ) (start : ℕ) : Type 0 where
@@ -49,6 +46,6 @@ pub record Nothing (script : List ℕ) (start : ℕ) : Type 0 where
   pub fails : take_token script start ≡ fault SyntaxError
   pub rest : (at : ℕ) → skip script at ≡ start → Known script at → body_at script at ≡ none
 
-abbrev pub ReadAt : List ℕ → ℕ → Read → Type 0
-ReadAt script start (read.Item i next) = Takes script start i next
-ReadAt script start read.Nothing = Nothing script start
+abbrev pub ReadAt : List ℕ → ℕ → Option (Item × ℕ) → Type 0
+ReadAt script start (Some (i, next)) = Takes script start i next
+ReadAt script start None = Nothing script start

@@ -19,11 +19,10 @@ use Rattle.forf_semantics.specs.BodyLaws.{body_at}
 use Rattle.forf_semantics.specs.declared.Error.TheVariants.{StackUnderflow, TypeCheck}
 use Rattle.forf_machine.specs.Slots.{Slot, slots, put_slot}
 use Rattle.forf_machine.specs.Rep.{value_of, SoundValue, machine_from, machine_of, Rep, limits_of}
-use Rattle.forf_machine.specs.Does.{Answer, Does, Pushes, Pends}
+use Rattle.forf_machine.specs.Does.{Acted, Answer, Does, Pushes, Pends}
 use Rattle.forf_machine.specs.Operands.{int_of, offset_of}
 use Rattle.forf_machine.specs.declared.Machine.{Machine}
-use Rattle.forf_machine.specs.declared.Acted.{Acted}
-use Rattle.forf_machine.specs.declared.Acted.TheVariants.{Went, Failed}
+use Rattle.std.specs.Prelude.{Ok, Err}
 use Rattle.forf_machine.proofs.Slotting.{length_put, top_slot, top_slots, three_slots, put_top, put_last, all_tail, all_head}
 use Rattle.forf_machine.proofs.Answering.{failed, went}
 use Rattle.forf_machine.proofs.Operating.{int_is, body_is, int_yes, int_no, offset_yes, offset_no, lowered}
@@ -55,14 +54,14 @@ module _ (m : Machine) (s e mem : List ℕ) where
   unfolding pop machine_of ◌>>=◌
   pop_few script h = rw (pop1_few script m.depth s (slots 8 m.frames e) mem h) refl
 
-  pub pop_fails : m.depth < 1 → Does pop m s s e e mem mem (Failed StackUnderflow)
+  pub pop_fails : m.depth < 1 → Does pop m s s e e mem mem (Err StackUnderflow)
   pop_fails h = record { does = λ script R. (failed s e (pop_few script h), refl, refl) }
 
   pop_is : (script : List ℕ) → 1 ≤ m.depth → pop (machine_of script m s e mem) ≡ ok (machine_from script (slots 2 (m.depth - 1) s) (slots 8 m.frames e) mem)
   unfolding pop pop1 with_stack machine_of machine_from ◌>>=◌
   pop_is script h = rw (top_slot 2 m.depth s h) refl
 
-  pub pop_done : (m' : Machine) → 1 ≤ m.depth → m' ≡ record { depth = m.depth - 1; frames = m.frames } → Does pop m s s e e mem mem (Went m')
+  pub pop_done : (m' : Machine) → 1 ≤ m.depth → m' ≡ record { depth = m.depth - 1; frames = m.frames } → Does pop m s s e e mem mem (Ok m')
   pop_done m' h n = record {
     does = λ script R.
         let (same, R') = lowered R m' (ap (λ (x : Machine). x.frames) n) (m.depth - 1) (ap (λ (x : Machine). x.depth) n) (omega arith) R.memory_slots_lem in
@@ -73,7 +72,7 @@ module _ (m : Machine) (s e mem : List ℕ) where
   unfolding dup machine_of ◌>>=◌
   dup_few script h = rw (pop1_few script m.depth s (slots 8 m.frames e) mem h) refl
 
-  pub dup_fails : m.depth < 1 → Does dup m s s e e mem mem (Failed StackUnderflow)
+  pub dup_fails : m.depth < 1 → Does dup m s s e e mem mem (Err StackUnderflow)
   dup_fails h = record { does = λ script R. (failed s e (dup_few script h), refl, refl) }
 
   dup_is : (script : List ℕ) → 1 ≤ m.depth
@@ -92,7 +91,7 @@ module _ (m : Machine) (s e mem : List ℕ) where
   unfolding exch machine_of ◌>>=◌
   exch_few script h = rw (pop2_few script m.depth s (slots 8 m.frames e) mem h) refl
 
-  pub exch_fails : m.depth < 2 → Does exch m s s e e mem mem (Failed StackUnderflow)
+  pub exch_fails : m.depth < 2 → Does exch m s s e e mem mem (Err StackUnderflow)
   exch_fails h = record { does = λ script R. (failed s e (exch_few script h), refl, refl) }
 
   module _ (h : 2 ≤ m.depth) (fits : 2 * m.depth ≤ length s) {s₁ s' : List ℕ}
@@ -115,7 +114,7 @@ module _ (m : Machine) (s e mem : List ℕ) where
     unfolding exch pop2 push with_stack machine_of machine_from ◌>>=◌
     exch_is script = rw (exchanged) (rw (top_slots 2 m.depth s h) refl)
 
-    pub exch_done : Does exch m s s' e e mem mem (Went m)
+    pub exch_done : Does exch m s s' e e mem mem (Ok m)
     exch_done = record {
       does = λ script R.
           let old = subst (All (SoundValue script)) (top_slots 2 m.depth s h) R.values in
@@ -167,14 +166,14 @@ module _ (m : Machine) (s e mem : List ℕ) where
   unfolding if' machine_of ◌>>=◌
   if_few script h = rw (pop2_few script m.depth s (slots 8 m.frames e) mem h) refl
 
-  pub if_fails : m.depth < 2 → Does if' m s s e e mem mem (Failed StackUnderflow)
+  pub if_fails : m.depth < 2 → Does if' m s s e e mem mem (Err StackUnderflow)
   if_fails h = record { does = λ script R. (failed s e (if_few script h), refl, refl) }
 
   ifelse_few : (script : List ℕ) → m.depth < 3 → ifelse (machine_of script m s e mem) ≡ fault StackUnderflow
   unfolding ifelse machine_of ◌>>=◌
   ifelse_few script h = rw (pop3_few script m.depth s (slots 8 m.frames e) mem h) refl
 
-  pub ifelse_fails : m.depth < 3 → Does ifelse m s s e e mem mem (Failed StackUnderflow)
+  pub ifelse_fails : m.depth < 3 → Does ifelse m s s e e mem mem (Err StackUnderflow)
   ifelse_fails h = record { does = λ script R. (failed s e (ifelse_few script h), refl, refl) }
 
   module _ (h : 2 ≤ m.depth) where
@@ -194,11 +193,11 @@ module _ (m : Machine) (s e mem : List ℕ) where
         ∙ if_slots script S X (slots 2 (m.depth - 2) s) (slots 8 m.frames e) mem
         ∙ rw (f, g) refl
 
-    pub if_lower : (get_or s (2 * (m.depth - 2)) 0 ≡ 0 → ⊥) → Does if' m s s e e mem mem (Failed TypeCheck)
+    pub if_lower : (get_or s (2 * (m.depth - 2)) 0 ≡ 0 → ⊥) → Does if' m s s e e mem mem (Err TypeCheck)
     unfolding ◌>>=◌ X
     if_lower k = record { does = λ script R. (failed s e (if_is script _ _ (int_no X k) refl), refl, refl) }
 
-    pub if_upper : get_or s (2 * (m.depth - 2)) 0 ≡ 0 → get_or s (2 * (m.depth - 1)) 0 ≡ 0 → Does if' m s s e e mem mem (Failed TypeCheck)
+    pub if_upper : get_or s (2 * (m.depth - 2)) 0 ≡ 0 → get_or s (2 * (m.depth - 1)) 0 ≡ 0 → Does if' m s s e e mem mem (Err TypeCheck)
     unfolding ◌>>=◌ X S
     if_upper k l = record { does = λ script R. (failed s e (if_is script _ _ (int_yes X k) (offset_no S l)), refl, refl) }
 
@@ -208,7 +207,7 @@ module _ (m : Machine) (s e mem : List ℕ) where
           → (machine_from script (slots 2 (m.depth - 2) s) (slots 8 m.frames e) mem ≡ machine_of script m' s e mem) × Rep script m' s e mem
       left script R = lowered R m' (ap (λ (x : Machine). x.frames) n) (m.depth - 2) (ap (λ (x : Machine). x.depth) n) (omega arith) R.memory_slots_lem
 
-      pub if_false : get_or s (2 * (m.depth - 2) + 1) 0 ≡ 0 → Does if' m s s e e mem mem (Went m')
+      pub if_false : get_or s (2 * (m.depth - 2) + 1) 0 ≡ 0 → Does if' m s s e e mem mem (Ok m')
       unfolding ◌>>=◌ X S
       if_false z = record {
         does = λ script R.
@@ -250,17 +249,17 @@ module _ (m : Machine) (s e mem : List ℕ) where
     unfolding T' S' X'
     old script R = subst (All (SoundValue script)) (three_slots 2 m.depth s h) R.values
 
-    pub ifelse_lowest : (get_or s (2 * (m.depth - 3)) 0 ≡ 0 → ⊥) → Does ifelse m s s e e mem mem (Failed TypeCheck)
+    pub ifelse_lowest : (get_or s (2 * (m.depth - 3)) 0 ≡ 0 → ⊥) → Does ifelse m s s e e mem mem (Err TypeCheck)
     unfolding ◌>>=◌ X'
     ifelse_lowest k = record { does = λ script R. (failed s e (ifelse_is script _ _ _ (int_no X' k) refl refl), refl, refl) }
 
     module _ (k : get_or s (2 * (m.depth - 3)) 0 ≡ 0) where
-      pub ifelse_middle : get_or s (2 * (m.depth - 2)) 0 ≡ 0 → Does ifelse m s s e e mem mem (Failed TypeCheck)
+      pub ifelse_middle : get_or s (2 * (m.depth - 2)) 0 ≡ 0 → Does ifelse m s s e e mem mem (Err TypeCheck)
       unfolding ◌>>=◌ X' S'
       ifelse_middle l = record { does = λ script R. (failed s e (ifelse_is script _ _ _ (int_yes X' k) (offset_no S' l) refl), refl, refl) }
 
       module _ (l : get_or s (2 * (m.depth - 2)) 0 ≡ 0 → ⊥) where
-        pub ifelse_top : get_or s (2 * (m.depth - 1)) 0 ≡ 0 → Does ifelse m s s e e mem mem (Failed TypeCheck)
+        pub ifelse_top : get_or s (2 * (m.depth - 1)) 0 ≡ 0 → Does ifelse m s s e e mem mem (Err TypeCheck)
         unfolding ◌>>=◌ X' S' T'
         ifelse_top j = record { does = λ script R. (failed s e (ifelse_is script _ _ _ (int_yes X' k) (offset_yes S' l) (offset_no T' j)), refl, refl) }
 

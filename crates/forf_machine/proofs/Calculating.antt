@@ -1,37 +1,35 @@
--- The words on integers: the definition's operators of each number have their shapes, and the code's arithmetic is theirs.
+-- The words on two integers: the definition's operators have their shapes, and the code's division is theirs.
 -- Assumes nothing.
 use mathlib.Core.Path.{◌≡◌, refl, sym, ap, ◌∙◌}
-use mathlib.Core.Bool.{Bool, true, false, not}
+use mathlib.Core.Bool.{Bool, true, false, not, cond}
 use mathlib.Core.List.{List, [], ◌∷◌}
-use Prim.Native.Nat.{ℕ, zero, suc, ◌-◌, ◌≤◌, ◌<◌}
+use Prim.Native.Nat.{ℕ, ◌^◌}
 use native.Mathlib.Omega.{arith}
-use lib.IntN.{ℤ, nat_abs, ◌+ℤ◌, ◌-ℤ◌, ◌*ℤ◌}
-use lib.ListN.{drop, get_or-eq_default}
-use lib.Signed.{lt_z, le_z, quot_z, rem_z}
-use lib.Bits.{bit_and, bit_or, bit_xor}
-use lib.Dec.{eqb}
+use lib.IntN.{ℤ, pos, nat_abs}
+use lib.ListN.{drop}
+use lib.Signed.{shr_z}
+use lib.Dec.{eqb, ltb}
 use borrow.Author.Tests.{ne_eqb, eqb-true, eqb-false}
 use mir.Syntax.{w32}
-use mir.Val.{Fits}
-use Rattle.semantics.specs.Words.{signed, word}
+use mir.Val.{Fits, bool_byte}
+use Rattle.semantics.specs.Words.{signed, word, shift}
 use Rattle.semantics.specs.Values.{ok, fault, ◌>>=◌, check}
 use Rattle.semantics.specs.ResultLaws.{ok_one, fault_ok}
 use Rattle.semantics.specs.NumberOperators as floo
 use Rattle.semantics.specs.declared.Error.TheVariants as error
 use Rattle.word.specs.Answers.{quotient_of, divided_words}
-use Rattle.word.specs.declared.Quotient.{Quotient}
-use Rattle.word.specs.declared.Quotient.TheVariants.{Value, ZeroDivisor}
+use Rattle.std.specs.Prelude.{Option, Some, None}
 use Rattle.word.proofs.Division.{nonzero}
 use Rattle.forf_semantics.specs.Errors.{Result}
 use Rattle.forf_semantics.specs.Machine.{pop2, push, with_stack}
-use Rattle.forf_semantics.specs.Operators.{binary, division, wrapping, absolute, inverted, flag, compared, left, right, ◌is◌, table}
+use Rattle.forf_semantics.specs.Operators.{binary, division, wrapping, flag, compared, left, right}
 use Rattle.forf_semantics.specs.declared.Error.TheVariants.{UndefinedResult}
 use Rattle.forf_machine.specs.Slots.{Slot}
 use Rattle.forf_machine.specs.Rep.{value_of, value_as, machine_from}
 use Rattle.forf_machine.specs.Operands.{int_of, two_ints}
-use Rattle.forf_machine.specs.Numbers.{unary_of, gives, divided, binaries, binary_of, quotient_is}
-use Rattle.forf_machine.specs.Titles.{action_at}
-use Rattle.forf_machine.proofs.Operating.{int_is, as_pair, OneShape, unary_shape, TwoShape}
+use Rattle.forf_machine.specs.Numbers.{gives, divided, quotient_is}
+use Rattle.forf_machine.specs.Steps.{TwoShape}
+use Rattle.forf_machine.proofs.Operating.{int_is, as_pair}
 
 -- ---- shapes
 
@@ -43,7 +41,7 @@ binary_slots f script (x ∷ []) fs mem = refl
 binary_slots f script (x ∷ y ∷ vs) fs mem =
     rw (int_is script y, int_is script x) (as_pair (int_of y) (int_of x) (λ b a. ok (machine_from script ((0, f b a) ∷ vs) fs mem)))
 
-binary_shape : (f : ℕ → ℕ → ℕ) → TwoShape (binary f) (gives f)
+pub binary_shape : (f : ℕ → ℕ → ℕ) → TwoShape (binary f) (gives f)
 binary_shape f = record { gives = binary_slots f }
 
 division_slots : (f : ℤ → ℤ → ℤ) (script : List ℕ) (vs fs : List Slot) (mem : List ℕ)
@@ -64,40 +62,8 @@ division_slots f script (x ∷ y ∷ vs) fs mem = rw (int_is script y, int_is sc
     each (ok b) (fault e) = refl
     each (fault e) q = refl
 
-division_shape : (f : ℤ → ℤ → ℤ) → TwoShape (division f) (divided f)
+pub division_shape : (f : ℤ → ℤ → ℤ) → TwoShape (division f) (divided f)
 division_shape f = record { gives = division_slots f }
-
--- ~, ! and abs.
-pub one_number : (k : ℕ) → k < 3 → OneShape (action_at k) (λ mem a. ok (unary_of k a))
-unfolding action_at table ◌is◌ unary_of
-one_number zero h = unary_shape inverted
-one_number (suc zero) h = unary_shape (λ a. flag (eqb a 0))
-one_number (suc (suc zero)) h = unary_shape absolute
-one_number (suc (suc (suc k))) h = absurd (omega arith)
-
--- + to <>.
-pub two_number : (k : ℕ) → 3 ≤ k → k < 19 → TwoShape (action_at k) (binary_of (k - 3))
-unfolding action_at table ◌is◌ binary_of binaries
-two_number zero h l = absurd (omega arith)
-two_number (suc zero) h l = absurd (omega arith)
-two_number (suc (suc zero)) h l = absurd (omega arith)
-two_number (suc (suc (suc zero))) h l = binary_shape (wrapping ◌+ℤ◌)
-two_number (suc (suc (suc (suc zero)))) h l = binary_shape (wrapping ◌-ℤ◌)
-two_number (suc (suc (suc (suc (suc zero))))) h l = binary_shape (wrapping ◌*ℤ◌)
-two_number (suc (suc (suc (suc (suc (suc zero)))))) h l = division_shape quot_z
-two_number (suc (suc (suc (suc (suc (suc (suc zero))))))) h l = division_shape rem_z
-two_number (suc (suc (suc (suc (suc (suc (suc (suc zero)))))))) h l = binary_shape (bit_and)
-two_number (suc (suc (suc (suc (suc (suc (suc (suc (suc zero))))))))) h l = binary_shape (bit_or)
-two_number (suc (suc (suc (suc (suc (suc (suc (suc (suc (suc zero)))))))))) h l = binary_shape (bit_xor)
-two_number (suc (suc (suc (suc (suc (suc (suc (suc (suc (suc (suc zero))))))))))) h l = binary_shape (left)
-two_number (suc (suc (suc (suc (suc (suc (suc (suc (suc (suc (suc (suc zero)))))))))))) h l = binary_shape (right)
-two_number (suc (suc (suc (suc (suc (suc (suc (suc (suc (suc (suc (suc (suc zero))))))))))))) h l = binary_shape (compared (λ y x. lt_z x y))
-two_number (suc (suc (suc (suc (suc (suc (suc (suc (suc (suc (suc (suc (suc (suc zero)))))))))))))) h l = binary_shape (compared (λ y x. le_z x y))
-two_number (suc (suc (suc (suc (suc (suc (suc (suc (suc (suc (suc (suc (suc (suc (suc zero))))))))))))))) h l = binary_shape (compared lt_z)
-two_number (suc (suc (suc (suc (suc (suc (suc (suc (suc (suc (suc (suc (suc (suc (suc (suc zero)))))))))))))))) h l = binary_shape (compared le_z)
-two_number (suc (suc (suc (suc (suc (suc (suc (suc (suc (suc (suc (suc (suc (suc (suc (suc (suc zero))))))))))))))))) h l = binary_shape (λ b a. flag (eqb b a))
-two_number (suc (suc (suc (suc (suc (suc (suc (suc (suc (suc (suc (suc (suc (suc (suc (suc (suc (suc zero)))))))))))))))))) h l = binary_shape (λ b a. flag (not (eqb b a)))
-two_number (suc (suc (suc (suc (suc (suc (suc (suc (suc (suc (suc (suc (suc (suc (suc (suc (suc (suc (suc k))))))))))))))))))) h l = absurd (omega arith)
 
 -- ---- division
 
@@ -113,37 +79,50 @@ same_zero w h = by (eqb w 0) refl
     by false e = ne_eqb (nat_abs (signed w)) 0 (nonzero w h (eqb-false w 0 e))
 
 -- Floo's division of two words is Forf's.
-pub divided_is : (f : ℤ → ℤ → ℤ) (b a : ℕ) (r : Quotient) → Fits w32 a → quotient_of r ≡ divided_words f b a → quotient_is r ≡ divided f b a
+pub divided_is : (f : ℤ → ℤ → ℤ) (b a : ℕ) (r : Option ℕ) → Fits w32 a → quotient_of r ≡ divided_words f b a → quotient_is r ≡ divided f b a
 unfolding divided_words divided floo.division check ◌>>=◌
 divided_is f b a r h e = by r (eqb (nat_abs (signed a)) 0) (eqb a 0) (same_zero a h) e
   where
-    by : (r : Quotient) (s t : Bool) → s ≡ t
+    by : (r : Option ℕ) (s t : Bool) → s ≡ t
         → quotient_of r ≡ ((check (not s) error.UndefinedResult >>= λ u. ok (f (signed b) (signed a))) >>= λ q. ok (word q))
         → quotient_is r ≡ (check (not t) UndefinedResult >>= λ u. ok (word (f (signed b) (signed a))))
-    by (Value w) true true p e = absurd (fault_ok (sym e))
-    by (Value w) false false p e = ap ok (ok_one e)
-    by ZeroDivisor true true p e = refl
-    by ZeroDivisor false false p e = absurd (fault_ok e)
+    by (Some w) true true p e = absurd (fault_ok (sym e))
+    by (Some w) false false p e = ap ok (ok_one e)
+    by None true true p e = refl
+    by None false false p e = absurd (fault_ok e)
     by r true false p e = let z : ◌≡◌ {A = ℕ} 0 1 = cc in absurd (omega arith)
     by r false true p e = let z : ◌≡◌ {A = ℕ} 0 1 = cc in absurd (omega arith)
 
--- ---- a word's arithmetic by its number
+-- ---- the code's arithmetic is the definition's
 
-pub unary_at : (k a : ℕ) {r : ℕ} (n : ℕ) → k ≡ n → r ≡ unary_of n a → r ≡ unary_of k a
-unary_at k a n e h = h ∙ ap (λ (i : ℕ). unary_of i a) (sym e)
+byte_flag : (t : Bool) → bool_byte t ≡ flag t
+unfolding flag
+byte_flag true = refl
+byte_flag false = refl
 
-unary_past : (k a : ℕ) → (k ≡ 0 → ⊥) → (k ≡ 1 → ⊥) → absolute a ≡ unary_of k a
-unfolding unary_of
-unary_past zero a n m = absurd (n refl)
-unary_past (suc zero) a n m = absurd (m refl)
-unary_past (suc (suc k)) a n m = refl
+pub flagged : (t : Bool) {w : ℕ} → w ≡ bool_byte t → w ≡ flag t
+flagged t h = h ∙ byte_flag t
 
-pub unary_rest : (k a : ℕ) {r : ℕ} → (k ≡ 0 → ⊥) → (k ≡ 1 → ⊥) → r ≡ absolute a → r ≡ unary_of k a
-unary_rest k a n m h = h ∙ unary_past k a n m
+module _ (b a : ℕ) {q : Option ℕ} where
+  pub given : (f : ℕ → ℕ → ℕ) → q ≡ Some (f b a) → quotient_is q ≡ gives f b a
+  unfolding gives
+  given f h = ap quotient_is h
 
-pub binary_at : (k b a : ℕ) {q : Result ℕ} (n : ℕ) → k ≡ n → q ≡ binary_of n b a → q ≡ binary_of k b a
-binary_at k b a n e h = h ∙ ap (λ (i : ℕ). binary_of i b a) (sym e)
+  pub wrapped : (f : ℤ → ℤ → ℤ) → q ≡ Some (word (f (signed b) (signed a))) → quotient_is q ≡ gives (wrapping f) b a
+  unfolding wrapping
+  wrapped f h = given (wrapping f) h
 
-pub binary_rest : (k b a : ℕ) {q : Result ℕ} → 15 ≤ k → q ≡ gives (λ b a. flag (not (eqb b a))) b a → q ≡ binary_of k b a
-unfolding binary_of binaries
-binary_rest k b a p h = h ∙ ap (λ (f : ℕ → ℕ → Result ℕ). f b a) (sym (get_or-eq_default binaries (gives (λ b a. flag (not (eqb b a)))) {n = k} p))
+  pub shifted_left : q ≡ Some (shift b (pos a)) → quotient_is q ≡ gives left b a
+  unfolding left
+  shifted_left h = given left h
+
+  pub shifted_right : q ≡ Some (word (shr_z (signed b) (2 ^ cond (ltb a 32) a 31))) → quotient_is q ≡ gives right b a
+  unfolding right
+  shifted_right h = given right h
+
+  pub told : (f : ℕ → ℕ → Bool) → q ≡ Some (bool_byte (f b a)) → quotient_is q ≡ gives (λ b a. flag (f b a)) b a
+  told f h = given (λ b a. flag (f b a)) (h ∙ ap Some (byte_flag (f b a)))
+
+  pub compared_so : (f : ℤ → ℤ → Bool) → q ≡ Some (bool_byte (f (signed b) (signed a))) → quotient_is q ≡ gives (compared f) b a
+  unfolding compared
+  compared_so f h = told (λ b a. f (signed b) (signed a)) h

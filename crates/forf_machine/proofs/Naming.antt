@@ -7,7 +7,7 @@ use Prim.Native.Nat.{ℕ, zero, suc, ◌+◌, ◌-◌, ◌*◌, ◌/◌, ◌%◌
 use native.Mathlib.Nat.{pow-suc, pow-le-pow_right}
 use native.Mathlib.Numerals.{add-one}
 use native.Mathlib.Omega.{arith}
-use lib.ListN.{length, get_or, drop, drop_of_length-le, get_or-eq_default}
+use lib.ListN.{length, get_or, drop, drop_of_length-le}
 use lib.Seq.{drop-cons}
 use lib.Dec.{eqb}
 use borrow.Author.Tests.{ne_eqb, eqb-true, eqb-false}
@@ -18,12 +18,12 @@ use Rattle.forf_semantics.specs.Machine as Forf
 use Rattle.forf_semantics.specs.Operators.{Operator, Entry, ◌is◌, table, find, perform}
 use Rattle.forf_semantics.specs.declared.Error.TheVariants.{Undefined}
 use Rattle.forf_machine.specs.Rep.{machine_of}
-use Rattle.forf_machine.specs.Does.{Does}
+use Rattle.forf_machine.specs.Does.{Acted, Does}
 use Rattle.forf_machine.specs.declared.Machine.{Machine}
-use Rattle.forf_machine.specs.declared.Acted.{Acted}
-use Rattle.forf_machine.specs.declared.Acted.TheVariants.{Failed}
+use Rattle.std.specs.Prelude.{Err, Option, Some, None}
 use Rattle.forf_machine.proofs.Answering.{failed}
-use Rattle.forf_machine.specs.Titles.{titles, place_in, undefined, action_at, key_from, key_of, keys, key_place}
+use Rattle.forf_machine.specs.declared.titles.Word.{Word}
+use Rattle.forf_machine.specs.Titles.{titles, number_of, place_of, place_in, undefined, action_at, key_from, key_of, keys, key_place}
 
 -- ---- a key tells the bytes
 
@@ -176,20 +176,10 @@ pub keyed_end : {n : List ℕ} {key i : ℕ} → Keyed n key i → length n ≤ 
 unfolding key_from
 keyed_end {n} {key} {i} K h = sym (ap (key_from key) (drop_of_length-le n h)) ∙ K.rest
 
--- ---- a word by its number
+-- ---- the key of a `match`
 
 pub key_at : {key k r : ℕ} → key ≡ k → r ≡ key_place keys k → r ≡ key_place keys key
 key_at e h = h ∙ ap (key_place keys) (sym e)
-
-module _ (m : Machine) (s e mem : List ℕ) where
-  pub at_number : {k : ℕ} {f : Operator} {s' e' mem' : List ℕ} {r : Acted} (n : ℕ) → k ≡ n → action_at n ≡ f → Does f m s s' e e' mem mem' r → Does (action_at k) m s s' e e' mem mem' r
-  at_number {f = f} {s'} {e'} {mem'} {r} n p q D = subst (λ (g : Operator). Does g m s s' e e' mem mem' r) (sym (ap action_at p ∙ q)) D
-
-  pub no_number : {k : ℕ} → 25 < k → Does (action_at k) m s s e e mem mem (Failed Undefined)
-  unfolding action_at table undefined
-  no_number {k} h = record {
-    does = λ script R. (failed s e (ap (λ (f : Operator). f (machine_of script m s e mem)) (get_or-eq_default (map (λ (x : Entry). x.action) table) undefined {n = k} (omega arith))), refl, refl);
-  }
 
 -- A key that is none of these, as a `match` leaves it: the last test outermost.
 abbrev pub Without : List ℕ → ℕ → Type 0
@@ -208,3 +198,15 @@ no_place (v ∷ vs) k (cons n ns) = rw (ne_eqb k v n, no_place vs k ns) refl
 pub key_rest : (key : ℕ) → Without (reverse keys) key → 26 ≡ key_place keys key
 unfolding keys titles table ◌is◌ key_of key_from textual
 key_rest key w = sym (no_place keys key (subst (All (λ (v : ℕ). key ≡ v → ⊥)) (reverse-reverse keys) (all_reverse (without_all (reverse keys) key w))))
+
+-- ---- a word of a `match`
+
+module _ (m : Machine) (s e mem : List ℕ) where
+  pub at_word : {o : Option Word} {w v : Word} {f : Operator} {s' e' mem' : List ℕ} {r : Acted}
+      → o ≡ Some w → w ≡ v → action_at (number_of v) ≡ f → Does f m s s' e e' mem mem' r → Does (action_at (place_of o)) m s s' e e' mem mem' r
+  at_word {f = f} {s'} {e'} {mem'} {r} p q h D =
+      subst (λ (g : Operator). Does g m s s' e e' mem mem' r) (sym (ap (λ o. action_at (place_of o)) p ∙ ap (λ v. action_at (number_of v)) q ∙ h)) D
+
+  pub no_word : {o : Option Word} → o ≡ None → Does (action_at (place_of o)) m s s e e mem mem (Err Undefined)
+  unfolding action_at table undefined
+  no_word p = record { does = λ script R. (failed s e (ap (λ o. action_at (place_of o) (machine_of script m s e mem)) p), refl, refl) }

@@ -22,13 +22,11 @@ use Rattle.forf_semantics.specs.declared.Error.TheVariants.{StackUnderflow, Type
 use Rattle.forf_machine.specs.Slots.{Slot, slots, put_slot}
 use Rattle.forf_machine.specs.Rep.{value_as, value_of, SoundValue, SoundFrame, machine_from, machine_of, Rep}
 use Rattle.forf_machine.specs.Does.{Does}
-use Rattle.forf_machine.specs.Operands.{int_as, int_of, offset_as, offset_of, one_int, two_ints, one_is, two_is}
+use Rattle.forf_machine.specs.Steps.{TwoShape}
+use Rattle.forf_machine.specs.Operands.{int_as, int_of, offset_as, offset_of, one_int, two_ints, result_of}
 use Rattle.forf_machine.specs.declared.Machine.{Machine}
-use Rattle.forf_machine.specs.declared.Acted.TheVariants.{Went, Failed}
-use Rattle.forf_machine.specs.declared.OneInt.{OneInt}
-use Rattle.forf_machine.specs.declared.OneInt.TheVariants as one
-use Rattle.forf_machine.specs.declared.TwoInts.{TwoInts}
-use Rattle.forf_machine.specs.declared.TwoInts.TheVariants as two
+use Rattle.std.specs.Prelude.{Ok, Err}
+use Rattle.std.specs.Prelude as std
 use Rattle.forf_machine.proofs.Slotting.{length_put, no_slots, top_slot, top_slots, put_top, all_tail}
 use Rattle.forf_machine.proofs.Answering.{failed, went}
 
@@ -225,28 +223,28 @@ mget_slots script (x ∷ vs) fs mem = by (int (value_of script x)) (int_of x) (i
 pub mget_shape : OneShape mget recalled
 mget_shape = record { gives = mget_slots }
 
-module _ {f : Operator} {g : List ℕ → ℕ → Result ℕ} (shape : OneShape f g) (m : Machine) (s : List ℕ) (r : OneInt)
-    (is : one_is r ≡ one_int (slots 2 m.depth s)) (e mem : List ℕ) where
-  one_gives : (script : List ℕ) {q : Result ℕ} → one_is r ≡ q
+module _ {f : Operator} {g : List ℕ → ℕ → Result ℕ} (shape : OneShape f g) (m : Machine) (s : List ℕ) (r : std.Result ℕ Error)
+    (is : result_of r ≡ one_int (slots 2 m.depth s)) (e mem : List ℕ) where
+  one_gives : (script : List ℕ) {q : Result ℕ} → result_of r ≡ q
       → f (machine_of script m s e mem) ≡ (q >>= λ a. g mem a >>= λ w. ok (machine_from script ((0, w) ∷ drop 1 (slots 2 m.depth s)) (slots 8 m.frames e) mem))
   unfolding machine_of
   one_gives script h =
       shape.gives script (slots 2 m.depth s) (slots 8 m.frames e) mem
       ∙ ap (λ (t : Result ℕ). t >>= λ a. g mem a >>= λ w. ok (machine_from script ((0, w) ∷ drop 1 (slots 2 m.depth s)) (slots 8 m.frames e) mem)) (sym is ∙ h)
 
-  pub one_fails : {x : Error} → r ≡ one.Bad x → Does f m s s e e mem mem (Failed x)
+  pub one_fails : {x : Error} → r ≡ Err x → Does f m s s e e mem mem (Err x)
   unfolding ◌>>=◌
-  one_fails h = record { does = λ script R. (failed s e (one_gives script (ap one_is h)), refl, refl) }
+  one_fails h = record { does = λ script R. (failed s e (one_gives script (ap result_of h)), refl, refl) }
 
-  pub one_undone : {a : ℕ} {x : Error} → r ≡ one.Got a → g mem a ≡ fault x → Does f m s s e e mem mem (Failed x)
+  pub one_undone : {a : ℕ} {x : Error} → r ≡ Ok a → g mem a ≡ fault x → Does f m s s e e mem mem (Err x)
   unfolding ◌>>=◌
-  one_undone h k = record { does = λ script R. (failed s e (one_gives script (ap one_is h) ∙ rw k refl), refl, refl) }
+  one_undone h k = record { does = λ script R. (failed s e (one_gives script (ap result_of h) ∙ rw k refl), refl, refl) }
 
-  pub one_depth : {a : ℕ} → r ≡ one.Got a → 1 ≤ m.depth
-  one_depth h = one_some m.depth s (sym is ∙ ap one_is h)
+  pub one_depth : {a : ℕ} → r ≡ Ok a → 1 ≤ m.depth
+  one_depth h = one_some m.depth s (sym is ∙ ap result_of h)
 
-  pub one_done : {a w : ℕ} {s' : List ℕ} → r ≡ one.Got a → g mem a ≡ ok w → s' ≡ put_slot 2 (m.depth - 1) 0 w s → length s' ≡ length s
-      → Does f m s s' e e mem mem (Went m)
+  pub one_done : {a w : ℕ} {s' : List ℕ} → r ≡ Ok a → g mem a ≡ ok w → s' ≡ put_slot 2 (m.depth - 1) 0 w s → length s' ≡ length s
+      → Does f m s s' e e mem mem (Ok m)
   unfolding ◌>>=◌
   one_done {a} {w} {s'} h k q l =
       let d = one_depth h in
@@ -254,26 +252,21 @@ module _ {f : Operator} {g : List ℕ → ℕ → Result ℕ} (shape : OneShape 
         does = λ script R.
             let (same, R') = replaced R m refl (m.depth - 1) w (omega arith) (omega arith) q in
             went s e l refl R'
-            (one_gives script (ap one_is h)
+            (one_gives script (ap result_of h)
             ∙ rw k (ap (λ (vs : List Slot). ok (machine_from script ((0, w) ∷ vs) (slots 8 m.frames e) mem)) (ap (drop 1) (top_slot 2 m.depth s d)) ∙ ap ok same));
       }
 
 -- ---- two integers give one, or are stored
 
--- The shape of a word that takes two integers.
-pub record TwoShape (f : Operator) (g : ℕ → ℕ → Result ℕ) : Type 0 where
-  pub gives : (script : List ℕ) (vs fs : List Slot) (mem : List ℕ)
-      → f (machine_from script vs fs mem) ≡ (two_ints vs >>= λ (t : ℕ × ℕ). g t.0 t.1 >>= λ w. ok (machine_from script ((0, w) ∷ drop 2 vs) fs mem))
-
-module _ (m : Machine) (s : List ℕ) (r : TwoInts) (is : two_is r ≡ two_ints (slots 2 m.depth s)) (e mem : List ℕ) where
-  pub two_depth : {b a : ℕ} → r ≡ two.Got b a → 2 ≤ m.depth
-  two_depth h = two_some m.depth s (sym is ∙ ap two_is h)
+module _ (m : Machine) (s : List ℕ) (r : std.Result (ℕ × ℕ) Error) (is : result_of r ≡ two_ints (slots 2 m.depth s)) (e mem : List ℕ) where
+  pub two_depth : {b a : ℕ} → r ≡ Ok (b, a) → 2 ≤ m.depth
+  two_depth h = two_some m.depth s (sym is ∙ ap result_of h)
 
   left_two : 2 ≤ m.depth → drop 2 (slots 2 m.depth s) ≡ slots 2 (m.depth - 2) s
   left_two d = ap (drop 2) (top_slots 2 m.depth s d)
 
   module _ {f : Operator} {g : ℕ → ℕ → Result ℕ} (shape : TwoShape f g) where
-    two_gives : (script : List ℕ) {q : Result (ℕ × ℕ)} → two_is r ≡ q
+    two_gives : (script : List ℕ) {q : Result (ℕ × ℕ)} → result_of r ≡ q
         → f (machine_of script m s e mem)
         ≡ (q >>= λ (t : ℕ × ℕ). g t.0 t.1 >>= λ w. ok (machine_from script ((0, w) ∷ drop 2 (slots 2 m.depth s)) (slots 8 m.frames e) mem))
     unfolding machine_of
@@ -281,16 +274,16 @@ module _ (m : Machine) (s : List ℕ) (r : TwoInts) (is : two_is r ≡ two_ints 
         shape.gives script (slots 2 m.depth s) (slots 8 m.frames e) mem
         ∙ ap (λ (u : Result (ℕ × ℕ)). u >>= λ (t : ℕ × ℕ). g t.0 t.1 >>= λ w. ok (machine_from script ((0, w) ∷ drop 2 (slots 2 m.depth s)) (slots 8 m.frames e) mem)) (sym is ∙ h)
 
-    pub two_fails : {x : Error} → r ≡ two.Bad x → Does f m s s e e mem mem (Failed x)
+    pub two_fails : {x : Error} → r ≡ Err x → Does f m s s e e mem mem (Err x)
     unfolding ◌>>=◌
-    two_fails h = record { does = λ script R. (failed s e (two_gives script (ap two_is h)), refl, refl) }
+    two_fails h = record { does = λ script R. (failed s e (two_gives script (ap result_of h)), refl, refl) }
 
-    pub two_undone : {b a : ℕ} {x : Error} → r ≡ two.Got b a → g b a ≡ fault x → Does f m s s e e mem mem (Failed x)
+    pub two_undone : {b a : ℕ} {x : Error} → r ≡ Ok (b, a) → g b a ≡ fault x → Does f m s s e e mem mem (Err x)
     unfolding ◌>>=◌
-    two_undone h k = record { does = λ script R. (failed s e (two_gives script (ap two_is h) ∙ rw k refl), refl, refl) }
+    two_undone h k = record { does = λ script R. (failed s e (two_gives script (ap result_of h) ∙ rw k refl), refl, refl) }
 
-    pub two_done : {b a w : ℕ} {s' : List ℕ} (m' : Machine) → r ≡ two.Got b a → g b a ≡ ok w → s' ≡ put_slot 2 (m.depth - 2) 0 w s → length s' ≡ length s
-        → m' ≡ record { depth = m.depth - 1; frames = m.frames } → Does f m s s' e e mem mem (Went m')
+    pub two_done : {b a w : ℕ} {s' : List ℕ} (m' : Machine) → r ≡ Ok (b, a) → g b a ≡ ok w → s' ≡ put_slot 2 (m.depth - 2) 0 w s → length s' ≡ length s
+        → m' ≡ record { depth = m.depth - 1; frames = m.frames } → Does f m s s' e e mem mem (Ok m')
     unfolding ◌>>=◌
     two_done {b} {a} {w} {s'} m' h k q l n =
         let d = two_depth h in
@@ -299,7 +292,7 @@ module _ (m : Machine) (s : List ℕ) (r : TwoInts) (is : two_is r ≡ two_ints 
           does = λ script R.
               let (same, R') = replaced R m' (ap (λ (x : Machine). x.frames) n) (m.depth - 2) w (omega arith) (omega arith) q in
               went s e l refl R'
-              (two_gives script (ap two_is h)
+              (two_gives script (ap result_of h)
               ∙ rw k (ap (λ (vs : List Slot). ok (machine_from script ((0, w) ∷ vs) (slots 8 m.frames e) mem)) (left_two d) ∙ ap ok same));
         }
 
@@ -322,8 +315,8 @@ mset_slots script (x ∷ y ∷ vs) fs mem = rw (int_is script y, int_is script x
     each (ok b) (fault e) = refl
     each (fault e) q = refl
 
-module _ (m : Machine) (s : List ℕ) (r : TwoInts) (is : two_is r ≡ two_ints (slots 2 m.depth s)) (e mem : List ℕ) where
-  mset_gives : (script : List ℕ) {q : Result (ℕ × ℕ)} → two_is r ≡ q
+module _ (m : Machine) (s : List ℕ) (r : std.Result (ℕ × ℕ) Error) (is : result_of r ≡ two_ints (slots 2 m.depth s)) (e mem : List ℕ) where
+  mset_gives : (script : List ℕ) {q : Result (ℕ × ℕ)} → result_of r ≡ q
       → mset (machine_of script m s e mem)
       ≡ (q >>= λ (t : ℕ × ℕ). check (ltb t.1 32) RangeCheck >>= λ u. ok (machine_from script (drop 2 (slots 2 m.depth s)) (slots 8 m.frames e) (set mem t.1 t.0)))
   unfolding machine_of
@@ -331,16 +324,16 @@ module _ (m : Machine) (s : List ℕ) (r : TwoInts) (is : two_is r ≡ two_ints 
       mset_slots script (slots 2 m.depth s) (slots 8 m.frames e) mem
       ∙ ap (λ (x : Result (ℕ × ℕ)). x >>= λ (t : ℕ × ℕ). check (ltb t.1 32) RangeCheck >>= λ u. ok (machine_from script (drop 2 (slots 2 m.depth s)) (slots 8 m.frames e) (set mem t.1 t.0))) (sym is ∙ h)
 
-  pub mset_fails : {x : Error} → r ≡ two.Bad x → Does mset m s s e e mem mem (Failed x)
+  pub mset_fails : {x : Error} → r ≡ Err x → Does mset m s s e e mem mem (Err x)
   unfolding ◌>>=◌
-  mset_fails h = record { does = λ script R. (failed s e (mset_gives script (ap two_is h)), refl, refl) }
+  mset_fails h = record { does = λ script R. (failed s e (mset_gives script (ap result_of h)), refl, refl) }
 
-  pub mset_outside : {b a : ℕ} → r ≡ two.Got b a → 32 ≤ a → Does mset m s s e e mem mem (Failed RangeCheck)
+  pub mset_outside : {b a : ℕ} → r ≡ Ok (b, a) → 32 ≤ a → Does mset m s s e e mem mem (Err RangeCheck)
   unfolding check ◌>>=◌
-  mset_outside {b} {a} h k = record { does = λ script R. (failed s e (mset_gives script (ap two_is h) ∙ rw (le-ltb a 32 k) refl), refl, refl) }
+  mset_outside {b} {a} h k = record { does = λ script R. (failed s e (mset_gives script (ap result_of h) ∙ rw (le-ltb a 32 k) refl), refl, refl) }
 
-  pub mset_done : {b a : ℕ} {mem' : List ℕ} (m' : Machine) → r ≡ two.Got b a → a < 32 → mem' ≡ set mem a b
-      → m' ≡ record { depth = m.depth - 2; frames = m.frames } → Does mset m s s e e mem mem' (Went m')
+  pub mset_done : {b a : ℕ} {mem' : List ℕ} (m' : Machine) → r ≡ Ok (b, a) → a < 32 → mem' ≡ set mem a b
+      → m' ≡ record { depth = m.depth - 2; frames = m.frames } → Does mset m s s e e mem mem' (Ok m')
   unfolding check ◌>>=◌
   mset_done {b} {a} {mem'} m' h k q n =
       let d = two_depth m s r is e mem h in
@@ -348,7 +341,7 @@ module _ (m : Machine) (s : List ℕ) (r : TwoInts) (is : two_is r ≡ two_ints 
         does = λ script R.
             let (same, R') = lowered R m' (ap (λ (x : Machine). x.frames) n) {mem' = mem'} (m.depth - 2) (ap (λ (x : Machine). x.depth) n) (omega arith) (ap length q ∙ length-set mem a b ∙ R.memory_slots_lem) in
             went s e refl refl R'
-            (mset_gives script (ap two_is h)
+            (mset_gives script (ap result_of h)
             ∙ rw (lt-ltb a 32 k) (ap₂ (λ (vs : List Slot) (x : List ℕ). ok (machine_from script vs (slots 8 m.frames e) x)) (left_two m s r is e mem d) (sym q) ∙ ap ok same));
       }
 

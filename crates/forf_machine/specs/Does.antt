@@ -10,13 +10,18 @@ use Rattle.forf_semantics.specs.Steps.{room_for}
 use Rattle.forf_semantics.specs.BodyLaws.{body_at}
 use Rattle.forf_machine.specs.Rep.{SoundValue, value_of, machine_of, Rep, limits_of}
 use Rattle.forf_machine.specs.declared.Machine.{Machine}
-use Rattle.forf_machine.specs.declared.Acted.{Acted}
-use Rattle.forf_machine.specs.declared.Acted.TheVariants.{Went, Failed}
+use Rattle.forf_semantics.specs.declared.Error.{Error}
+use Rattle.std.specs.Prelude.{Ok, Err}
+use Rattle.std.specs.Prelude as std
+
+-- The machine after a word or a push, or its error.
+abbrev pub Acted : Type 0
+Acted = std.Result Machine Error
 
 -- What is answered, where the definition gives q: the error, with stack and memory as they were; or the machine after it.
 abbrev pub Answer : List ℕ → List ℕ → List ℕ → List ℕ → List ℕ → List ℕ → Acted → Result Forf.Machine → Type 0
-Answer script s s' e' mem mem' (Failed x) q = (q ≡ fault x) × (s' ≡ s) × (mem' ≡ mem)
-Answer script s s' e' mem mem' (Went m) q = (q ≡ ok (machine_of script m s' e' mem')) × Rep script m s' e' mem'
+Answer script s s' e' mem mem' (Err x) q = (q ≡ fault x) × (s' ≡ s) × (mem' ≡ mem)
+Answer script s s' e' mem mem' (Ok m) q = (q ≡ ok (machine_of script m s' e' mem')) × Rep script m s' e' mem'
 
 pub record Does (f : Operator) (m : Machine) (s s' e e' mem mem' : List ℕ) (r : Acted) : Type 0 where
   pub does : (script : List ℕ) → Rep script m s e mem → Answer script s s' e' mem mem' r (f (machine_of script m s e mem) >>= room_for (limits_of s e))

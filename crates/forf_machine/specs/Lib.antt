@@ -4,4 +4,6 @@ pub mod Rep
 pub mod Does
 pub mod Operands
 pub mod Numbers
+pub mod Steps
 pub mod Titles
+pub mod WordLaws

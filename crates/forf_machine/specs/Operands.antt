@@ -5,10 +5,9 @@ use Rattle.semantics.specs.Values.{ok, fault, ◌>>=◌}
 use Rattle.forf_semantics.specs.Errors.{Result}
 use Rattle.forf_semantics.specs.declared.Error.TheVariants.{StackUnderflow, TypeCheck}
 use Rattle.forf_machine.specs.Slots.{Slot}
-use Rattle.forf_machine.specs.declared.OneInt.{OneInt}
-use Rattle.forf_machine.specs.declared.OneInt.TheVariants as one
-use Rattle.forf_machine.specs.declared.TwoInts.{TwoInts}
-use Rattle.forf_machine.specs.declared.TwoInts.TheVariants as two
+use Rattle.forf_semantics.specs.declared.Error.{Error}
+use Rattle.std.specs.Prelude.{Ok, Err}
+use Rattle.std.specs.Prelude as std
 
 unfoldable pub int_as : Bool → ℕ → Result ℕ
 int_as true p = ok p
@@ -36,10 +35,7 @@ two_ints [] = fault StackUnderflow
 two_ints (x ∷ []) = fault StackUnderflow
 two_ints (x ∷ y ∷ vs) = int_of y >>= λ b. int_of x >>= λ a. ok (b, a)
 
-abbrev pub one_is : OneInt → Result ℕ
-one_is (one.Got a) = ok a
-one_is (one.Bad e) = fault e
-
-abbrev pub two_is : TwoInts → Result (ℕ × ℕ)
-two_is (two.Got b a) = ok (b, a)
-two_is (two.Bad e) = fault e
+-- What the code finds, as a result of the definition.
+abbrev pub result_of : {A : Type 0} → std.Result A Error → Result A
+result_of (Ok x) = ok x
+result_of (Err e) = fault e

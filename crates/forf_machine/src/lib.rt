@@ -6,16 +6,16 @@ ghost use Rattle.std.specs.Prelude.{◌≡◌, ◌+◌, ◌*◌, ◌≤◌, ◌<
 ghost use Rattle.forf_semantics.specs.Operators.{if', ifelse, pop, dup, exch, mset, mget};
 ghost use Rattle.forf_machine.specs.Slots.{slots, put_slot};
 ghost use Rattle.forf_machine.specs.Does.{Does, OnDepth, OnStack, OnExec, OnMemory, Pushes, Pends, Lent};
-ghost use Rattle.forf_machine.specs.Operands.{one_int, two_ints, one_is, two_is};
-ghost use Rattle.forf_machine.specs.Titles.{action_at};
+ghost use Rattle.forf_machine.specs.Operands.{one_int, two_ints, result_of};
+ghost use Rattle.forf_machine.specs.Steps.{StepsOne, StepsTwo};
+ghost use Rattle.forf_machine.specs.Titles.{action_at, place_of};
 
 use forf_semantics::Error;
 use semantics::{EXEC_WIDTH, STACK_WIDTH};
 
-mod numbers;
 mod titles;
 
-pub use titles::operator_of;
+pub use titles::{Word, operator_of};
 
 // What the first word of a stack slot says that the second is: an integer's 32 bits, or the offset after a substack's brace.
 pub const TAG_INTEGER: u32 = 0;
@@ -36,26 +36,6 @@ pub struct Machine {
     pub frames: usize,
 }
 
-// The machine after a word or a push, or its error.
-#[derive(Clone, Copy)]
-pub enum Acted {
-    Went(Machine),
-    Failed(Error),
-}
-
-// Operands that are integers, or what is wrong with them.
-#[derive(Clone, Copy)]
-pub enum OneInt {
-    Got(u32),
-    Bad(Error),
-}
-
-#[derive(Clone, Copy)]
-pub enum TwoInts {
-    Got(u32, u32),
-    Bad(Error),
-}
-
 // ---- slots
 
 // The two words of slot i, in slots of so many words.
@@ -71,169 +51,175 @@ impl Machine {
     pub fn with_depth(self, depth: usize) -> Machine
         ensures { result ≡ record { depth = depth; frames = self.frames } }
     {
-        Machine {
-            depth,
-            frames: self.frames,
-        }
+        Machine { depth, ..self }
     }
 
     // A value on the top of the stack.
-    pub fn push(self, stack: &mut [u32], tag: u32, payload: u32) -> Acted
+    pub fn push(self, stack: &mut [u32], tag: u32, payload: u32) -> Result<Machine, Error>
         ensures { Pushes self tag payload stack.old stack.new result }
     {
         let depth = self.depth;
         if stack.len() / STACK_WIDTH <= depth {
-            return Acted::Failed(Error::StackOverflow);
+            return Err(Error::StackOverflow);
         }
         put(stack, STACK_WIDTH, depth, tag, payload);
-        Acted::Went(self.with_depth(depth + 1))
+        Ok(self.with_depth(depth + 1))
     }
 
     // ---- operands
 
-    fn one_int(self, stack: &[u32]) -> OneInt
+    fn one_int(self, stack: &[u32]) -> Result<u32, Error>
         requires { 2 * self.depth ≤ length stack.now }
-        ensures { one_is result ≡ one_int (slots 2 self.depth stack.now) }
+        ensures { result_of result ≡ one_int (slots 2 self.depth stack.now) }
     {
         let depth = self.depth;
         if depth < 1 {
-            return OneInt::Bad(Error::StackUnderflow);
+            return Err(Error::StackUnderflow);
         }
         let x = depth - 1;
         if stack[STACK_WIDTH * x] != TAG_INTEGER {
-            return OneInt::Bad(Error::TypeCheck);
+            return Err(Error::TypeCheck);
         }
-        OneInt::Got(stack[STACK_WIDTH * x + 1])
+        Ok(stack[STACK_WIDTH * x + 1])
     }
 
     // The lower first.
-    fn two_ints(self, stack: &[u32]) -> TwoInts
+    fn two_ints(self, stack: &[u32]) -> Result<(u32, u32), Error>
         requires { 2 * self.depth ≤ length stack.now }
-        ensures { two_is result ≡ two_ints (slots 2 self.depth stack.now) }
+        ensures { result_of result ≡ two_ints (slots 2 self.depth stack.now) }
     {
         let depth = self.depth;
         if depth < 2 {
-            return TwoInts::Bad(Error::StackUnderflow);
+            return Err(Error::StackUnderflow);
         }
         let x = depth - 1;
         let y = depth - 2;
         if stack[STACK_WIDTH * y] != TAG_INTEGER {
-            return TwoInts::Bad(Error::TypeCheck);
+            return Err(Error::TypeCheck);
         }
         if stack[STACK_WIDTH * x] != TAG_INTEGER {
-            return TwoInts::Bad(Error::TypeCheck);
+            return Err(Error::TypeCheck);
         }
-        TwoInts::Got(stack[STACK_WIDTH * y + 1], stack[STACK_WIDTH * x + 1])
+        Ok((stack[STACK_WIDTH * y + 1], stack[STACK_WIDTH * x + 1]))
     }
 }
 
-// ---- the words by their numbers, which are their places in the definition's table
+// ---- the words
 
-// A word acts.
-pub fn perform(k: u32, m: Machine, stack: &mut [u32], exec: &mut [u32], memory: &mut [u32]) -> Acted
+// A word acts; no word is undefined.
+pub fn perform(
+    word: Option<Word>,
+    m: Machine,
+    stack: &mut [u32],
+    exec: &mut [u32],
+    memory: &mut [u32],
+) -> Result<Machine, Error>
     requires { Lent m stack.old exec.old memory.old }
-    ensures { Does (action_at k) m stack.old stack.new exec.old exec.new memory.old memory.new result }
+    ensures { Does (action_at (place_of word)) m stack.old stack.new exec.old exec.new memory.old memory.new result }
 {
-    if k < 3 {
-        return one_to_one(k, m, stack);
-    }
-    if k < 19 {
-        return two_to_one(k, m, stack);
-    }
-    if 25 < k {
-        return Acted::Failed(Error::Undefined);
-    }
-    match k {
-        19 => branch(m, stack, exec),
-        20 => choose(m, stack, exec),
-        21 => discard(m),
-        22 => duplicate(m, stack),
-        23 => exchange(m, stack),
-        24 => store(m, stack, memory),
-        _ => fetch(m, stack, memory),
+    let Some(word) = word else {
+        return Err(Error::Undefined);
+    };
+    match word {
+        Word::Not => one_to_one(m, stack, |a| word::bit_not(a)),
+        Word::IsZero => one_to_one(m, stack, |a| u32::from(word::eq(a, 0))),
+        Word::Abs => one_to_one(m, stack, |a| word::abs(a)),
+        Word::Add => two_to_one(m, stack, |b, a| Some(word::add(b, a))),
+        Word::Sub => two_to_one(m, stack, |b, a| Some(word::sub(b, a))),
+        Word::Mul => two_to_one(m, stack, |b, a| Some(word::mul(b, a))),
+        Word::Div => two_to_one(m, stack, |b, a| word::idiv(b, a)),
+        Word::Rem => two_to_one(m, stack, |b, a| word::rem(b, a)),
+        Word::And => two_to_one(m, stack, |b, a| Some(word::bit_and(b, a))),
+        Word::Or => two_to_one(m, stack, |b, a| Some(word::bit_or(b, a))),
+        Word::Xor => two_to_one(m, stack, |b, a| Some(word::bit_xor(b, a))),
+        Word::Left => two_to_one(m, stack, |b, a| Some(word::shift_left(b, a))),
+        Word::Right => two_to_one(m, stack, |b, a| Some(word::shift_right(b, a))),
+        Word::Gt => two_to_one(m, stack, |b, a| Some(u32::from(word::gt(b, a)))),
+        Word::Ge => two_to_one(m, stack, |b, a| Some(u32::from(word::ge(b, a)))),
+        Word::Lt => two_to_one(m, stack, |b, a| Some(u32::from(word::lt(b, a)))),
+        Word::Le => two_to_one(m, stack, |b, a| Some(u32::from(word::le(b, a)))),
+        Word::Eq => two_to_one(m, stack, |b, a| Some(u32::from(word::eq(b, a)))),
+        Word::Ne => two_to_one(m, stack, |b, a| Some(u32::from(word::ne(b, a)))),
+        Word::If => branch(m, stack, exec),
+        Word::Ifelse => choose(m, stack, exec),
+        Word::Pop => discard(m),
+        Word::Dup => duplicate(m, stack),
+        Word::Exch => exchange(m, stack),
+        Word::Mset => store(m, stack, memory),
+        Word::Mget => fetch(m, stack, memory),
     }
 }
 
-// ~, ! and abs.
-fn one_to_one(k: u32, m: Machine, stack: &mut [u32]) -> Acted
-    requires { (k < 3) × (2 * m.depth ≤ length stack.old) }
-    ensures { OnStack (action_at k) m stack.old stack.new result }
+// An integer gives way to what f makes of it.
+fn one_to_one<F: FnOnce(u32) -> u32>(m: Machine, stack: &mut [u32], f: F) -> Result<Machine, Error>
+    requires callable { F.IsAlwaysCallable f }
+    requires deep { 2 * m.depth ≤ length stack.old }
+    ensures { StepsOne (F.post f) m stack.old stack.new result }
 {
-    match m.one_int(stack) {
-        OneInt::Bad(e) => Acted::Failed(e),
-        OneInt::Got(a) => {
-            put(
-                stack,
-                STACK_WIDTH,
-                m.depth - 1,
-                TAG_INTEGER,
-                numbers::unary(k, a),
-            );
-            Acted::Went(m)
-        }
-    }
+    let a = m.one_int(stack)?;
+    put(stack, STACK_WIDTH, m.depth - 1, TAG_INTEGER, f(a));
+    Ok(m)
 }
 
-// + to <>.
-fn two_to_one(k: u32, m: Machine, stack: &mut [u32]) -> Acted
-    requires { (3 ≤ k) × (k < 19) × (2 * m.depth ≤ length stack.old) }
-    ensures { OnStack (action_at k) m stack.old stack.new result }
+// Two give way to what f makes of them, the lower first. None by zero, which only / and % know.
+fn two_to_one<F: FnOnce(u32, u32) -> Option<u32>>(
+    m: Machine,
+    stack: &mut [u32],
+    f: F,
+) -> Result<Machine, Error>
+    requires callable { F.IsAlwaysCallable f }
+    requires deep { 2 * m.depth ≤ length stack.old }
+    ensures { StepsTwo (F.post f) m stack.old stack.new result }
 {
-    match m.two_ints(stack) {
-        TwoInts::Bad(e) => Acted::Failed(e),
-        TwoInts::Got(b, a) => match numbers::binary(k - 3, b, a) {
-            word::Quotient::ZeroDivisor => Acted::Failed(Error::UndefinedResult),
-            word::Quotient::Value(w) => {
-                put(stack, STACK_WIDTH, m.depth - 2, TAG_INTEGER, w);
-                Acted::Went(m.with_depth(m.depth - 1))
-            }
-        },
-    }
+    let (b, a) = m.two_ints(stack)?;
+    let w = f(b, a).ok_or(Error::UndefinedResult)?;
+    put(stack, STACK_WIDTH, m.depth - 2, TAG_INTEGER, w);
+    Ok(m.with_depth(m.depth - 1))
 }
 
 // x s if
-fn branch(m: Machine, stack: &[u32], exec: &mut [u32]) -> Acted
+fn branch(m: Machine, stack: &[u32], exec: &mut [u32]) -> Result<Machine, Error>
     requires { 2 * m.depth ≤ length stack.now }
     ensures { OnExec if' m stack.now exec.old exec.new result }
 {
     let depth = m.depth;
     if depth < 2 {
-        return Acted::Failed(Error::StackUnderflow);
+        return Err(Error::StackUnderflow);
     }
     let s = depth - 1;
     let x = depth - 2;
     if stack[STACK_WIDTH * x] != TAG_INTEGER {
-        return Acted::Failed(Error::TypeCheck);
+        return Err(Error::TypeCheck);
     }
     if stack[STACK_WIDTH * s] == TAG_INTEGER {
-        return Acted::Failed(Error::TypeCheck);
+        return Err(Error::TypeCheck);
     }
     if stack[STACK_WIDTH * x + 1] == 0 {
-        return Acted::Went(m.with_depth(x));
+        return Ok(m.with_depth(x));
     }
     pend(m.with_depth(x), exec, stack[STACK_WIDTH * s + 1])
 }
 
 // x s t ifelse
-fn choose(m: Machine, stack: &[u32], exec: &mut [u32]) -> Acted
+fn choose(m: Machine, stack: &[u32], exec: &mut [u32]) -> Result<Machine, Error>
     requires { 2 * m.depth ≤ length stack.now }
     ensures { OnExec ifelse m stack.now exec.old exec.new result }
 {
     let depth = m.depth;
     if depth < 3 {
-        return Acted::Failed(Error::StackUnderflow);
+        return Err(Error::StackUnderflow);
     }
     let t = depth - 1;
     let s = depth - 2;
     let x = depth - 3;
     if stack[STACK_WIDTH * x] != TAG_INTEGER {
-        return Acted::Failed(Error::TypeCheck);
+        return Err(Error::TypeCheck);
     }
     if stack[STACK_WIDTH * s] == TAG_INTEGER {
-        return Acted::Failed(Error::TypeCheck);
+        return Err(Error::TypeCheck);
     }
     if stack[STACK_WIDTH * t] == TAG_INTEGER {
-        return Acted::Failed(Error::TypeCheck);
+        return Err(Error::TypeCheck);
     }
     if stack[STACK_WIDTH * x + 1] == 0 {
         return pend(m.with_depth(x), exec, stack[STACK_WIDTH * t + 1]);
@@ -242,35 +228,35 @@ fn choose(m: Machine, stack: &[u32], exec: &mut [u32]) -> Acted
 }
 
 // A substack becomes pending.
-fn pend(m: Machine, exec: &mut [u32], body: u32) -> Acted
+fn pend(m: Machine, exec: &mut [u32], body: u32) -> Result<Machine, Error>
     ensures { Pends m body exec.old exec.new result }
 {
     let frames = m.frames;
     if exec.len() / EXEC_WIDTH <= frames {
-        return Acted::Failed(Error::ExecStackOverflow);
+        return Err(Error::ExecStackOverflow);
     }
     put(exec, EXEC_WIDTH, frames, PENDING, body);
-    Acted::Went(Machine {
-        depth: m.depth,
+    Ok(Machine {
         frames: frames + 1,
+        ..m
     })
 }
 
-fn discard(m: Machine) -> Acted
+fn discard(m: Machine) -> Result<Machine, Error>
     ensures { OnDepth pop m result }
 {
     if m.depth < 1 {
-        return Acted::Failed(Error::StackUnderflow);
+        return Err(Error::StackUnderflow);
     }
-    Acted::Went(m.with_depth(m.depth - 1))
+    Ok(m.with_depth(m.depth - 1))
 }
 
-fn duplicate(m: Machine, stack: &mut [u32]) -> Acted
+fn duplicate(m: Machine, stack: &mut [u32]) -> Result<Machine, Error>
     requires { 2 * m.depth ≤ length stack.old }
     ensures { OnStack (dup) m stack.old stack.new result }
 {
     if m.depth < 1 {
-        return Acted::Failed(Error::StackUnderflow);
+        return Err(Error::StackUnderflow);
     }
     let x = m.depth - 1;
     let tag = stack[STACK_WIDTH * x];
@@ -278,12 +264,12 @@ fn duplicate(m: Machine, stack: &mut [u32]) -> Acted
     m.push(stack, tag, payload)
 }
 
-fn exchange(m: Machine, stack: &mut [u32]) -> Acted
+fn exchange(m: Machine, stack: &mut [u32]) -> Result<Machine, Error>
     requires { 2 * m.depth ≤ length stack.old }
     ensures { OnStack (exch) m stack.old stack.new result }
 {
     if m.depth < 2 {
-        return Acted::Failed(Error::StackUnderflow);
+        return Err(Error::StackUnderflow);
     }
     let x = m.depth - 1;
     let y = m.depth - 2;
@@ -293,45 +279,37 @@ fn exchange(m: Machine, stack: &mut [u32]) -> Acted
     let below = stack[STACK_WIDTH * y + 1];
     put(stack, STACK_WIDTH, y, upper, above);
     put(stack, STACK_WIDTH, x, lower, below);
-    Acted::Went(m)
+    Ok(m)
 }
 
 // y x mset
-fn store(m: Machine, stack: &[u32], memory: &mut [u32]) -> Acted
+fn store(m: Machine, stack: &[u32], memory: &mut [u32]) -> Result<Machine, Error>
     requires { (2 * m.depth ≤ length stack.now) × (length memory.old ≡ 32) }
     ensures { OnMemory mset m stack.now stack.now memory.old memory.new result }
 {
-    match m.two_ints(stack) {
-        TwoInts::Bad(e) => Acted::Failed(e),
-        TwoInts::Got(b, a) => {
-            if MEMORY_SLOTS <= a {
-                return Acted::Failed(Error::RangeCheck);
-            }
-            memory[a as usize] = b;
-            Acted::Went(m.with_depth(m.depth - 2))
-        }
+    let (b, a) = m.two_ints(stack)?;
+    if MEMORY_SLOTS <= a {
+        return Err(Error::RangeCheck);
     }
+    memory[a as usize] = b;
+    Ok(m.with_depth(m.depth - 2))
 }
 
 // x mget
-fn fetch(m: Machine, stack: &mut [u32], memory: &[u32]) -> Acted
+fn fetch(m: Machine, stack: &mut [u32], memory: &[u32]) -> Result<Machine, Error>
     requires { (2 * m.depth ≤ length stack.old) × (length memory.now ≡ 32) }
     ensures { OnMemory mget m stack.old stack.new memory.now memory.now result }
 {
-    match m.one_int(stack) {
-        OneInt::Bad(e) => Acted::Failed(e),
-        OneInt::Got(a) => {
-            if MEMORY_SLOTS <= a {
-                return Acted::Failed(Error::RangeCheck);
-            }
-            put(
-                stack,
-                STACK_WIDTH,
-                m.depth - 1,
-                TAG_INTEGER,
-                memory[a as usize],
-            );
-            Acted::Went(m)
-        }
+    let a = m.one_int(stack)?;
+    if MEMORY_SLOTS <= a {
+        return Err(Error::RangeCheck);
     }
+    put(
+        stack,
+        STACK_WIDTH,
+        m.depth - 1,
+        TAG_INTEGER,
+        memory[a as usize],
+    );
+    Ok(m)
 }

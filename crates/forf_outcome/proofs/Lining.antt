@@ -31,10 +31,9 @@ use Rattle.forf_machine.specs.Slots.{slots}
 use Rattle.forf_machine.specs.Rep.{value_as, value_of, SoundValue}
 use Rattle.forf_machine.proofs.Slotting.{all_head}
 use Rattle.forf_machine.proofs.Operating.{all_lower}
-use Rattle.forf_steps.specs.Stepping.{command_text, HeldCommand}
+use Rattle.forf_steps.specs.Stepping.{Command, command_text, HeldCommand}
 use Rattle.forf_steps.specs.Running.{ending_of, HeldEnding}
-use Rattle.forf_steps.specs.declared.Command.{Command}
-use Rattle.forf_steps.specs.declared.Command.TheVariants.{Nothing, Word}
+use Rattle.std.specs.Prelude.{Some, None}
 use Rattle.forf_steps.specs.declared.Ending.{Ending}
 use Rattle.forf_steps.specs.declared.Ending.TheVariants as ending
 use Rattle.forf_steps.specs.declared.Ended.{Ended}
@@ -46,24 +45,24 @@ word_length : (script : List ℕ) (start size : ℕ) → start + size ≤ length
 word_length script start size h = length-take-le size (drop start script) (rw (length-drop start script) (omega arith))
 
 pub command_length : (script : List ℕ) (c : Command) → HeldCommand script c → length (command_text script c) ≤ 125
-command_length script Nothing h = omega arith
-command_length script (Word start size) h = omega (arith, name_text_length true (take size (drop start script)), word_length script start size h.0, h.1)
+command_length script None h = omega arith
+command_length script (Some w) h = omega (arith, name_text_length true (take w.1 (drop w.0 script)), word_length script w.0 w.1 h.0, h.1)
 
-pub name_room : (script : List ℕ) (c : Command) (at : ℕ) (out : List ℕ) {start size : ℕ} → c ≡ Word start size → HeldCommand script c → at + 125 ≤ length out
+pub name_room : (script : List ℕ) (c : Command) (at : ℕ) (out : List ℕ) {start size : ℕ} → c ≡ Some (start, size) → HeldCommand script c → at + 125 ≤ length out
     → at + length (name_text true (take (start + size - start) (drop start script))) ≤ length out
 name_room script c at out {start} {size} e h r =
-    let k : HeldCommand script (Word start size) = subst (HeldCommand script) e h in
-    rw (add-sub_cancel_left start size) (omega (arith, command_length script (Word start size) k))
+    let k : HeldCommand script (Some (start, size)) = subst (HeldCommand script) e h in
+    rw (add-sub_cancel_left start size) (omega (arith, command_length script (Some (start, size)) k))
 
-pub name_inside : (script : List ℕ) (c : Command) {start size : ℕ} → c ≡ Word start size → HeldCommand script c → start + size ≤ length script
+pub name_inside : (script : List ℕ) (c : Command) {start size : ℕ} → c ≡ Some (start, size) → HeldCommand script c → start + size ≤ length script
 name_inside script c e h = (subst (HeldCommand script) e h).0
 
-pub name_written : (script : List ℕ) {c : Command} {start size at r : ℕ} {old new : List ℕ} → c ≡ Word start size
+pub name_written : (script : List ℕ) {c : Command} {start size at r : ℕ} {old new : List ℕ} → c ≡ Some (start, size)
     → Written at (name_text true (take (start + size - start) (drop start script))) old new r → Written at (command_text script c) old new r
 name_written script {c} {start} {size} e W =
     respelt (ap (command_text script) e ∙ ap (λ (n : ℕ). name_text true (take n (drop start script))) (sym (add-sub_cancel_left start size))) W
 
-pub no_command : (script : List ℕ) {c : Command} {at : ℕ} {old : List ℕ} → c ≡ Nothing → Written at (command_text script c) old old at
+pub no_command : (script : List ℕ) {c : Command} {at : ℕ} {old : List ℕ} → c ≡ None → Written at (command_text script c) old old at
 no_command script {at = at} {old} e = respelt (ap (command_text script) e) (nothing at old)
 
 -- ---- a failure

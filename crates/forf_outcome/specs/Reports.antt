@@ -10,9 +10,8 @@ use Rattle.forf_semantics.specs.Outcome.{ending_lines, item}
 use Rattle.forf_semantics.specs.declared.Error.{Error}
 use Rattle.forf_machine.specs.Slots.{slots}
 use Rattle.forf_machine.specs.Rep.{value_of, SoundValue}
-use Rattle.forf_steps.specs.Stepping.{command_text}
+use Rattle.forf_steps.specs.Stepping.{Command, command_text}
 use Rattle.forf_steps.specs.Running.{ending_of, HeldEnding}
-use Rattle.forf_steps.specs.declared.Command.{Command}
 use Rattle.forf_steps.specs.declared.Ended.{Ended}
 
 unfoldable pub failure_lines : List ℕ → Error → Command → List ℕ

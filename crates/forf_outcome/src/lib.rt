@@ -2,7 +2,7 @@
 // stack's items, the bottom first. What is written are the definition's bytes.
 #![tactic(auto)]
 
-ghost use Rattle.std.specs.Prelude.{◌+◌, ◌*◌, ◌≤◌, ◌<◌, length};
+ghost use Rattle.std.specs.Prelude.{◌≡◌, ◌+◌, ◌*◌, ◌≤◌, ◌<◌, length};
 ghost use Rattle.text.specs.Writing.{Written};
 ghost use Rattle.forf_semantics.specs.Errors.{error_text};
 ghost use Rattle.forf_semantics.specs.Outcome.{ending_lines};
@@ -49,7 +49,7 @@ fn write_failure(error: Error, command: Command, script: &[u8], out: &mut [u8]) 
     ensures { Written 0 (failure_lines script.now error command) out.old out.new result }
 {
     let start = text::copy(out, 0, b"ending=error\nerror=");
-    let middle = write_error(out, start, error);
+    let middle = text::copy(out, start, name_of(error));
     let name = text::copy(out, middle, b"\ncommand=");
     let after = write_command(command, script, out, name);
     out[after] = b'\n';
@@ -57,19 +57,19 @@ fn write_failure(error: Error, command: Command, script: &[u8], out: &mut [u8]) 
 }
 
 // The paper's name of an error.
-fn write_error(out: &mut [u8], at: usize, error: Error) -> usize
-    requires { at + 17 ≤ length out.old }
-    ensures { Written at (error_text error) out.old out.new result }
+#[tactic(auto, unfolding(forf_semantics::specs::Errors::error_text, semantics::specs::Text::bytes))]
+fn name_of(error: Error) -> &'static [u8]
+    ensures { result.now ≡ error_text error }
 {
     match error {
-        Error::SyntaxError => text::copy(out, at, b"syntaxerror"),
-        Error::Undefined => text::copy(out, at, b"undefined"),
-        Error::StackUnderflow => text::copy(out, at, b"stackunderflow"),
-        Error::TypeCheck => text::copy(out, at, b"typecheck"),
-        Error::RangeCheck => text::copy(out, at, b"rangecheck"),
-        Error::UndefinedResult => text::copy(out, at, b"undefinedresult"),
-        Error::ExecStackOverflow => text::copy(out, at, b"execstackoverflow"),
-        Error::StackOverflow => text::copy(out, at, b"stackoverflow"),
+        Error::SyntaxError => b"syntaxerror",
+        Error::Undefined => b"undefined",
+        Error::StackUnderflow => b"stackunderflow",
+        Error::TypeCheck => b"typecheck",
+        Error::RangeCheck => b"rangecheck",
+        Error::UndefinedResult => b"undefinedresult",
+        Error::ExecStackOverflow => b"execstackoverflow",
+        Error::StackOverflow => b"stackoverflow",
     }
 }
 
@@ -79,8 +79,8 @@ fn write_command(command: Command, script: &[u8], out: &mut [u8], at: usize) -> 
     ensures { Written at (command_text script.now command) out.old out.new result }
 {
     match command {
-        Command::Nothing => at,
-        Command::Word(start, size) => text::write_name(out, at, true, &script[start..start + size]),
+        None => at,
+        Some((start, size)) => text::write_name(out, at, true, &script[start..start + size]),
     }
 }
 
@@ -92,10 +92,8 @@ fn write_items(depth: usize, script: &[u8], stack: &[u32], out: &mut [u8], at: u
     ensures { Written at (item_lines script.now depth stack.now) out.old out.new result }
 {
     let mut next = at;
-    let mut i = 0;
-    while i < depth {
+    for i in 0..depth {
         next = write_item(i, script, stack, out, next);
-        i += 1;
     }
     next
 }

@@ -17,8 +17,10 @@ use Rattle.forf_semantics.specs.Outcome.{outcome as outcome_text}
 use Rattle.forf_semantics.specs.Steps.{Limits, run, initial}
 use Rattle.forf_semantics.specs.Setup.{Verdict, limits, verdict, refused, memory_slots, runs}
 use Rattle.forf_machine.specs.Rep.{limits_of}
-use Rattle.forf_runner.specs.Promise.{lent_of, refusal_of, the_run, Runs, Ready, CarriesOut}
-use Rattle.forf_runner.specs.declared.Answer.TheVariants as answer
+use Rattle.forf_runner.specs.Promise.{number_of, verdict_of, lent_of, refusal_of, the_run, Runs, Ready, CarriesOut}
+use Rattle.std.specs.Prelude.{Some, Ok, Err}
+use Rattle.forf_runner.specs.declared.Refusal.{Refusal}
+use Rattle.forf_runner.specs.declared.Refusal.TheVariants as refusal
 use Rattle.forf_runner.specs.declared.Report.{Report}
 
 -- ---- the tests in order
@@ -74,18 +76,18 @@ module _ (script : List ℕ) (fuel : ℕ) (s e mem out : List ℕ) {n : ℕ} (q 
   unfolding verdict verdicts limits lent_of is_too_long
   is_verdict = refl
 
-  pub refuses : 0 < n → Runs script fuel s s e e mem mem out out (answer.Refused n)
-  refuses h = record { answers = (is_verdict ∙ refused_by _ _ _ _ _ _ is_number h, record { stack = refl; exec = refl; memory = refl; outcome = refl }) }
+  pub refuses : 0 < n → {r : Refusal} → number_of r ≡ Some n → Runs script fuel s s e e mem mem out out (Err r)
+  refuses h p = record { answers = (is_verdict ∙ refused_by _ _ _ _ _ _ is_number h ∙ ap verdict_of (sym p), record { stack = refl; exec = refl; memory = refl; outcome = refl }) }
 
-  module _ (none : n ≤ 0) where
+  module _ (z : n ≡ 0) where
     passed : Passed (ltb script_most (length script)) (ltb fuel_most fuel) (not (within stack_least stack_most (length s / 2))) (not (within exec_least exec_most (length e / 8))) (ltb (length out) (head_room + item_room * (length s / 2)))
-    passed = let z : n ≡ 0 = omega arith in passed_by _ _ _ _ _ (sym z ∙ is_number)
+    passed = passed_by _ _ _ _ _ (sym z ∙ is_number)
 
     verdict_is : {t : Bool} → not (eqb (length mem) 32) ≡ t → verdict script fuel (lent_of s e out) mem ≡ cond t memory_slots runs
     unfolding verdicts
     verdict_is h = is_verdict ∙ rw (passed.first, passed.second, passed.third, passed.fourth, passed.fifth, h) refl
 
-    pub wrong_memory : (length mem ≡ 32 → ⊥) → Runs script fuel s s e e mem mem out out answer.MemorySlots
+    pub wrong_memory : (length mem ≡ 32 → ⊥) → Runs script fuel s s e e mem mem out out (Err refusal.Memory)
     wrong_memory h = record { answers = (verdict_is (ap not (ne_eqb (length mem) 32 h)), record { stack = refl; exec = refl; memory = refl; outcome = refl }) }
 
     most : (low high k : ℕ) → within low high k ≡ true → k ≤ high
@@ -125,7 +127,7 @@ module _ (script : List ℕ) (fuel : ℕ) (s e mem out : List ℕ) {n : ℕ} (q 
 
       pub answered : (ys ye : List ℕ) {mem' out' : List ℕ} {r : Report} → length ys ≡ length (take (length s / 2 * 2) s) → length ye ≡ length (take (length e / 8 * 8) e)
           → CarriesOut script fuel (take (length s / 2 * 2) s) (take (length e / 8 * 8) e) mem mem' out out' r
-          → Runs script fuel s (ys ++ drop (length s / 2 * 2) s) e (ye ++ drop (length e / 8 * 8) e) mem mem' out out' (answer.Ran r)
+          → Runs script fuel s (ys ++ drop (length s / 2 * 2) s) e (ye ++ drop (length e / 8 * 8) e) mem mem' out out' (Ok r)
       unfolding the_run
       answered ys ye {mem'} {out'} {r} ks ke C =
           let D : CarriesOut' script fuel (limits (lent_of s e out)) mem mem' out out' r = subst (λ (l : Limits). CarriesOut' script fuel l mem mem' out out' r) limits_same (carried C) in

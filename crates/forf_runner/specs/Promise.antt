@@ -1,16 +1,36 @@
 -- What `run` promises: a refusal by its number or name that changes no lent word or byte, or the definition's run, with its outcome and the memory that it leaves.
 -- Assumes nothing.
-use Rattle.std.specs.Prelude.{◌≡◌, not, cond, List, ℕ, ◌+◌, ◌*◌, ◌/◌, ◌≤◌, length, drop, ltb}
+use Rattle.std.specs.Prelude.{◌≡◌, not, cond, List, ℕ, ◌+◌, ◌*◌, ◌/◌, ◌≤◌, ◌<◌, length, drop, ltb}
 use Rattle.semantics.specs.Sizes.{script_most, fuel_most, stack_width, exec_width, stack_least, stack_most, exec_least, exec_most, head_room, item_room}
 use Rattle.semantics.specs.Tokens.{within}
 use Rattle.text.specs.Writing.{Written}
 use Rattle.forf_semantics.specs.Steps.{Run, run, initial}
 use Rattle.forf_semantics.specs.Outcome.{outcome}
-use Rattle.forf_semantics.specs.Setup.{Lent, limits, verdict, refused, memory_slots, runs}
+use Rattle.forf_semantics.specs.Setup.{Lent, Verdict, limits, verdict, refused, memory_slots, runs}
 use Rattle.forf_machine.specs.Rep.{limits_of}
-use Rattle.forf_runner.specs.declared.Answer.{Answer}
-use Rattle.forf_runner.specs.declared.Answer.TheVariants as answer
+use Rattle.std.specs.Prelude.{Option, Some, None, Ok, Err}
+use Rattle.std.specs.Prelude as std
+use Rattle.forf_runner.specs.declared.Refusal.{Refusal}
+use Rattle.forf_runner.specs.declared.Refusal.TheVariants as refusal
 use Rattle.forf_runner.specs.declared.Report.{Report}
+
+-- What a run comes to, or why it is not made.
+abbrev pub Answer : Type 0
+Answer = std.Result Report Refusal
+
+-- Setup's number of a refusal; a memory's has none.
+abbrev pub number_of : Refusal → Option ℕ
+number_of refusal.Script = Some 1
+number_of refusal.Fuel = Some 3
+number_of refusal.Stack = Some 4
+number_of refusal.Execution = Some 5
+number_of refusal.Outcome = Some 9
+number_of refusal.Memory = None
+
+-- The definition's verdict for a refusal, by its number.
+abbrev pub verdict_of : Option ℕ → Verdict
+verdict_of (Some n) = refused n
+verdict_of None = memory_slots
 
 -- What is lent.
 unfoldable pub lent_of : List ℕ → List ℕ → List ℕ → Lent
@@ -24,6 +44,11 @@ refusal_of script fuel stack exec out =
     (cond (not (within stack_least stack_most (stack / stack_width))) 4
     (cond (not (within exec_least exec_most (exec / exec_width))) 5
     (cond (ltb out (head_room + item_room * (stack / stack_width))) 9 0))))
+
+-- What is refused has that number, and nothing is where it is 0.
+abbrev pub Refuses : ℕ → std.Result (Unit {0}) Refusal → Type 0
+Refuses n (Ok u) = n ≡ 0
+Refuses n (Err r) = (0 < n) × (number_of r ≡ Some n)
 
 -- The definition's run with what is lent.
 unfoldable pub the_run : List ℕ → ℕ → List ℕ → List ℕ → List ℕ → List ℕ → Run
@@ -47,9 +72,8 @@ pub record RunIs (script : List ℕ) (fuel : ℕ) (s s' e e' mem mem' out out' :
   pub exec_rest : drop (length e / exec_width * exec_width) e' ≡ drop (length e / exec_width * exec_width) e
 
 abbrev pub AnswerIs : List ℕ → ℕ → List ℕ → List ℕ → List ℕ → List ℕ → List ℕ → List ℕ → List ℕ → List ℕ → Answer → Type 0
-AnswerIs script fuel s s' e e' mem mem' out out' (answer.Refused n) = (verdict script fuel (lent_of s e out) mem ≡ refused n) × Untouched s s' e e' mem mem' out out'
-AnswerIs script fuel s s' e e' mem mem' out out' answer.MemorySlots = (verdict script fuel (lent_of s e out) mem ≡ memory_slots) × Untouched s s' e e' mem mem' out out'
-AnswerIs script fuel s s' e e' mem mem' out out' (answer.Ran r) = (verdict script fuel (lent_of s e out) mem ≡ runs) × RunIs script fuel s s' e e' mem mem' out out' r
+AnswerIs script fuel s s' e e' mem mem' out out' (Err r) = (verdict script fuel (lent_of s e out) mem ≡ verdict_of (number_of r)) × Untouched s s' e e' mem mem' out out'
+AnswerIs script fuel s s' e e' mem mem' out out' (Ok r) = (verdict script fuel (lent_of s e out) mem ≡ runs) × RunIs script fuel s s' e e' mem mem' out out' r
 
 -- The whole answer.
 pub record Runs (script : List ℕ) (fuel : ℕ) (s s' e e' mem mem' out out' : List ℕ) (a : Answer) : Type 0 where

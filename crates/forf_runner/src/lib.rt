@@ -2,7 +2,7 @@
 #![tactic(auto)]
 
 ghost use Rattle.std.specs.Prelude.{◌≡◌};
-ghost use Rattle.forf_runner.specs.Promise.{Runs, Ready, CarriesOut, refusal_of};
+ghost use Rattle.forf_runner.specs.Promise.{Runs, Ready, CarriesOut, Refuses, number_of, refusal_of};
 
 use semantics::{
     EXEC_LEAST, EXEC_MOST, EXEC_WIDTH, FUEL_MOST, HEAD_ROOM, ITEM_ROOM, SCRIPT_MOST, STACK_LEAST,
@@ -11,12 +11,31 @@ use semantics::{
 
 pub const MEMORY_SLOTS: usize = 32;
 
-// The number of the refusal, the refusal of a memory that has not 32 slots, or what a run came to.
-#[derive(Clone, Copy)]
-pub enum Answer {
-    Refused(u32),
-    MemorySlots,
-    Ran(Report),
+// Why a script is not run: what setup refuses, in its order, or a memory that has not 32 slots.
+#[derive(Clone, Copy, PartialEq, Eq, Debug)]
+pub enum Refusal {
+    Script,
+    Fuel,
+    Stack,
+    Execution,
+    Outcome,
+    Memory,
+}
+
+impl Refusal {
+    // Setup's number of it; none of a memory's, which is no number of setup.
+    pub fn number(self) -> Option<u32>
+        ensures { result ≡ number_of self }
+    {
+        match self {
+            Refusal::Script => Some(1),
+            Refusal::Fuel => Some(3),
+            Refusal::Stack => Some(4),
+            Refusal::Execution => Some(5),
+            Refusal::Outcome => Some(9),
+            Refusal::Memory => None,
+        }
+    }
 }
 
 // The steps made, and how many bytes of the outcome are written.
@@ -35,15 +54,12 @@ pub fn run(
     exec: &mut [u32],
     memory: &mut [u32],
     outcome: &mut [u8],
-) -> Answer
+) -> Result<Report, Refusal>
     ensures { Runs script.now fuel stack.old stack.new exec.old exec.new memory.old memory.new outcome.old outcome.new result }
 {
-    let number = refusal(script.len(), fuel, stack.len(), exec.len(), outcome.len());
-    if 0 < number {
-        return Answer::Refused(number);
-    }
+    set_up(script.len(), fuel, stack.len(), exec.len(), outcome.len())?;
     if memory.len() != MEMORY_SLOTS {
-        return Answer::MemorySlots;
+        return Err(Refusal::Memory);
     }
     // words past whole slots are not lent on
     let a = stack.len() / STACK_WIDTH * STACK_WIDTH;
@@ -56,7 +72,7 @@ pub fn run(
         memory,
         outcome,
     );
-    Answer::Ran(report)
+    Ok(report)
 }
 
 // The run, where setup accepts.
@@ -80,27 +96,33 @@ fn carry_out(
     }
 }
 
-// The number of the refusal, or 0: setup's 1, 3, 4, 5 and 9, in this order.
-// Ruled out: 257 stack slots let through; 4 where the script is too long as well.
-fn refusal(script: usize, fuel: u32, stack: usize, exec: usize, outcome: usize) -> u32
-    ensures { result ≡ refusal_of script fuel stack exec outcome }
+// What setup refuses, in its order.
+// Ruled out: 257 stack slots let through; Stack where the script is too long as well.
+fn set_up(
+    script: usize,
+    fuel: u32,
+    stack: usize,
+    exec: usize,
+    outcome: usize,
+) -> Result<(), Refusal>
+    ensures { Refuses (refusal_of script fuel stack exec outcome) result }
 {
     if SCRIPT_MOST < script {
-        return 1;
+        return Err(Refusal::Script);
     }
     if FUEL_MOST < fuel {
-        return 3;
+        return Err(Refusal::Fuel);
     }
     let slots = stack / STACK_WIDTH;
     if setup::outside(STACK_LEAST, STACK_MOST, slots) {
-        return 4;
+        return Err(Refusal::Stack);
     }
     if setup::outside(EXEC_LEAST, EXEC_MOST, exec / EXEC_WIDTH) {
-        return 5;
+        return Err(Refusal::Execution);
     }
     // the slots are few here, so that the product fits
     if outcome < HEAD_ROOM + ITEM_ROOM * slots {
-        return 9;
+        return Err(Refusal::Outcome);
     }
-    0
+    Ok(())
 }

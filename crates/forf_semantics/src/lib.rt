@@ -2,7 +2,7 @@
 #![tactic(auto)]
 
 // The errors of a step, in their order. `error_text` of specs/Outcome gives each its name in the paper.
-#[derive(Clone, Copy)]
+#[derive(Clone, Copy, PartialEq, Eq, Debug)]
 pub enum Error {
     SyntaxError,
     Undefined,
@@ -15,7 +15,7 @@ pub enum Error {
 }
 
 // The kinds of tokens. `kind_text` of specs/Setup gives each its words in the paper.
-#[derive(Clone, Copy)]
+#[derive(Clone, Copy, PartialEq, Eq, Debug)]
 pub enum Kind {
     Integer,
     Word,

@@ -14,10 +14,9 @@ use Rattle.forf_groups.specs.Reading.{Held}
 use Rattle.forf_groups.specs.declared.Item.{Item}
 use Rattle.forf_groups.specs.declared.Item.TheVariants.{Number, Word, Substack}
 use Rattle.forf_machine.specs.Rep.{value_as, value_of, machine_of, limits_of}
-use Rattle.forf_machine.specs.Does.{Answer, Does, Pushes}
+use Rattle.forf_machine.specs.Does.{Acted, Answer, Does, Pushes}
 use Rattle.forf_machine.specs.Titles.{titles, place_in, action_at}
 use Rattle.forf_machine.specs.declared.Machine.{Machine}
-use Rattle.forf_machine.specs.declared.Acted.{Acted}
 use Rattle.forf_machine.proofs.Naming.{performs}
 use Rattle.forf_steps.specs.Stepping.{Acts}
 

@@ -12,15 +12,13 @@ use Rattle.semantics.specs.Sizes.{script_most, fuel_most}
 use Rattle.semantics.specs.ListLaws.{nil}
 use Rattle.forf_semantics.specs.Steps.{Limits, Step, goes, fails, step, finished, out_of_fuel, failed, Run, is_empty, is_finished, finish, go_on, run, initial}
 use Rattle.forf_semantics.specs.Steps as F
-use Rattle.forf_semantics.specs.declared.Error.{Error}
 use Rattle.forf_machine.specs.Slots.{slots}
 use Rattle.forf_machine.specs.Rep.{frame_of, machine_from, machine_of, limits_of}
-use Rattle.forf_steps.specs.Stepping.{state_of, is_done, Ready, Stands, Steps}
+use Rattle.forf_steps.specs.Stepping.{Stepped, state_of, is_done, Ready, Stands, Steps}
 use Rattle.forf_steps.specs.Running.{Begun, Ends}
 use Rattle.forf_steps.specs.declared.State.{State}
-use Rattle.forf_steps.specs.declared.Command.{Command}
-use Rattle.forf_steps.specs.declared.Stepped.{Stepped}
-use Rattle.forf_steps.specs.declared.Stepped.TheVariants as stepped
+use Rattle.forf_steps.specs.declared.Failure.{Failure}
+use Rattle.std.specs.Prelude.{Ok, Err}
 use Rattle.forf_steps.specs.declared.Ending.TheVariants as ending
 use Rattle.forf_steps.specs.declared.Ended.{Ended}
 
@@ -126,10 +124,10 @@ module _ {script : List ℕ} {fuel : ℕ} {s₀ e₀ mem₀ s e mem : List ℕ} 
           ∙ ap (λ (l : Limits). go_on (run (limits_of s₀ e₀) script (fuel - (st.steps + 1))) (step l script (state_of script st s e mem))) (sym limits_same)
 
       module _ {s' e' mem' : List ℕ} {r : Stepped} (S : Steps script st s s' e e' mem mem' r) where
-        pub step_counts : {τ : State} → r ≡ stepped.Went τ → τ.steps ≡ st.steps + 1
+        pub step_counts : {τ : State} → r ≡ Ok τ → τ.steps ≡ st.steps + 1
         step_counts q = (subst (λ (u : Stepped). Steps script st s s' e e' mem mem' u) q S).steps.2
 
-        pub go_on_lem : {τ : State} → r ≡ stepped.Went τ → length s' ≡ length s → length e' ≡ length e → length mem' ≡ length mem
+        pub go_on_lem : {τ : State} → r ≡ Ok τ → length s' ≡ length s → length e' ≡ length e → length mem' ≡ length mem
             → Running script fuel s₀ e₀ mem₀ s' e' mem' τ
         unfolding go_on
         go_on_lem {τ} q a b c =
@@ -145,12 +143,12 @@ module _ {script : List ℕ} {fuel : ℕ} {s₀ e₀ mem₀ s e mem : List ℕ} 
               same = next_run ∙ rw h (ap (λ (i : ℕ). run (limits_of s₀ e₀) script i (state_of script τ s' e' mem')) n);
             }
 
-        pub end_failed : {x : Error} {c : Command} {τ : State} {end : Ended} → r ≡ stepped.Failed x c τ → end ≡ record { state = τ; ending = ending.Failed x c }
+        pub end_failed : {f : Failure} {end : Ended} → r ≡ Err f → end ≡ record { state = f.state; ending = ending.Failed f.error f.command }
             → Ends script fuel s₀ s' e₀ mem₀ mem' end
         unfolding go_on
-        end_failed {x} {c} {τ} q w =
+        end_failed {f} q w =
             let (h, a, b, stands, held, count) = (subst (λ (u : Stepped). Steps script st s s' e e' mem mem' u) q S).steps in
-            let f = K.few in
+            let few = K.few in
             rw (w, a, b) (record {
               exec = e;
               runs = next_run ∙ rw h refl;

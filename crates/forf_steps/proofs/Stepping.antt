@@ -25,14 +25,11 @@ use Rattle.forf_groups.specs.declared.Item.TheVariants as item
 use Rattle.forf_machine.specs.Slots.{Slot, slots, put_slot}
 use Rattle.forf_machine.specs.Rep.{frame_as, frame_of, SoundFrame, machine_from, machine_of, Rep, limits_of}
 use Rattle.forf_machine.specs.declared.Machine.{Machine}
-use Rattle.forf_machine.specs.declared.Acted.TheVariants as acted
 use Rattle.forf_machine.proofs.Slotting.{no_slots, top_slot, put_last, length_put, all_head, all_tail}
 use Rattle.forf_machine.proofs.Answering.{went}
-use Rattle.forf_steps.specs.Stepping.{Acts, state_of, is_pending, place_of, moved_on, state_after, state_failed, without_item, command_of, command_text, HeldCommand, Ready, Steps}
+use Rattle.forf_steps.specs.Stepping.{Command, Stepped, Acts, state_of, is_pending, place_of, moved_on, state_after, state_failed, without_item, command_of, command_text, HeldCommand, Ready, Steps}
 use Rattle.forf_steps.specs.declared.State.{State}
-use Rattle.forf_steps.specs.declared.Stepped.{Stepped}
-use Rattle.forf_steps.specs.declared.Stepped.TheVariants.{Went, Failed}
-use Rattle.forf_steps.specs.declared.Command as commands
+use Rattle.std.specs.Prelude.{None, Ok, Err}
 use Rattle.forf_steps.proofs.Choosing.{either}
 
 -- ---- the end of a step
@@ -66,16 +63,16 @@ module _ (script : List ℕ) (st : State) (s e mem : List ℕ) (R : Ready script
     (is : step (limits_of s e) script (state_of script st s e mem) ≡ moved (limits_of s e) (state_of script st s e mem) at next v)
     (at-inside : at ≤ length script) (next-inside : next ≤ length script) where
   went_step : {s' e' mem' : List ℕ} (m : Machine) (τ : State) → ((v.result >>= room_for (limits_of s e)) ≡ ok (machine_of script m s' e' mem')) × Rep script m s' e' mem'
-      → τ ≡ record { machine = m; next = next; at = at; steps = st.steps + 1 } → Steps script st s s' e e' mem mem' (Went τ)
+      → τ ≡ record { machine = m; next = next; at = at; steps = st.steps + 1 } → Steps script st s s' e e' mem mem' (Ok τ)
   went_step {s'} {e'} {mem'} m τ h q =
-      subst (λ (σ : State). Steps script st s s' e e' mem mem' (Went σ)) (sym q)
+      subst (λ (σ : State). Steps script st s s' e e' mem mem' (Ok σ)) (sym q)
       (record { steps = (is ∙ goes_by script st s e mem at next v m s' e' mem' h.0, record { rep = h.1; inside = next-inside; within = at-inside }, refl) })
 
-  failed_step : {x : Error} {s' e' mem' : List ℕ} {c : commands.Command} (τ : State) → (v.result >>= room_for (limits_of s e)) ≡ fault x → s' ≡ s → mem' ≡ mem
+  failed_step : {x : Error} {s' e' mem' : List ℕ} {c : Command} (τ : State) → (v.result >>= room_for (limits_of s e)) ≡ fault x → s' ≡ s → mem' ≡ mem
       → v.command ≡ command_text script c → HeldCommand script c
-      → τ ≡ record { machine = st.machine; next = st.next; at = at; steps = st.steps + 1 } → Steps script st s s' e e' mem mem' (Failed x c τ)
+      → τ ≡ record { machine = st.machine; next = st.next; at = at; steps = st.steps + 1 } → Steps script st s s' e e' mem mem' (Err (record { error = x; command = c; state = τ }))
   failed_step {x} {s'} {e'} {mem'} {c} τ h p r k l q =
-      subst (λ (σ : State). Steps script st s s' e e' mem mem' (Failed x c σ)) (sym q)
+      subst (λ (σ : State). Steps script st s s' e e' mem mem' (Err (record { error = x; command = c; state = σ }))) (sym q)
       (record {
         steps = (
           is ∙ fails_by script st s e mem at next v h ∙ ap (λ (t : List ℕ). fails x t (state_of script (record { machine = st.machine; next = st.next; at = at; steps = st.steps + 1 }) s e mem)) k,
@@ -98,14 +95,14 @@ module _ (script : List ℕ) (st : State) (s e mem : List ℕ) (R : Ready script
     unfolding treat
     result = ap (λ (u : Move). u.result) acts
 
-    pub item_went : {s' e' mem' : List ℕ} {m : Machine} (τ : State) → Acts script i st.machine s s' e₁ e' mem mem' (acted.Went m)
-        → τ ≡ record { machine = m; next = next; at = at; steps = st.steps + 1 } → Steps script st s s' e e' mem mem' (Went τ)
+    pub item_went : {s' e' mem' : List ℕ} {m : Machine} (τ : State) → Acts script i st.machine s s' e₁ e' mem mem' (Ok m)
+        → τ ≡ record { machine = m; next = next; at = at; steps = st.steps + 1 } → Steps script st s s' e e' mem mem' (Ok τ)
     item_went {s'} {e'} {mem'} {m} τ A q =
         let (h, R') = A.acts rep in
         went_step m τ (ap₂ (λ (t : Result Forf.Machine) (l : Limits). t >>= room_for l) result (sym limits_same) ∙ h, R') q
 
-    pub item_failed : {x : Error} {s' e' mem' : List ℕ} (τ : State) → Acts script i st.machine s s' e₁ e' mem mem' (acted.Failed x)
-        → τ ≡ record { machine = st.machine; next = st.next; at = at; steps = st.steps + 1 } → Steps script st s s' e e' mem mem' (Failed x (command_of i) τ)
+    pub item_failed : {x : Error} {s' e' mem' : List ℕ} (τ : State) → Acts script i st.machine s s' e₁ e' mem mem' (Err x)
+        → τ ≡ record { machine = st.machine; next = st.next; at = at; steps = st.steps + 1 } → Steps script st s s' e e' mem mem' (Err (record { error = x; command = command_of i; state = τ }))
     unfolding treat
     item_failed τ A q =
         let (h, p, r) = A.acts rep in
@@ -241,13 +238,13 @@ module _ {script : List ℕ} {st : State} {s e mem : List ℕ} (R : Ready script
   kind_other q h z = eqb-false (get_or e (8 * (st.machine.frames - 1)) 0) 0 (sym (rw (ne_eqb st.machine.frames 0 z) at q) ∙ h)
 
   without_none : st.machine.frames ≡ 0 → (start : ℕ)
-      → without_item st start ≡ Failed SyntaxError commands.TheVariants.Nothing (record { machine = st.machine; next = st.next; at = start; steps = st.steps + 1 })
+      → without_item st start ≡ Err (record { error = SyntaxError; command = None; state = record { machine = st.machine; next = st.next; at = start; steps = st.steps + 1 } })
   unfolding without_item state_failed state_after
   without_none z start = rw (eq-eqb st.machine.frames 0 z) refl
 
   without_some : (st.machine.frames ≡ 0 → ⊥) → (start : ℕ)
       → without_item st start
-      ≡ Went (record { machine = record { depth = st.machine.depth; frames = st.machine.frames - 1 }; next = st.next; at = st.at; steps = st.steps + 1 })
+      ≡ Ok (record { machine = record { depth = st.machine.depth; frames = st.machine.frames - 1 }; next = st.next; at = st.at; steps = st.steps + 1 })
   unfolding without_item state_after
   without_some z start = rw (ne_eqb st.machine.frames 0 z) refl
 
@@ -277,7 +274,7 @@ module _ {script : List ℕ} {st : State} {s e mem : List ℕ} (R : Ready script
         (λ (z : st.machine.frames ≡ 0 → ⊥). let p = place_some z at_place in let h = (known R z).inside in omega arith)
 
     pub pending_steps : {τ : State} {e' : List ℕ} → t ≡ true → e' ≡ put_slot 8 (st.machine.frames - 1) 1 place e → τ ≡ state_after st st.machine place place
-        → Steps script st s s e e' mem mem (Went τ)
+        → Steps script st s s e e' mem mem (Ok τ)
     unfolding resume silent
     pending_steps {τ} {e'} h p r =
         let z = pending_some q h in
@@ -353,16 +350,16 @@ module _ {script : List ℕ} {st : State} {s e mem : List ℕ} (R : Ready script
         start_inside : start ≤ length script
         start_inside = let a = T.later in let b = T.inside in omega arith
 
-        pub item_steps : {s' e' mem' : List ℕ} {m : Machine} {τ : State} → Acts script i st.machine s s' e₁ e' mem mem' (acted.Went m) → τ ≡ state_after st m start next
-            → Steps script st s s' e e' mem mem' (Went τ)
+        pub item_steps : {s' e' mem' : List ℕ} {m : Machine} {τ : State} → Acts script i st.machine s s' e₁ e' mem mem' (Ok m) → τ ≡ state_after st m start next
+            → Steps script st s s' e e' mem mem' (Ok τ)
         item_steps {τ = τ} A r = either st.machine.frames
             (λ (z : st.machine.frames ≡ 0).
             item_went script st s e mem R start next _ (none_is z) start_inside T.inside i T.held e₁ moved_long moved_rep refl τ A (after_none start next z r))
             (λ (z : st.machine.frames ≡ 0 → ⊥).
             item_went script st s e mem R st.at st.next _ (some_is z) R.within R.inside i T.held e₁ moved_long moved_rep refl τ A (after_some start next z r))
 
-        pub item_fails : {s' e' mem' : List ℕ} {x : Error} {τ : State} → Acts script i st.machine s s' e₁ e' mem mem' (acted.Failed x) → τ ≡ state_failed st start
-            → Steps script st s s' e e' mem mem' (Failed x (command_of i) τ)
+        pub item_fails : {s' e' mem' : List ℕ} {x : Error} {τ : State} → Acts script i st.machine s s' e₁ e' mem mem' (Err x) → τ ≡ state_failed st start
+            → Steps script st s s' e e' mem mem' (Err (record { error = x; command = command_of i; state = τ }))
         unfolding state_failed
         item_fails {τ = τ} A r = either st.machine.frames
             (λ (z : st.machine.frames ≡ 0).
@@ -370,9 +367,9 @@ module _ {script : List ℕ} {st : State} {s e mem : List ℕ} (R : Ready script
             (λ (z : st.machine.frames ≡ 0 → ⊥).
             item_failed script st s e mem R st.at st.next _ (some_is z) R.within R.inside i T.held e₁ moved_long moved_rep refl τ A (after_some start st.next z r))
 
-pub fails_as : {script : List ℕ} {st τ : State} {s s' e e' mem mem' : List ℕ} {x : Error} {c d : commands.Command} → c ≡ d
-    → Steps script st s s' e e' mem mem' (Failed x d τ) → Steps script st s s' e e' mem mem' (Failed x c τ)
-fails_as {script} {st} {τ} {s} {s'} {e} {e'} {mem} {mem'} {x} q S = subst (λ (k : commands.Command). Steps script st s s' e e' mem mem' (Failed x k τ)) (sym q) S
+pub fails_as : {script : List ℕ} {st τ : State} {s s' e e' mem mem' : List ℕ} {x : Error} {c d : Command} → c ≡ d
+    → Steps script st s s' e e' mem mem' (Err (record { error = x; command = d; state = τ })) → Steps script st s s' e e' mem mem' (Err (record { error = x; command = c; state = τ }))
+fails_as {script} {st} {τ} {s} {s'} {e} {e'} {mem} {mem'} {x} q S = subst (λ (k : Command). Steps script st s s' e e' mem mem' (Err (record { error = x; command = k; state = τ }))) (sym q) S
 
 pub pending_frames : {script : List ℕ} {st : State} {s e mem : List ℕ} → Ready script st s e mem → {t : Bool} → t ≡ is_pending st.machine.frames e → t ≡ true → 1 ≤ st.machine.frames
 pending_frames R q h = let z = pending_some R q h in omega arith

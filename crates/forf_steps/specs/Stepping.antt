@@ -13,14 +13,19 @@ use Rattle.forf_groups.specs.declared.Item.{Item}
 use Rattle.forf_groups.specs.declared.Item.TheVariants as item
 use Rattle.forf_machine.specs.Slots.{put_slot}
 use Rattle.forf_machine.specs.Rep.{machine_of, Rep, limits_of}
-use Rattle.forf_machine.specs.Does.{Answer, Lent}
+use Rattle.forf_machine.specs.Does.{Acted, Answer, Lent}
 use Rattle.forf_machine.specs.declared.Machine.{Machine}
-use Rattle.forf_machine.specs.declared.Acted.{Acted}
 use Rattle.forf_steps.specs.declared.State.{State}
-use Rattle.forf_steps.specs.declared.Command.{Command}
-use Rattle.forf_steps.specs.declared.Command.TheVariants.{Nothing, Word}
-use Rattle.forf_steps.specs.declared.Stepped.{Stepped}
-use Rattle.forf_steps.specs.declared.Stepped.TheVariants.{Went, Failed}
+use Rattle.forf_steps.specs.declared.Failure.{Failure}
+use Rattle.std.specs.Prelude.{Option, Some, None, Ok, Err}
+use Rattle.std.specs.Prelude as std
+
+-- The word whose execution failed, and a step's answer.
+abbrev pub Command : Type 0
+Command = Option (ℕ × ℕ)
+
+abbrev pub Stepped : Type 0
+Stepped = std.Result State Failure
 
 -- ---- an item acts
 
@@ -63,24 +68,24 @@ state_failed st start = state_after st st.machine start st.next
 unfoldable pub without_item : State → ℕ → Stepped
 without_item st start =
     cond (eqb st.machine.frames 0)
-    (Failed SyntaxError Nothing (state_failed st start))
-    (Went (state_after st (record { depth = st.machine.depth; frames = st.machine.frames - 1 }) start start))
+    (Err (record { error = SyntaxError; command = None; state = state_failed st start }))
+    (Ok (state_after st (record { depth = st.machine.depth; frames = st.machine.frames - 1 }) start start))
 
 abbrev pub command_of : Item → Command
-command_of (item.Number w) = Nothing
-command_of (item.Word start size) = Word start size
-command_of (item.Substack body) = Nothing
+command_of (item.Number w) = None
+command_of (item.Word start size) = Some (start, size)
+command_of (item.Substack body) = None
 
 -- ---- a step
 
 -- A command's text, and that its bytes are in the script, and few.
 abbrev pub command_text : List ℕ → Command → List ℕ
-command_text script Nothing = []
-command_text script (Word start size) = name_text true (take size (drop start script))
+command_text script None = []
+command_text script (Some w) = name_text true (take w.1 (drop w.0 script))
 
 abbrev pub HeldCommand : List ℕ → Command → Type 0
-HeldCommand script Nothing = Unit {0}
-HeldCommand script (Word start size) = (start + size ≤ length script) × (size ≤ name_most)
+HeldCommand script None = Unit {0}
+HeldCommand script (Some w) = (w.0 + w.1 ≤ length script) × (w.1 ≤ name_most)
 
 -- The words stand for a machine, and the offsets are in the script.
 pub record Ready (script : List ℕ) (st : State) (s e mem : List ℕ) : Type 0 where
@@ -98,9 +103,10 @@ pub record Stands (script : List ℕ) (st : State) (s e mem : List ℕ) : Type 0
 
 -- What is answered, where the definition's step is q. The execution stack after a failing step is not told: the run has ended.
 abbrev pub StepIs : List ℕ → State → List ℕ → List ℕ → List ℕ → List ℕ → List ℕ → List ℕ → Stepped → Forf.Step → Type 0
-StepIs script st s s' e e' mem mem' (Went τ) q = (q ≡ goes (state_of script τ s' e' mem')) × Stands script τ s' e' mem' × (τ.steps ≡ st.steps + 1)
-StepIs script st s s' e e' mem mem' (Failed x c τ) q =
-    (q ≡ fails x (command_text script c) (state_of script τ s e mem)) × (s' ≡ s) × (mem' ≡ mem) × Stands script τ s e mem × HeldCommand script c × (τ.steps ≡ st.steps + 1)
+StepIs script st s s' e e' mem mem' (Ok τ) q = (q ≡ goes (state_of script τ s' e' mem')) × Stands script τ s' e' mem' × (τ.steps ≡ st.steps + 1)
+StepIs script st s s' e e' mem mem' (Err f) q =
+    (q ≡ fails f.error (command_text script f.command) (state_of script f.state s e mem)) × (s' ≡ s) × (mem' ≡ mem) × Stands script f.state s e mem × HeldCommand script f.command
+    × (f.state.steps ≡ st.steps + 1)
 
 pub record Steps (script : List ℕ) (st : State) (s s' e e' mem mem' : List ℕ) (r : Stepped) : Type 0 where
   pub steps : StepIs script st s s' e e' mem mem' r (step (limits_of s e) script (state_of script st s e mem))

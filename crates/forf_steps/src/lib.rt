@@ -8,8 +8,8 @@ ghost use Rattle.forf_steps.specs.Stepping.{Acting, Acts, Ready, Steps, is_pendi
 ghost use Rattle.forf_steps.specs.Running.{Begun, Ends};
 ghost use Rattle.forf_steps.specs.declared.Ending.TheVariants.{Finished, OutOfFuel, Failed};
 
-use forf_groups::{Item, Read};
-use forf_machine::{Acted, Machine, PENDING, RUNNING, TAG_INTEGER, TAG_SUBSTACK};
+use forf_groups::Item;
+use forf_machine::{Machine, PENDING, RUNNING, TAG_INTEGER, TAG_SUBSTACK};
 use forf_semantics::Error;
 use semantics::EXEC_WIDTH;
 
@@ -22,17 +22,15 @@ pub struct State {
     pub steps: u32,
 }
 
-// The word whose execution failed, by where its bytes begin and how many they are.
-#[derive(Clone, Copy)]
-pub enum Command {
-    Nothing,
-    Word(usize, usize),
-}
+// The word whose execution failed, by where its bytes begin and how many they are; none where what failed was no word.
+pub type Command = Option<(usize, usize)>;
 
+// What is wrong with a step, and the state after it.
 #[derive(Clone, Copy)]
-pub enum Stepped {
-    Went(State),
-    Failed(Error, Command, State),
+pub struct Failure {
+    pub error: Error,
+    pub command: Command,
+    pub state: State,
 }
 
 #[derive(Clone, Copy)]
@@ -77,13 +75,12 @@ pub fn run(
         if st.steps == fuel {
             return spent(st);
         }
-        let stepped = step(st, script, stack, exec, memory);
-        match stepped {
-            Stepped::Went(next) => {
+        match step(st, script, stack, exec, memory) {
+            Ok(next) => {
                 st = next;
             }
-            Stepped::Failed(error, command, last) => {
-                return stuck(last, error, command);
+            Err(failure) => {
+                return stuck(failure);
             }
         }
     }
@@ -92,14 +89,8 @@ pub fn run(
 fn finished(st: State, end: usize) -> Ended
     ensures { result ≡ record { state = record { machine = st.machine; next = st.next; at = end; steps = st.steps }; ending = Finished } }
 {
-    let m = st.machine;
     Ended {
-        state: State {
-            machine: m,
-            next: st.next,
-            at: end,
-            steps: st.steps,
-        },
+        state: State { at: end, ..st },
         ending: Ending::Finished,
     }
 }
@@ -113,12 +104,12 @@ fn spent(st: State) -> Ended
     }
 }
 
-fn stuck(st: State, error: Error, command: Command) -> Ended
-    ensures { result ≡ record { state = st; ending = Failed error command } }
+fn stuck(failure: Failure) -> Ended
+    ensures { result ≡ record { state = failure.state; ending = Failed failure.error failure.command } }
 {
     Ended {
-        state: st,
-        ending: Ending::Failed(error, command),
+        state: failure.state,
+        ending: Ending::Failed(failure.error, failure.command),
     }
 }
 
@@ -142,7 +133,7 @@ fn step(
     stack: &mut [u32],
     exec: &mut [u32],
     memory: &mut [u32],
-) -> Stepped
+) -> Result<State, Failure>
     requires { Ready script.now st stack.old exec.old memory.old }
     ensures { Steps script.now st stack.old stack.new exec.old exec.new memory.old memory.new result }
 {
@@ -150,18 +141,20 @@ fn step(
     let place = place_of(m, st.next, exec);
     if is_pending(m, exec) {
         forf_machine::put(exec, EXEC_WIDTH, m.frames - 1, RUNNING, place as u32);
-        return Stepped::Went(after(st, m, place, place));
+        return Ok(after(st, m, place, place));
     }
     let start = forf_token::skip(script, place);
-    let read = forf_groups::read_item(script, start);
-    let Read::Item(item, next) = read else {
+    let Some((item, next)) = forf_groups::read_item(script, start) else {
         return no_item(st, start);
     };
     move_on(m, exec, next);
-    let acted = act(item, m, script, stack, exec, memory);
-    match acted {
-        Acted::Went(r) => Stepped::Went(after(st, r, start, next)),
-        Acted::Failed(e) => Stepped::Failed(e, command_of(item), failed(st, start)),
+    match act(item, m, script, stack, exec, memory) {
+        Ok(r) => Ok(after(st, r, start, next)),
+        Err(error) => Err(Failure {
+            error,
+            command: command_of(item),
+            state: failed(st, start),
+        }),
     }
 }
 
@@ -173,15 +166,15 @@ fn act(
     stack: &mut [u32],
     exec: &mut [u32],
     memory: &mut [u32],
-) -> Acted
+) -> Result<Machine, Error>
     requires { Acting script.now item m stack.old exec.old memory.old }
     ensures { Acts script.now item m stack.old stack.new exec.old exec.new memory.old memory.new result }
 {
     match item {
         Item::Number(w) => m.push(stack, TAG_INTEGER, w),
         Item::Word(start, size) => {
-            let k = forf_machine::operator_of(&script[start..start + size]);
-            forf_machine::perform(k, m, stack, exec, memory)
+            let word = forf_machine::operator_of(&script[start..start + size]);
+            forf_machine::perform(word, m, stack, exec, memory)
         }
         Item::Substack(body) => m.push(stack, TAG_SUBSTACK, body as u32),
     }
@@ -222,19 +215,23 @@ fn move_on(m: Machine, exec: &mut [u32], next: usize)
 }
 
 // No item is left of a running substack, which is dropped; or the script's token is a bad one.
-fn no_item(st: State, start: usize) -> Stepped
+fn no_item(st: State, start: usize) -> Result<State, Failure>
     requires { st.steps < 1000000 }
     ensures { result ≡ without_item st start }
 {
     let m = st.machine;
     if m.frames == 0 {
-        return Stepped::Failed(Error::SyntaxError, Command::Nothing, failed(st, start));
+        return Err(Failure {
+            error: Error::SyntaxError,
+            command: None,
+            state: failed(st, start),
+        });
     }
     let dropped = Machine {
-        depth: m.depth,
         frames: m.frames - 1,
+        ..m
     };
-    Stepped::Went(after(st, dropped, start, start))
+    Ok(after(st, dropped, start, start))
 }
 
 // The state after a step that leaves m: the script goes on at `next` if the token at `start` was taken from it.
@@ -253,9 +250,8 @@ fn after(st: State, m: Machine, start: usize, next: usize) -> State
     }
     State {
         machine: m,
-        next: st.next,
-        at: st.at,
         steps: st.steps + 1,
+        ..st
     }
 }
 
@@ -272,8 +268,7 @@ fn command_of(item: Item) -> Command
     ensures { result ≡ command_of item }
 {
     match item {
-        Item::Number(_) => Command::Nothing,
-        Item::Word(start, size) => Command::Word(start, size),
-        Item::Substack(_) => Command::Nothing,
+        Item::Word(start, size) => Some((start, size)),
+        Item::Number(_) | Item::Substack(_) => None,
     }
 }

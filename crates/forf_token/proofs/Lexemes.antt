@@ -11,8 +11,7 @@ use borrow.Author.Tests.{le-leb, lt-leb, ne_eqb}
 use Rattle.semantics.specs.Sizes.{name_most, script_most}
 use Rattle.semantics.specs.Values.{ok, fault, ◌>>=◌, check}
 use Rattle.semantics.specs.Tokens.{starts_number}
-use Rattle.token.specs.declared.numbers.Number.{Number}
-use Rattle.token.specs.declared.numbers.Number.TheVariants as number
+use Rattle.std.specs.Prelude.{Ok}
 use Rattle.forf_semantics.specs.Tokens.{Class, run_byte, open_brace, close_brace, other, is_end, class_of, run, lexeme, word_of, run_token, lex_as, lex}
 use Rattle.forf_semantics.specs.Tokens as tokens
 use Rattle.forf_semantics.specs.declared.Error.TheVariants.{SyntaxError}
@@ -68,11 +67,6 @@ end_token script start h k = record { lexes = rw (drop_of_length-le script k, ze
 abbrev between : List ℕ → ℕ → ℕ → List ℕ
 between script a e = take (e - a) (drop a script)
 
-pub between_short : (script : List ℕ) (a e : ℕ) → a ≤ e → e ≤ length script → length script ≤ script_most → length (between script a e) ≤ script_most
-between_short script a e h k l =
-    let q = length-take-le (e - a) (drop a script) (rw (length-drop a script) (omega arith)) in
-    omega (arith, q)
-
 -- A run as a token: a number, its fault, a word, one that is too long.
 module _ (n : List ℕ) (t : Bool) (is : t ≡ starts_number n) where
   run_number : t ≡ true → (w : ℕ) → tokens.number n ≡ ok w → run_token n ≡ ok (tokens.integer w)
@@ -114,23 +108,18 @@ module _ {script : List ℕ} {start end : ℕ} (R : RunAt script start) (e : end
   length_run : length (between script start end) ≡ end - start
   length_run = length-take-le (end - start) (drop start script) left
 
-  pub some_run : start ≤ end
-  some_run = omega arith
-
   module _ (t : Bool) (is : t ≡ starts_number (between script start end)) where
-    pub integer_token : t ≡ true → (n : Number) {w : ℕ} → read_number n ≡ tokens.number (between script start end)
-        → n ≡ number.Word w → Lexes script start (Integer w) end
+    pub integer_token : t ≡ true → {w : ℕ} → read_number (Ok w) ≡ tokens.number (between script start end) → Lexes script start (Integer w) end
     unfolding ◌>>=◌
-    integer_token f n {w} g i = record {
-      lexes = whole ∙ rw (run_number (between script start end) t is f w (sym g ∙ ap read_number i)) refl;
+    integer_token f {w} g = record {
+      lexes = whole ∙ rw (run_number (between script start end) t is f w (sym g)) refl;
       later = omega arith;
       inside = h;
     }
 
-    pub number_fault_lem : t ≡ true → (n : Number) → read_number n ≡ tokens.number (between script start end) → read_number n ≡ fault SyntaxError
-        → lex (drop start script) ≡ fault SyntaxError
+    pub number_fault_lem : t ≡ true → fault SyntaxError ≡ tokens.number (between script start end) → lex (drop start script) ≡ fault SyntaxError
     unfolding ◌>>=◌
-    number_fault_lem f n g i = whole ∙ rw (run_fault (between script start end) t is f (sym g ∙ i)) refl
+    number_fault_lem f g = whole ∙ rw (run_fault (between script start end) t is f (sym g)) refl
 
     pub word_token : t ≡ false → end - start ≤ name_most → Lexes script start Word end
     unfolding ◌>>=◌

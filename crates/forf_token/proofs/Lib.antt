@@ -1,5 +1,4 @@
 -- The laws that the proofs of the functions cite.
-pub mod Bytes
 pub mod Counts
 pub mod Skipping
 pub mod Numbers

@@ -1,25 +1,21 @@
 -- What a token's answer means: the definition's `lex` at its offset.
 -- Assumes nothing.
-use Rattle.std.specs.Prelude.{◌≡◌, false, List, ℕ, ◌-◌, ◌<◌, ◌≤◌, length, take, drop, get_or}
+use Rattle.std.specs.Prelude.{◌≡◌, false, List, ℕ, ◌-◌, ◌<◌, ◌≤◌, length, take, drop, get_or, Result as Reply, Ok, Err}
 use Rattle.semantics.specs.Values.{ok, fault, ◌>>=◌}
-use Rattle.token.specs.declared.numbers.Number.{Number}
-use Rattle.token.specs.declared.numbers.Number.TheVariants as number
 use Rattle.semantics.specs.Sizes.{script_most}
 use Rattle.forf_semantics.specs.Errors.{Result}
 use Rattle.forf_semantics.specs.Tokens.{is_end, up_to, lexeme, lex}
 use Rattle.forf_semantics.specs.Tokens as tokens
 use Rattle.forf_semantics.specs.declared.Error.TheVariants.{SyntaxError}
+use Rattle.forf_token.specs.declared.SyntaxError.{SyntaxError as Bad}
 use Rattle.forf_token.specs.declared.Token.{Token}
 use Rattle.forf_token.specs.declared.Token.TheVariants.{Integer, Word, OpenBrace, CloseBrace, End}
-use Rattle.forf_token.specs.declared.Lexed.{Lexed}
-use Rattle.forf_token.specs.declared.Lexed.TheVariants as lexed
 
 -- ---- numbers
 
--- Floo's number; all that can be wrong with it is a syntaxerror here.
-abbrev pub read_number : Number → Result ℕ
-read_number (number.Word w) = ok w
-read_number (number.Fault f) = fault SyntaxError
+abbrev pub read_number : Reply ℕ Bad → Result ℕ
+read_number (Ok w) = ok w
+read_number (Err e) = fault SyntaxError
 
 unfoldable pub up_to_limit : ℕ → Result ℕ → Result ℕ
 up_to_limit limit r = r >>= up_to limit
@@ -40,9 +36,9 @@ pub record Lexes (script : List ℕ) (start : ℕ) (t : Token) (next : ℕ) : Ty
   pub later : start ≤ next
   pub inside : next ≤ length script
 
-abbrev pub LexedAt : List ℕ → ℕ → Lexed → Type 0
-LexedAt script start (lexed.Token t next) = Lexes script start t next
-LexedAt script start lexed.Bad = lex (drop start script) ≡ fault SyntaxError
+abbrev pub LexedAt : List ℕ → ℕ → Reply (Token × ℕ) Bad → Type 0
+LexedAt script start (Ok (t, next)) = Lexes script start t next
+LexedAt script start (Err e) = lex (drop start script) ≡ fault SyntaxError
 
 -- A byte stands at `start` that ends no token.
 pub record RunAt (script : List ℕ) (start : ℕ) : Type 0 where

@@ -8,16 +8,17 @@ ghost use Rattle.forf_semantics.specs.Tokens as tokens;
 ghost use Rattle.forf_semantics.specs.Items as items;
 ghost use Rattle.forf_semantics.specs.Setup as setup;
 ghost use Rattle.forf_semantics.specs.SkipLaws as skipping;
-ghost use Rattle.forf_token.specs.Skips.{Skips};
+ghost use Rattle.forf_token.specs.Skips.{SkipsAt};
 ghost use Rattle.forf_token.specs.Lexing.{LexedAt, RunAt, read_number, up_to_limit};
-ghost use Rattle.forf_token.specs.Reading.{LocatedAt, owned_by, answer_of, answer, part_of, refusal_of};
+ghost use Rattle.forf_token.specs.Reading.{LocatedAt, owned_by, answer_of, answer, part_of};
 
 use forf_semantics::Kind;
 use semantics::{NAME_MOST, SCRIPT_MOST};
-use token::{Number, is_space};
+use token::is_space;
+pub use token::{Located, Refused};
 
 // A token of a script: an integer by its 32 bits. A word is all bytes from where it begins to the offset after it.
-#[derive(Clone, Copy)]
+#[derive(Clone, Copy, PartialEq, Eq, Debug)]
 pub enum Token {
     Integer(u32),
     Word,
@@ -26,30 +27,9 @@ pub enum Token {
     End,
 }
 
-// A token and the offset after it, or a syntaxerror.
-#[derive(Clone, Copy)]
-pub enum Lexed {
-    Token(Token, usize),
-    Bad,
-}
-
-// The public answer: the paper's refusals 1 and 10, a syntaxerror, or the token's kind and the offset after it.
-#[derive(Clone, Copy)]
-pub enum Reading {
-    TooLong,
-    PastEnd,
-    Faulty,
-    Read(Kind, usize),
-}
-
-// The same with where the token's own bytes begin and how many they are.
-#[derive(Clone, Copy)]
-pub enum Located {
-    TooLong,
-    PastEnd,
-    Faulty,
-    At(Kind, usize, usize, usize),
-}
+// The paper's syntaxerror, which is all that can be wrong with a token.
+#[derive(Clone, Copy, PartialEq, Eq, Debug)]
+pub struct SyntaxError;
 
 // The greatest number after a minus sign, and the greatest without.
 const NEGATIVE_LIMIT: u64 = 2147483648;
@@ -58,14 +38,11 @@ const PLAIN_LIMIT: u64 = 2147483647;
 
 // The kind of the next token from `offset` on, and the offset after it.
 // Ruled out: a reader that refuses the offset at the very end; one that answers an integer for 08 or 2147483648.
-pub fn read(script: &[u8], offset: usize) -> Reading
+pub fn read(script: &[u8], offset: usize) -> Result<(Kind, usize), Refused<SyntaxError>>
     ensures { answer_of offset result ≡ answer offset (setup.reading script.now offset) }
 {
-    let located = locate(script, offset);
-    let Located::At(kind, next, _, _) = located else {
-        return refusal_of(located);
-    };
-    Reading::Read(kind, next)
+    let token = locate(script, offset)?;
+    Ok((token.kind, token.next))
 }
 
 // That token's own bytes, the very part of the script.
@@ -73,30 +50,26 @@ pub fn read(script: &[u8], offset: usize) -> Reading
 pub fn part(script: &[u8], offset: usize) -> &[u8]
     ensures { result.now ≡ part_of script.now (setup.reading script.now offset) }
 {
-    let located = locate(script, offset);
-    let Located::At(_, _, start, size) = located else {
-        return &script[0..0];
+    let Ok(token) = locate(script, offset) else {
+        return &[];
     };
-    &script[start..start + size]
+    &script[token.start..token.start + token.size]
 }
 
 // The definition's reading, whole: the kind, the offset after it, and where the token's own bytes are, for a caller that can be handed no slice.
 // Ruled out: a comment taken for a token's bytes; an end whose part begins at the offset given and not at the length.
-pub fn locate(script: &[u8], offset: usize) -> Located
+pub fn locate(script: &[u8], offset: usize) -> Result<Located<Kind>, Refused<SyntaxError>>
     ensures { LocatedAt script.now offset result }
 {
     if SCRIPT_MOST < script.len() {
-        return Located::TooLong;
+        return Err(Refused::TooLong);
     }
     if script.len() < offset {
-        return Located::PastEnd;
+        return Err(Refused::PastEnd);
     }
     let start = skip(script, offset);
-    let lexed = token_at(script, start);
-    let Lexed::Token(token, next) = lexed else {
-        return Located::Faulty;
-    };
-    own_part(token, start, next)
+    let (token, next) = token_at(script, start)?;
+    Ok(own_part(token, start, next))
 }
 
 // The offset of the first byte from `at` on that is neither space nor comment, or the script's length.
@@ -107,11 +80,7 @@ pub fn skip(script: &[u8], at: usize) -> usize
     ensures upper_bound { result ≤ length script.now }
 {
     let mut i = at;
-    while i < script.len() {
-        let after = blank_after(script, i);
-        if after == i {
-            return i;
-        }
+    while let Some(after) = blank_after(script, i) {
         i = after;
     }
     i
@@ -119,101 +88,85 @@ pub fn skip(script: &[u8], at: usize) -> usize
 
 // The token at `start`, as the definition's `lex` reads it there.
 // Ruled out: a word of 32 bytes; -2147483649 wrapped to 2147483647; a parenthesis inside a word.
-pub fn token_at(script: &[u8], start: usize) -> Lexed
+pub fn token_at(script: &[u8], start: usize) -> Result<(Token, usize), SyntaxError>
     requires { (start ≤ length script.now) × (length script.now ≤ script_most) }
     ensures { LexedAt script.now start result }
 {
     if script.len() <= start {
-        return Lexed::Token(Token::End, start);
+        return Ok((Token::End, start));
     }
     let b = script[start];
     if !is_end(b) {
         return run_at(script, start);
     }
     if b == b'{' {
-        return Lexed::Token(Token::OpenBrace, start + 1);
+        return Ok((Token::OpenBrace, start + 1));
     }
     if b == b'}' {
-        return Lexed::Token(Token::CloseBrace, start + 1);
+        return Ok((Token::CloseBrace, start + 1));
     }
-    Lexed::Bad
+    Err(SyntaxError)
 }
 
 // The integer or the word that begins at a byte that ends no token.
-fn run_at(script: &[u8], start: usize) -> Lexed
+fn run_at(script: &[u8], start: usize) -> Result<(Token, usize), SyntaxError>
     requires { RunAt script.now start }
     ensures { LexedAt script.now start result }
 {
     let end = run_end(script, start);
     let run = &script[start..end];
     if token::starts_number(run) {
-        let number = number_of(run);
-        let Number::Word(w) = number else {
-            return Lexed::Bad;
-        };
-        return Lexed::Token(Token::Integer(w), end);
+        let w = number_of(run)?;
+        return Ok((Token::Integer(w), end));
     }
     if NAME_MOST < end - start {
-        return Lexed::Bad;
+        return Err(SyntaxError);
     }
-    Lexed::Token(Token::Word, end)
+    Ok((Token::Word, end))
 }
 
-// The 32 bits of a run that starts as a number does, or its fault, whatever it is.
-fn number_of(s: &[u8]) -> Number
+// The 32 bits of a run that starts as a number does.
+fn number_of(s: &[u8]) -> Result<u32, SyntaxError>
     requires { length s.now ≤ script_most }
     ensures { read_number result ≡ tokens.number s.now }
 {
-    if s.len() == 0 {
+    if s.is_empty() || s[0] != b'-' {
         return magnitude(s, 0, PLAIN_LIMIT);
     }
-    if s[0] == b'-' {
-        return token::negated(magnitude(s, 1, NEGATIVE_LIMIT));
-    }
-    magnitude(s, 0, PLAIN_LIMIT)
+    let n = magnitude(s, 1, NEGATIVE_LIMIT)?;
+    Ok(n.wrapping_neg())
 }
 
-// The number that a run writes from `at` on, its sign being passed: 0xC, 014 or 12, at most the limit.
-fn magnitude(s: &[u8], at: usize, limit: u64) -> Number
+// The number that a run writes from `at` on, its sign being passed: 0xC, 014 or 12, at most the limit. Whatever is wrong with it is a syntaxerror.
+fn magnitude(s: &[u8], at: usize, limit: u64) -> Result<u32, SyntaxError>
     requires { (at ≤ length s.now) × (length s.now ≤ script_most) × (limit ≤ 2147483648) }
     ensures { read_number result ≡ up_to_limit limit (tokens.magnitude (drop at s.now)) }
 {
-    if s.len() - at < 2 {
-        return token::numeral_at(s, 0, at, 10, limit);
-    }
-    if s[at] != b'0' {
-        return token::numeral_at(s, 0, at, 10, limit);
-    }
-    if s[at + 1] == b'x' {
-        return token::numeral_at(s, 0, at + 2, 16, limit);
-    }
-    token::numeral_at(s, 0, at + 1, 8, limit)
+    let (base, prefix) = match &s[at..] {
+        [b'0', b'x', ..] => (16, 2),
+        [b'0', _, ..] => (8, 1),
+        _ => (10, 0),
+    };
+    token::numeral_at(s, 0, at + prefix, base, limit).or(Err(SyntaxError))
 }
 
 // A token's kind and its own bytes, for one from `start` to `next`.
-fn own_part(token: Token, start: usize, next: usize) -> Located
+fn own_part(token: Token, start: usize, next: usize) -> Located<Kind>
     requires { start ≤ next }
     ensures { result ≡ owned_by start next token }
 {
-    let size = next - start;
-    match token {
-        Token::Integer(_) => Located::At(Kind::Integer, next, start, size),
-        Token::Word => Located::At(Kind::Word, next, start, size),
-        Token::OpenBrace => Located::At(Kind::OpenBrace, next, start, size),
-        Token::CloseBrace => Located::At(Kind::CloseBrace, next, start, size),
-        Token::End => Located::At(Kind::End, next, start, size),
-    }
-}
-
-// The refusal or the fault, by its name, of a reading that found no token.
-fn refusal_of(located: Located) -> Reading
-    ensures { result ≡ refusal_of located }
-{
-    match located {
-        Located::TooLong => Reading::TooLong,
-        Located::PastEnd => Reading::PastEnd,
-        Located::Faulty => Reading::Faulty,
-        Located::At(_, _, _, _) => Reading::Faulty,
+    let kind = match token {
+        Token::Integer(_) => Kind::Integer,
+        Token::Word => Kind::Word,
+        Token::OpenBrace => Kind::OpenBrace,
+        Token::CloseBrace => Kind::CloseBrace,
+        Token::End => Kind::End,
+    };
+    Located {
+        kind,
+        next,
+        start,
+        size: next - start,
     }
 }
 
@@ -223,19 +176,7 @@ fn refusal_of(located: Located) -> Reading
 fn is_end(b: u8) -> bool
     ensures { result ≡ tokens.is_end b }
 {
-    if is_space(b) {
-        return true;
-    }
-    if b == b'{' {
-        return true;
-    }
-    if b == b'}' {
-        return true;
-    }
-    if b == b'(' {
-        return true;
-    }
-    b == b')'
+    is_space(b) || matches!(b, b'{' | b'}' | b'(' | b')')
 }
 
 // Where the next closing parenthesis from `at` on stands, or the script's length.
@@ -244,33 +185,29 @@ fn close_from(script: &[u8], at: usize) -> usize
     ensures value { result ≡ at + skipping.until (drop at script.now) }
     ensures upper_bound { result ≤ length script.now }
 {
-    let mut i = at;
-    while i < script.len() {
-        if script[i] == b')' {
-            return i;
-        }
-        i += 1;
-    }
-    i
+    token::first_from(script, at, |b| b == b')')
 }
 
-// The offset after the byte of space or the comment at `at`; `at` itself where there is neither.
-fn blank_after(script: &[u8], at: usize) -> usize
-    requires { at < length script.now }
-    ensures { Skips script.now at result }
+// The offset after the byte of space or the comment at `at`, if there is one.
+fn blank_after(script: &[u8], at: usize) -> Option<usize>
+    requires { at ≤ length script.now }
+    ensures { SkipsAt script.now at result }
 {
+    if at == script.len() {
+        return None;
+    }
     let b = script[at];
     if is_space(b) {
-        return at + 1;
+        return Some(at + 1);
     }
     if b != b'(' {
-        return at;
+        return None;
     }
     let close = close_from(script, at + 1);
     if close == script.len() {
-        return at;
+        return None;
     }
-    close + 1
+    Some(close + 1)
 }
 
 // How far the bytes from `at` on reach that end no token.
@@ -279,12 +216,5 @@ fn run_end(script: &[u8], at: usize) -> usize
     ensures value { result ≡ at + tokens.run (drop at script.now) }
     ensures upper_bound { result ≤ length script.now }
 {
-    let mut i = at;
-    while i < script.len() {
-        if is_end(script[i]) {
-            return i;
-        }
-        i += 1;
-    }
-    i
+    token::first_from(script, at, |b| is_end(b))
 }

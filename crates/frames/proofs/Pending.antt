@@ -21,7 +21,7 @@ use Rattle.machine.proofs.Rooms.{frames_length}
 use Rattle.machine.proofs.Roots.{exec_root, at_end}
 use Rattle.machine.proofs.Regions.{front_at, exec_at}
 use Rattle.machine.proofs.Tops.{words, top_value_lem}
-use Rattle.frames.specs.Moves.{body_pended}
+use Rattle.machine.specs.FrameMoves.{top_value}
 use Rattle.frames.proofs.Entering.{Put}
 use Rattle.frames.proofs.Frames.{frames_frame}
 
@@ -58,14 +58,6 @@ module _ {m : Machine} {st e d c l : List ℕ} {μ : Floo.Machine} (R : Rep m st
 
 -- ---- a copy of the topmost slot's value
 
-module _ {m : Machine} {st e d c l : List ℕ} {μ : Floo.Machine} (R : Rep m st e d c l μ) (k : ℕ) (h : m.frames ≡ suc k) (room : 8 * m.frames + 8 ≤ length e) where
-  pub body_placed : Placed m.lists c 0 0 (frame_tag e k) (frame_payload e k)
-  body_placed = pend_placed R (words R k h) room
-
-  pub body_rep : {s' : Lists} {c' e' : List ℕ} {x y z : ℕ}
-      → Recounts m.lists c 0 0 (frame_tag e k) (frame_payload e k) s' c'
-      → Put e e' m.frames 0 (frame_tag e k) (frame_payload e k) x y z
-      → Rep (with_depths m.depth (m.frames + 1) s' m) st e' d c' l (body_pended μ)
-  unfolding body_pended
-  body_rep {s'} {c'} {e'} K put =
-      subst (λ v. Rep (with_depths m.depth (m.frames + 1) s' m) st e' d c' l (enter (pending v) μ)) (sym (top_value_lem R k h)) (pend_rep R (words R k h) room K put)
+module _ {m : Machine} {st e d c l : List ℕ} {μ : Floo.Machine} (R : Rep m st e d c l μ) (k : ℕ) (h : m.frames ≡ suc k) {t p : ℕ} (t-is : t ≡ frame_tag e k) (p-is : p ≡ frame_payload e k) where
+  pub body_is : IsIn R.world μ (top_value μ) t p
+  body_is = subst (λ v. IsIn R.world μ v t p) (sym (top_value_lem R k h)) (rw (t-is, p-is) (words R k h))

@@ -5,7 +5,7 @@ use mathlib.Core.Bool.{Bool, true}
 use mathlib.Core.List.{List}
 use Prim.Native.Nat.{ℕ, suc, ◌+◌, ◌-◌, ◌*◌, ◌%◌, ◌≤◌}
 use native.Mathlib.Omega.{arith}
-use lib.ListN.{length, get_or, set}
+use lib.ListN.{length, get_or}
 use Rattle.semantics.specs.Values.{Value, null, array, Object}
 use Rattle.semantics.specs.Machine as Floo
 use Rattle.semantics.specs.Machine.{Frame, pending, running, elements_of}
@@ -21,12 +21,8 @@ use Rattle.machine.specs.Words.{frame_kind, frame_tag, frame_payload, frame_cell
 use Rattle.machine.specs.Places.{frame_value, keys, texts}
 use Rattle.machine.specs.Rep.{Rep, IsIn, FrameIs, a_pending, a_running, a_looping, a_repeating, a_counting, a_past}
 use Rattle.machine.specs.declared.Machine.{Machine}
-use Rattle.machine.specs.Recount.{Placed, Recounts}
-use Rattle.machine.proofs.Copying.{push_placed, push_rep}
-use Rattle.machine.proofs.Restacking.{with_depth}
-use Rattle.heap.specs.declared.Lists.{Lists}
 use Rattle.machine.specs.FrameMoves.{top_frame, top_value}
-use Rattle.frames.specs.Moves.{element_pushed, Resets, Starts, Advances}
+use Rattle.frames.specs.Moves.{Resets, Starts, Advances}
 use Rattle.machine.proofs.Tops.{slot, words, top_value_lem}
 
 procedure_ten : {keys : List (List ℕ)} {texts : List Bool} {ρ : ℕ → ℕ} {i t p : ℕ} → Stands keys texts ρ (array true i) t p → t ≡ 10
@@ -142,19 +138,9 @@ module _ {m : Machine} {st e d c l : List ℕ} {μ : Floo.Machine} (R : Rep m st
             alive = body_alives shape R.stored.full.counts cell header r cell_owned zero-kind;
           }
 
-      -- The element is pushed.
-      module _ {t p : ℕ} (t-is : t ≡ word c cell 0) (p-is : p ≡ word c cell 1) (fits : 2 * m.depth + 2 ≤ length st) where
-        new : IsIn R.world μ (element μ.store i j) t p
-        new = rw (t-is, p-is) element_words
-
-        pub element_placed : Placed m.lists c 0 0 t p
-        element_placed = push_placed R new fits
-
-        pub element_rep : {s' : Lists} {c' : List ℕ}
-            → Recounts m.lists c 0 0 t p s' c'
-            → Rep (with_depth (m.depth + 1) s' m) (set (set st (2 * m.depth) t) (2 * m.depth + 1) p) e d c' l (element_pushed i j μ)
-        unfolding element_pushed
-        element_rep = push_rep R new fits
+      -- The same, by the words that were read.
+      pub element_is : {t p : ℕ} → t ≡ word c cell 0 → p ≡ word c cell 1 → IsIn R.world μ (element μ.store i j) t p
+      element_is x y = rw (x, y) element_words
 
 -- ---- as the slot is reset
 

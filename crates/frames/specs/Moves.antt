@@ -43,6 +43,17 @@ pub record Enters (kind a b c : ℕ) (m r : Machine) (s e e' : List ℕ) : Type 
       → Rep m s e d cs l μ
       → Rep r s e' d cs l (entered f μ)
 
+-- The words of execution slots and cells stand for some machine, in which the words t and p are a value.
+abbrev pub HeldFrames : ℕ → ℕ → Machine → List ℕ → List ℕ → Type 0
+HeldFrames t p m e c =
+    (s : List ℕ) × (d : List ℕ) × (l : List ℕ) × (μ : Floo.Machine) × (R : Rep m s e d c l μ) × (v : Value) × IsIn R.world μ v t p
+
+-- A copy of the value becomes pending.
+pub record Pends (t p : ℕ) (m r : Machine) (e e' c c' : List ℕ) : Type 0 where
+  pub moves : (s d l : List ℕ) (μ : Floo.Machine) (R : Rep m s e d c l μ) (v : Value)
+      → IsIn R.world μ v t p
+      → Rep r s e' d c' l (enter (pending v) μ)
+
 -- The words of stack, execution slots and cells stand for some machine.
 abbrev pub SomewhereAll : Machine → List ℕ → List ℕ → List ℕ → Type 0
 SomewhereAll m s e c = (d : List ℕ) × (l : List ℕ) × (μ : Floo.Machine) × Rep m s e d c l μ

@@ -5,12 +5,11 @@
 ghost use Rattle.std.specs.Prelude.{◌≡◌, ◌+◌, ◌*◌, ◌-◌, ◌≤◌, length};
 ghost use Rattle.machine.specs.Words.{frame_kind, frame_tag, frame_cell, frame_left, frame_final};
 ghost use Rattle.machine.specs.FrameMoves.{Somewhere, MovesFrames};
-ghost use Rattle.frames.specs.Moves.{Enters, Resets, SomewhereAll, Starts, Advances, PushesElement, body_pended, reset_words, Turned};
+ghost use Rattle.frames.specs.Moves.{Enters, Resets, SomewhereAll, HeldFrames, Pends, Starts, Advances, PushesElement, body_pended, reset_words, Turned};
 
-use machine::{
-    FRAME_CELL, FRAME_FINAL, FRAME_LEFT, FRAME_PAYLOAD, FRAME_TAG, ITEM_PAYLOAD, Machine, TAG_NULL,
-};
-use semantics::{EXEC_WIDTH, STACK_WIDTH};
+use heap::Value;
+use machine::{FRAME_CELL, FRAME_FINAL, FRAME_LEFT, FRAME_PAYLOAD, Machine, NULL};
+use semantics::EXEC_WIDTH;
 
 // Kinds of execution slots.
 pub const PENDING: u32 = 0;
@@ -27,25 +26,24 @@ pub const FOR: u32 = 4;
 pub const PAST: u32 = 5;
 
 // The topmost item becomes pending.
-pub fn pend_top(m: Machine, stack: &[u32], exec: &mut [u32]) -> Machine
+pub fn pend_top(mut m: Machine, stack: &[u32], exec: &mut [u32]) -> Machine
     requires { (1 ≤ m.depth) × (2 * m.depth ≤ length stack.now) × (8 * m.frames + 8 ≤ length exec.old) }
     ensures enters { Enters 0 (frame_cell exec.old m.frames) (frame_left exec.old m.frames) (frame_final exec.old m.frames) m result stack.now exec.old exec.new }
     ensures depth_value { (result.depth ≡ m.depth - 1) × (result.frames ≡ m.frames + 1) }
 {
     let k = m.depth - 1;
     let n = m.frames;
+    let value = machine::item(stack, k);
     exec[EXEC_WIDTH * n] = PENDING;
-    exec[EXEC_WIDTH * n + FRAME_TAG] = stack[STACK_WIDTH * k];
-    exec[EXEC_WIDTH * n + FRAME_PAYLOAD] = stack[STACK_WIDTH * k + ITEM_PAYLOAD];
-    let mut r = m;
-    r.depth = k;
-    r.frames = n + 1;
-    r
+    machine::set_frame_value(exec, n, value);
+    m.depth = k;
+    m.frames = n + 1;
+    m
 }
 
 // The topmost item becomes the body of a loop of this kind, with its three numbers.
 pub fn enter_loop(
-    m: Machine,
+    mut m: Machine,
     stack: &[u32],
     exec: &mut [u32],
     kind: u32,
@@ -59,16 +57,15 @@ pub fn enter_loop(
 {
     let k = m.depth - 1;
     let n = m.frames;
+    let value = machine::item(stack, k);
     exec[EXEC_WIDTH * n] = kind;
-    exec[EXEC_WIDTH * n + FRAME_TAG] = stack[STACK_WIDTH * k];
-    exec[EXEC_WIDTH * n + FRAME_PAYLOAD] = stack[STACK_WIDTH * k + ITEM_PAYLOAD];
+    machine::set_frame_value(exec, n, value);
     exec[EXEC_WIDTH * n + FRAME_CELL] = a;
     exec[EXEC_WIDTH * n + FRAME_LEFT] = b;
     exec[EXEC_WIDTH * n + FRAME_FINAL] = c;
-    let mut r = m;
-    r.depth = k;
-    r.frames = n + 1;
-    r
+    m.depth = k;
+    m.frames = n + 1;
+    m
 }
 
 // A copy of the topmost slot's value becomes pending: a loop's body.
@@ -77,19 +74,26 @@ pub fn pend_body(m: Machine, exec: &mut [u32], cells: &mut [u32]) -> Machine
     ensures moves_frames { MovesFrames body_pended m result exec.old exec.new cells.old cells.new }
     ensures depth_value { (result.depth ≡ m.depth) × (result.frames ≡ m.frames + 1) }
 {
+    let value = machine::frame_value(exec, m.frames - 1);
+    pend(m, exec, cells, value)
+}
+
+// A copy of a value that some place holds becomes pending.
+// Ruled out: an object that is freed while a slot still names it; the slot below written over.
+#[inline(always)]
+pub fn pend(mut m: Machine, exec: &mut [u32], cells: &mut [u32], value: Value) -> Machine
+    requires { (8 * m.frames + 8 ≤ length exec.old) × HeldFrames value.tag value.pay m exec.old cells.old }
+    ensures pends { Pends value.tag value.pay m result exec.old exec.new cells.old cells.new }
+    ensures depth_value { (result.depth ≡ m.depth) × (result.frames ≡ m.frames + 1) }
+{
     let n = m.frames;
-    let k = n - 1;
-    let tag = exec[EXEC_WIDTH * k + FRAME_TAG];
-    let pay = exec[EXEC_WIDTH * k + FRAME_PAYLOAD];
     let lists = m.lists;
-    let counted = machine::recount(lists, cells, TAG_NULL, 0, tag, pay);
+    let counted = machine::recount(lists, cells, NULL, value);
     exec[EXEC_WIDTH * n] = PENDING;
-    exec[EXEC_WIDTH * n + FRAME_TAG] = tag;
-    exec[EXEC_WIDTH * n + FRAME_PAYLOAD] = pay;
-    let mut r = m;
-    r.frames = n + 1;
-    r.lists = counted;
-    r
+    machine::set_frame_value(exec, n, value);
+    m.frames = n + 1;
+    m.lists = counted;
+    m
 }
 
 // The topmost slot takes this kind and these numbers.
@@ -139,17 +143,8 @@ pub fn push_element(m: Machine, stack: &mut [u32], exec: &[u32], cells: &mut [u3
     ensures pushes_element { PushesElement m result stack.old stack.new exec.now cells.old cells.new }
     ensures depth_value { (result.depth ≡ m.depth + 1) × (result.frames ≡ m.frames) }
 {
-    let n = m.depth;
     let k = m.frames - 1;
     let c = exec[EXEC_WIDTH * k + FRAME_CELL];
-    let tag = heap::get(cells, c, 0);
-    let pay = heap::get(cells, c, 1);
-    let lists = m.lists;
-    let left = machine::recount(lists, cells, TAG_NULL, 0, tag, pay);
-    stack[STACK_WIDTH * n] = tag;
-    stack[STACK_WIDTH * n + ITEM_PAYLOAD] = pay;
-    let mut r = m;
-    r.depth = n + 1;
-    r.lists = left;
-    r
+    let value = heap::value_of(cells, c);
+    m.push_value(stack, cells, value)
 }

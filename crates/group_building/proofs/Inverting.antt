@@ -1,5 +1,6 @@
 -- What a group that is there begins with: the token at its offset says which of the three forms it has, since the definition reads one token there.
 -- Assumes nothing.
+use Rattle.std.specs.Prelude.{Result, Ok, Err, IsOk}
 use mathlib.Core.Path.{◌≡◌, refl, sym, ap, ◌∙◌, subst}
 use mathlib.Core.Bool.{true, false, false≢true}
 use mathlib.Core.List.{List, []}
@@ -12,8 +13,6 @@ use Rattle.semantics.specs.Machine as Floo
 use Rattle.semantics.specs.Groups.{Taken, taken, skip}
 use Rattle.semantics.specs.declared.Fault.{Fault}
 use Rattle.token.specs.Lexing.{Lexes, LexedAt, TokenAt}
-use Rattle.token.specs.declared.Lexed.{Lexed}
-use Rattle.token.specs.declared.Lexed.TheVariants as lexed
 use Rattle.token.specs.declared.Token.TheVariants as read
 use Rattle.token.specs.declared.Token as scanned
 use Rattle.groups.specs.Nodes.{Nodes, end, leaf, inner, is_leaf}
@@ -135,46 +134,42 @@ no_faults {script} {o = o} p le μ {brace} F =
 
 -- ---- what is read
 
-module _ (script : List ℕ) (at start : ℕ) (begins : start ≡ skip script at) {depth after : ℕ} {ns : Nodes} (P : Parsed script depth at ns after) (answer : Lexed)
-    (k : LexedAt script start answer) where
+module _ (script : List ℕ) (at start : ℕ) (begins : start ≡ skip script at) {depth after : ℕ} {ns : Nodes} (P : Parsed script depth at ns after) where
   moved : {u : Token} {next : ℕ} → Lexes script start u next → Lexes script (skip script at) u next
   moved {u} {next} l = subst (λ n. Lexes script n u next) begins l
 
-  pub piece_fault : {e : Fault} → answer ≡ lexed.Fault e → (n : ℕ) → PieceAt script at (piece.Close n)
-  piece_fault {e} g n =
-      let h : lex start (drop start script) ≡ fault e = subst (LexedAt script start) g k in
+  -- A token is read.
+  pub some_piece : (answer : Result (scanned.Token × ℕ) Fault) → LexedAt script start answer → IsOk answer
+  some_piece (Ok x) k = refl
+  some_piece (Err e) k =
       let x = some_token P in
-      absurd (omega (arith, x.3, no_fault x.2 (subst (λ n. lex n (drop n script) ≡ fault e) begins h)))
+      absurd (omega (arith, x.3, no_fault x.2 (subst (λ n. lex n (drop n script) ≡ fault e) begins k)))
 
-  module _ (t : scanned.Token) (next : ℕ) (g : answer ≡ lexed.Token t next) where
-    at_token : (u : scanned.Token) → t ≡ u → TokenAt script start next u
-    at_token u q = subst (TokenAt script start next) q (subst (LexedAt script start) g k)
-
-    pub piece_integer : {w : ℕ} → t ≡ read.Integer w → PieceAt script at (piece.Leaf (read.Integer w) next)
-    piece_integer {w} q = (Token.integer w, moved (at_token (read.Integer w) q), refl, refl)
-
-    pub piece_string : {from size : ℕ} → t ≡ read.String from size → PieceAt script at (piece.Leaf (read.String from size) next)
-    piece_string {from} {size} q =
-        let l = at_token (read.String from size) q in
-        (Token.string l.bytes, moved l.token, refl, (l.bytes, next, refl, l.own, l.holds))
-
-    pub piece_executable : {from size : ℕ} → t ≡ read.ExecutableName from size → PieceAt script at (piece.Leaf (read.ExecutableName from size) next)
-    piece_executable {from} {size} q =
-        let l = at_token (read.ExecutableName from size) q in
-        (Token.name true (take size (drop from script)), moved l.token, refl, (refl, omega (arith, l.ends, l.token.inside), l.few))
-
-    pub piece_literal : {from size : ℕ} → t ≡ read.LiteralName from size → PieceAt script at (piece.Leaf (read.LiteralName from size) next)
-    piece_literal {from} {size} q =
-        let l = at_token (read.LiteralName from size) q in
-        (Token.name false (take size (drop from script)), moved l.token, refl, (refl, omega (arith, l.ends, l.token.inside), l.few))
+  module _ {answer : Result (scanned.Token × ℕ) Fault} (k : LexedAt script start answer) {t : scanned.Token} {next : ℕ} (g : answer ≡ Ok (t, next)) where
+    at_token : {u : scanned.Token} → t ≡ u → TokenAt script start next u
+    at_token q = subst (TokenAt script start next) q (subst (LexedAt script start) g k)
 
     pub piece_open : t ≡ read.OpenBrace → PieceAt script at (piece.Open next)
-    piece_open q = moved (at_token read.OpenBrace q).token
+    piece_open q = moved (at_token q).token
 
     pub piece_close : t ≡ read.CloseBrace → PieceAt script at (piece.Close next)
-    piece_close q = moved (at_token read.CloseBrace q).token
+    piece_close q = moved (at_token q).token
 
-    pub piece_end : t ≡ read.End → (n : ℕ) → PieceAt script at (piece.Close n)
-    piece_end q n =
+    pub never_end : t ≡ read.End → ⊥
+    never_end q =
         let x = some_token P in
-        absurd (omega (arith, x.3, no_end x.2 (subst (λ n. lex n (drop n script) ≡ lexeme Token.end 0) begins (at_token read.End q).lexes)))
+        omega (arith, x.3, no_end x.2 (subst (λ n. lex n (drop n script) ≡ lexeme Token.end 0) begins (at_token q).lexes))
+
+    pub piece_leaf : (t ≡ read.OpenBrace → ⊥) → (t ≡ read.CloseBrace → ⊥) → (t ≡ read.End → ⊥) → PieceAt script at (piece.Leaf t next)
+    piece_leaf a b c = by t (at_token refl) a b c
+      where
+        by : (u : scanned.Token) → TokenAt script start next u → (u ≡ read.OpenBrace → ⊥) → (u ≡ read.CloseBrace → ⊥) → (u ≡ read.End → ⊥) → PieceAt script at (piece.Leaf u next)
+        by (read.Integer w) l a b c = (Token.integer w, moved l, refl, refl)
+        by (read.String from size) l a b c = (Token.string l.bytes, moved l.token, refl, (l.bytes, next, refl, l.own, l.holds))
+        by (read.ExecutableName from size) l a b c =
+            (Token.name true (take size (drop from script)), moved l.token, refl, (refl, omega (arith, l.ends, l.token.inside), l.few))
+        by (read.LiteralName from size) l a b c =
+            (Token.name false (take size (drop from script)), moved l.token, refl, (refl, omega (arith, l.ends, l.token.inside), l.few))
+        by read.OpenBrace l a b c = absurd (a refl)
+        by read.CloseBrace l a b c = absurd (b refl)
+        by read.End l a b c = absurd (c refl)

@@ -1,5 +1,6 @@
 -- An element that is no group: a number or a name is two words, a string is made and then filled. Each kind of token by its own law.
 -- Assumes nothing.
+use Rattle.std.specs.Prelude.{Option, Some, None, IsSome, unwrap_or}
 use mathlib.Core.Path.{◌≡◌, refl, sym, ap, ◌∙◌, subst}
 use mathlib.Core.Bool.{Bool, true, false}
 use mathlib.Core.List.{List, [], ◌∷◌}
@@ -55,6 +56,14 @@ name_low x e = subst (λ t. t < 8) (sym e) (tag_low x)
 module _ {s e d l : List ℕ} {m : Machine} {cs : List ℕ} {c h k id q : ℕ} {μ : Floo.Machine} {t : Token} (A : LeafAt s e d l m cs c h k id q μ t) where
   pub leaf_cell : c * 4 + 4 ≤ length cs
   leaf_cell = element_inside A.rep A.cell
+
+-- The name has a slot.
+pub name_there : {s e d l n : List ℕ} {m : Machine} {cs : List ℕ} {c h k id q : ℕ} {μ : Floo.Machine} {x : Bool} (r : Option ℕ)
+    → Finds m d n (unwrap_or r m.names)
+    → LeafAt s e d l m cs c h k id q μ (Token.name x n)
+    → IsSome r
+name_there (Some j) F A = refl
+name_there {s} {e} {l = l} {cs = cs} {μ = μ} None F A = absurd (omega (arith, F.says s e cs l μ A.rep, A.rep.naming.many, head A.known))
 
 pub puts_name : {d n : List ℕ} {tag c r : ℕ} {m : Machine} {cs cs' : List ℕ} → Finds m d n r → SetsPlain c tag r cs cs' → length cs' ≡ length cs → PutsName d n tag m cs c cs'
 unfolding leaf_set
@@ -140,6 +149,21 @@ module _ (script : List ℕ) (u : scanned.Token) {s e d l : List ℕ} {m : Machi
   pub literal_at : u ≡ read.LiteralName from size → LeafAt s e d l m cs c h k id q μ (Token.name false (take (from + size - from) (drop from script)))
   literal_at g =
       subst (LeafAt s e d l m cs c h k id q μ) ((subst (λ u. LeafIs script u t) g L).0 ∙ ap (λ n. Token.name false n) (part_is script from size)) A
+
+-- A token that is an element and no group is of four kinds.
+pub leaf_kind : (script : List ℕ) (u : scanned.Token) (t : Token) → LeafIs script u t
+    → ((w : ℕ) → u ≡ read.Integer w → ⊥)
+    → ((from size : ℕ) → u ≡ read.String from size → ⊥)
+    → ((from size : ℕ) → u ≡ read.ExecutableName from size → ⊥)
+    → ((from size : ℕ) → u ≡ read.LiteralName from size → ⊥)
+    → ⊥
+leaf_kind script (read.Integer w) t L a b c d = a w refl
+leaf_kind script (read.String from size) t L a b c d = b from size refl
+leaf_kind script (read.ExecutableName from size) t L a b c d = c from size refl
+leaf_kind script (read.LiteralName from size) t L a b c d = d from size refl
+leaf_kind script read.OpenBrace t L a b c d = L
+leaf_kind script read.CloseBrace t L a b c d = L
+leaf_kind script read.End t L a b c d = L
 
 -- ---- strings
 

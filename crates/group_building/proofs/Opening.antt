@@ -1,5 +1,6 @@
 -- An inner group: judging it again gives what was known of it, and its new array has a null for each of its elements, the first of them in the cell that is found.
 -- Assumes nothing.
+use Rattle.std.specs.Prelude.{Result, Ok, Err, IsOk}
 use mathlib.Core.Path.{◌≡◌, refl, sym, ap, ◌∙◌, subst}
 use mathlib.Core.Bool.{true}
 use mathlib.Core.List.{List, ◌++◌}
@@ -25,7 +26,6 @@ use Rattle.token.specs.Lexing.{Lexes}
 use Rattle.groups.specs.Nodes.{Nodes, inner, count, wanted, names}
 use Rattle.groups.specs.Parsing.{Parsed, JudgedAs}
 use Rattle.groups.specs.declared.Judged.{Judged}
-use Rattle.groups.specs.declared.Judged.TheVariants.{Bad, Good}
 use Rattle.construction.specs.Growth.{Grown, IsArray, SameBut, SetsArray, element_set, array_set}
 use Rattle.construction.proofs.Holding.{array_low, element_inside, element_sought, element_found, made_new}
 use Rattle.group_building.specs.Building.{At, Known, Opens, FirstCell}
@@ -124,11 +124,16 @@ module _ {s e d l script : List ℕ} {depth h id after : ℕ} {m : Machine} {cs 
   pub inner_room : count inner_nodes + 1 ≤ free_cells m cs
   inner_room = omega (arith, A.room, inner_wanted)
 
-  module _ {answer : Judged} (J : JudgedAs script (depth - 1) next answer) where
-    pub never_bad : {x : Fault} → answer ≡ Bad x → ⊥
-    never_bad u = no_faults parsed_less L.inside μ (subst (JudgedAs script (depth - 1) next) u J)
+  -- Judging it finds no fault.
+  pub never_bad : (answer : Result Judged Fault) → JudgedAs script (depth - 1) next answer → IsOk answer
+  never_bad (Ok j) J = refl
+  never_bad (Err x) J = absurd (no_faults parsed_less L.inside μ J)
 
-    module _ {size wants last : ℕ} (u : answer ≡ Good size wants last) where
+  module _ {answer : Result Judged Fault} (J : JudgedAs script (depth - 1) next answer) where
+    module _ {j : Judged} (u : answer ≡ Ok j) where
+      abbrev size : ℕ
+      size = j.size
+
       pub size_is : size ≡ count inner_nodes
       size_is =
           let w = subst (JudgedAs script (depth - 1) next) u J in
@@ -168,15 +173,15 @@ module _ {s e d l script : List ℕ} {depth h id after : ℕ} {m : Machine} {cs 
             X.1,
           )
 
-pub opens_group : {script : List ℕ} {depth : ℕ} {m : Machine} {cs : List ℕ} {next c : ℕ} {answer : Judged}
+pub opens_group : {script : List ℕ} {depth : ℕ} {m : Machine} {cs : List ℕ} {next c : ℕ} {answer : Result Judged Fault}
     → JudgedAs script (depth - 1) next answer
-    → {size wants last : ℕ}
-    → answer ≡ Good size wants last
+    → {j : Judged}
+    → answer ≡ Ok j
     → {r : Machine} {x first : ℕ} {cs₁ : List ℕ}
-    → SetsArray c size m cs r x cs₁
+    → SetsArray c j.size m cs r x cs₁
     → SameBut m r
-    → free_cells r cs₁ + (size + 1) ≡ free_cells m cs
-    → FirstCell cs₁ x size first
+    → free_cells r cs₁ + (j.size + 1) ≡ free_cells m cs
+    → FirstCell cs₁ x j.size first
     → Opens script depth m cs next c r cs₁ first
 opens_group J u S but free F =
     record {

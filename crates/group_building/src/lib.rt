@@ -6,9 +6,8 @@ ghost use Rattle.std.specs.Prelude.{◌<◌};
 ghost use Rattle.elements.specs.Elements.{HasCell};
 ghost use Rattle.group_building.specs.Building.{Ready, Builds, Readable, PieceAt, ReadyLeaf, PutsLeaf, ReadyName, PutsName, ReadyOpen, Opens, FirstCell};
 
-use groups::Judged;
 use machine::{Machine, TAG_EXECUTABLE, TAG_INTEGER, TAG_LITERAL};
-use token::{Lexed, Token};
+use token::Token;
 
 // The machine, and the offset after the group.
 #[derive(Clone, Copy)]
@@ -25,7 +24,7 @@ struct Opened {
 }
 
 // A token of a group, and the offset after it: an element that is no group, or a brace.
-#[derive(Clone, Copy)]
+#[derive(Clone, Copy, PartialEq, Eq, Debug)]
 enum Piece {
     Leaf(Token, usize),
     Open(usize),
@@ -58,17 +57,21 @@ pub fn build(
             }
             Piece::Open(next) => {
                 let opened = open_group(r, cells, script, next, c, depth);
-                let with = opened.machine;
-                let built = build(with, dict, cells, script, next, opened.first, depth - 1);
+                let built = build(
+                    opened.machine,
+                    dict,
+                    cells,
+                    script,
+                    next,
+                    opened.first,
+                    depth - 1,
+                );
                 r = built.machine;
                 at = built.next;
                 c = heap::next(cells, c);
             }
             Piece::Close(next) => {
-                return Built {
-                    machine: r,
-                    next: next,
-                };
+                return Built { machine: r, next };
             }
         }
     }
@@ -92,18 +95,13 @@ fn read_piece(script: &[u8], at: usize) -> Piece
     ensures { PieceAt script.now at result }
 {
     let start = token::skip(script, at);
-    let lexed = token::token_at(script, start);
-    let Lexed::Token(read, next) = lexed else {
-        return Piece::Close(at);
-    };
+    let (read, next) = token::token_at(script, start).unwrap();
     match read {
-        Token::Integer(w) => Piece::Leaf(Token::Integer(w), next),
-        Token::String(from, size) => Piece::Leaf(Token::String(from, size), next),
-        Token::ExecutableName(from, size) => Piece::Leaf(Token::ExecutableName(from, size), next),
-        Token::LiteralName(from, size) => Piece::Leaf(Token::LiteralName(from, size), next),
         Token::OpenBrace => Piece::Open(next),
         Token::CloseBrace => Piece::Close(next),
-        Token::End => Piece::Close(next),
+        // the group ends before the script does
+        Token::End => unreachable!(),
+        _ => Piece::Leaf(read, next),
     }
 }
 
@@ -144,9 +142,7 @@ fn put_leaf(
             put_name(m, dict, cells, &script[from..from + size], TAG_LITERAL, c);
             m
         }
-        Token::OpenBrace => m,
-        Token::CloseBrace => m,
-        Token::End => m,
+        _ => unreachable!(),
     }
 }
 
@@ -155,7 +151,7 @@ fn put_name(m: Machine, dict: &[u32], cells: &mut [u32], name: &[u8], tag: u32, 
     requires { ReadyName dict.now name.now tag m cells.old c }
     ensures { PutsName dict.now name.now tag m cells.old c cells.new }
 {
-    let slot = dictionary::find(m, dict, name);
+    let slot = dictionary::find(m, dict, name).unwrap();
     construction::set_plain(cells, c, tag, slot as u32);
 }
 
@@ -171,18 +167,11 @@ fn open_group(
     requires { ReadyOpen script.now depth m cells.old next c }
     ensures { Opens script.now depth m cells.old next c result.machine cells.new result.first }
 {
-    let judged = groups::judge(script, next, depth - 1);
-    let Judged::Good(size, _, _) = judged else {
-        return Opened {
-            machine: m,
-            first: 0,
-        };
-    };
-    let placed = construction::set_array(m, cells, c, size as u32);
-    let first = first_cell(cells, placed.header, size);
-    let r = placed.machine;
+    let judged = groups::judge(script, next, depth - 1).unwrap();
+    let placed = construction::set_array(m, cells, c, judged.size as u32);
+    let first = first_cell(cells, placed.header, judged.size);
     Opened {
-        machine: r,
-        first: first,
+        machine: placed.machine,
+        first,
     }
 }

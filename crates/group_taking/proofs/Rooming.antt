@@ -1,5 +1,6 @@
 -- What the definition makes of a group, against what is judged, named and tested: a fault, no room in the order of errors, or the procedure.
 -- Assumes nothing.
+use Rattle.std.specs.Prelude.{Ok, Err}
 use mathlib.Core.Path.{◌≡◌, refl, sym, ap, ◌∙◌, subst}
 use mathlib.Core.Bool.{true}
 use mathlib.Core.List.{List, [], ◌∷◌, ◌++◌}
@@ -14,7 +15,7 @@ use Rattle.semantics.specs.Groups.{taken, opened}
 use Rattle.semantics.specs.Held.{sum_of}
 use Rattle.semantics.specs.declared.Fault.{Fault}
 use Rattle.semantics.specs.declared.Error.{Error}
-use Rattle.semantics.specs.declared.Error.TheVariants.{LimitCheck, StackOverflow, VmError}
+use Rattle.semantics.specs.declared.Error.TheVariants.{StackOverflow, VmError}
 use Rattle.machine.specs.Rep.{Rep}
 use Rattle.machine.specs.Room.{lent}
 use Rattle.machine.specs.declared.Machine.{Machine}
@@ -25,42 +26,25 @@ use Rattle.elements.proofs.Vacancy.{room_made, room_none}
 use Rattle.dictionary.proofs.Adding.{kept_rep}
 use Rattle.dictionary.proofs.Lookups.{room_slots}
 use Rattle.groups.specs.Nodes.{Nodes, count, wanted, names, values, news, grown, filled}
-use Rattle.groups.specs.Parsing.{Parsed, JudgedAs, fault_of}
-use Rattle.groups.specs.declared.Judged.{Judged}
-use Rattle.groups.specs.declared.Judged.TheVariants.{Bad, Good}
+use Rattle.groups.specs.Parsing.{Parsed, JudgedAs}
 use Rattle.groups.proofs.Trees.{nested, nested_store, values_length, news_cells, group_parsed}
-use Rattle.taking.specs.Flat.{NamedAs, AddsNames, with_names, fault_of as fault_in}
-use Rattle.taking.specs.declared.Named.{Named}
-use Rattle.taking.specs.declared.Named.TheVariants as named
+use Rattle.taking.specs.Flat.{NamedAs, AddsNames, with_names}
+use Rattle.machine.specs.Answers.{Did}
 use Rattle.taking.proofs.Flattening.{parsed_flat}
 use Rattle.group_building.proofs.Planting.{planted_group}
 use Rattle.group_taking.specs.Taking.{group_read, Roomy, ReadyGroup, ConstructsGroup, TakesGroup}
-use Rattle.group_taking.specs.declared.Grouped.TheVariants.{Done, Fail, Misread}
+use Rattle.group_taking.specs.declared.GroupError.TheVariants.{Failed, Misread}
 
 -- ---- a fault
 
-pub group_fault : {script : List ℕ} {from : ℕ} {answer : Judged}
-    → JudgedAs script 15 from answer
-    → {x : Fault}
-    → answer ≡ Bad x
+pub group_fault : {script : List ℕ} {from : ℕ} {x : Fault}
+    → JudgedAs script 15 from (Err x)
     → 1 ≤ from
-    → {r : Fault}
-    → r ≡ fault_of answer
     → {m : Machine} {s d c : List ℕ}
-    → TakesGroup script from m s s d d c c (Misread m r)
+    → TakesGroup script from m s s d d c c (Err (Misread x))
 unfolding group_read
-group_fault {script} {from} J u first {r} e {m} {s} {d} {c} =
-    let F = subst (JudgedAs script 15 from) u J in
-    subst (λ y. TakesGroup script from m s s d d c c (Misread m y)) (sym (e ∙ ap fault_of u))
-    (record { takes = λ e l μ R. (F.says (length script) (made μ) [] (opened μ) (omega (arith, first)), refl, refl, R) })
-
--- What a good answer says.
-pub judged_good : {script : List ℕ} {from : ℕ} {answer : Judged}
-    → JudgedAs script 15 from answer
-    → {size wants after : ℕ}
-    → answer ≡ Good size wants after
-    → JudgedAs script 15 from (Good size wants after)
-judged_good {script} {from} J u = subst (JudgedAs script 15 from) u J
+group_fault {script} F first =
+    record { takes = λ e l μ R. (F.says (length script) (made μ) [] (opened μ) (omega (arith, first)), refl, refl, R) }
 
 -- ---- what the definition makes
 
@@ -86,31 +70,30 @@ module _ {script : List ℕ} {from : ℕ} (first : 1 ≤ from) (inside : from �
 
   -- ---- the names
 
-  module _ {m : Machine} {d d' : List ℕ} {r : Named} (N : AddsNames script from after m d d' r) (long : length d' ≡ length d) where
+  module _ {m : Machine} {d d' : List ℕ} {r : Did} (N : AddsNames script from after m d d' r) (long : length d' ≡ length d) where
     named_as : {s e c l : List ℕ} {μ : Floo.Machine} → Rep m s e d c l μ → NamedAs (names ns) m s e d d' c l μ r
     named_as {s} {e} {c} {l} {μ} R = N.adds (names ns) (parsed_flat P) s e c l μ R
 
     stays : {s e c l : List ℕ} {μ : Floo.Machine} → Rep m s e d c l μ → Rep m s e d' c l μ
     stays R = kept_rep R (omega (arith, long, R.rooms.dict_fits)) (omega (arith, long, R.rooms.dict_few)) N.kept
 
-    pub group_full : {s c : List ℕ} {x y : Error} → r ≡ named.Bad x → y ≡ fault_in r → TakesGroup script from m s s d d' c c (Fail y after)
+    pub group_full : {s c : List ℕ} {x : Error} → r ≡ Err x → TakesGroup script from m s s d d' c c (Err (Failed x after))
     unfolding lent push with_stack filled grown change opened protect make with_read_only with_store with_dictionary
-    group_full {s} {c} {x} {y} u q = record {
+    group_full {s} {c} u = record {
       takes = λ e l μ R.
           let full = subst (NamedAs (names ns) m s e d d' c l μ) u (named_as R) in
-          let same : LimitCheck ≡ y = sym (q ∙ ap fault_in u ∙ full.0) in
-          (nested ns μ, read_is μ, room_slots (lent s e d c l) μ (procedure ns μ) full.1 ∙ ap fault same, refl, refl, stays R, low);
+          (nested ns μ, read_is μ, room_slots (lent s e d c l) μ (procedure ns μ) full.1 ∙ ap fault (sym full.0), refl, refl, stays R, low);
     }
 
-    module _ {q : Machine} (u : r ≡ named.Done q) where
-      done : {s e c l : List ℕ} {μ : Floo.Machine} → Rep m s e d c l μ → NamedAs (names ns) m s e d d' c l μ (named.Done q)
+    module _ {q : Machine} (u : r ≡ Ok q) where
+      done : {s e c l : List ℕ} {μ : Floo.Machine} → Rep m s e d c l μ → NamedAs (names ns) m s e d d' c l μ (Ok q)
       done {s} {e} {c} {l} {μ} R = subst (NamedAs (names ns) m s e d d' c l μ) u (named_as R)
 
       names_fit : {s e c l : List ℕ} {μ : Floo.Machine} → Rep m s e d c l μ → length (procedure ns μ).dictionary ≤ length d / 12
       unfolding push with_stack filled grown change opened protect make with_read_only with_store with_dictionary
       names_fit {μ = μ} R = subst (λ n. length (procedure ns μ).dictionary ≤ n / 12) long (dictionary_fits (done R).0)
 
-      pub group_over : {s c : List ℕ} → length s < 2 * m.depth + 2 → TakesGroup script from m s s d d' c c (Fail StackOverflow after)
+      pub group_over : {s c : List ℕ} → length s < 2 * m.depth + 2 → TakesGroup script from m s s d d' c c (Err (Failed StackOverflow after))
       unfolding lent push with_stack filled grown change opened protect make with_read_only with_store with_dictionary
       group_over {s} {c} over = record {
         takes = λ e l μ R.
@@ -123,7 +106,7 @@ module _ {script : List ℕ} {from : ℕ} (first : 1 ≤ from) (inside : from �
         unfolding push with_stack filled grown change opened protect make with_read_only with_store with_dictionary
         stack_fit R = omega (arith, items_length R.items, room)
 
-        pub group_none : free_cells m c < count ns + 1 + wanted ns → TakesGroup script from m s s d d' c c (Fail VmError after)
+        pub group_none : free_cells m c < count ns + 1 + wanted ns → TakesGroup script from m s s d d' c c (Err (Failed VmError after))
         unfolding push with_stack filled grown change opened protect make with_read_only with_store with_dictionary
         group_none few = record {
           takes = λ e l μ R.
@@ -147,7 +130,7 @@ module _ {script : List ℕ} {from : ℕ} (first : 1 ≤ from) (inside : from �
           pub group_ready : {size : ℕ} → length script ≤ script_most → size ≡ count ns → size ≤ 32768 → (e : List ℕ) × (l : List ℕ) × (μ : Floo.Machine) × Rep m s e d c l μ → ReadyGroup script from size q s d' c
           group_ready short is few (e, l, μ, R) = (inside, short, few, (e, l, with_names (names ns) μ, ns, after, roomy R, is))
 
-          pub group_done : {r : Machine} {s' c' : List ℕ} → ConstructsGroup script from q r s s' d' c c' → TakesGroup script from m s s' d d' c c' (Done r after)
+          pub group_done : {r : Machine} {s' c' : List ℕ} → ConstructsGroup script from q r s s' d' c c' → TakesGroup script from m s s' d d' c c' (Ok (r, after))
           unfolding made push with_stack filled grown change opened protect make with_read_only with_store with_dictionary
           group_done {r} {s'} {c'} C = record {
             takes = λ e l μ R.

@@ -1,6 +1,6 @@
 -- What taking a brace group comes to in a step.
 -- Assumes nothing.
-use Rattle.std.specs.Prelude.{◌≡◌, true, List, [], ℕ, ◌+◌, ◌-◌, ◌*◌, ◌≤◌, length, replicate}
+use Rattle.std.specs.Prelude.{◌≡◌, true, List, [], ℕ, ◌+◌, ◌-◌, ◌*◌, ◌≤◌, length, replicate, Result, Ok, Err}
 use Rattle.semantics.specs.Sizes.{script_most}
 use Rattle.semantics.specs.Tokens.{Lexing}
 use Rattle.semantics.specs.Values.{ok, fault, null, array, elements}
@@ -13,10 +13,11 @@ use Rattle.groups.specs.Parsing.{Parsed}
 use Rattle.machine.specs.Rep.{Rep}
 use Rattle.machine.specs.Room.{lent}
 use Rattle.machine.specs.declared.Machine.{Machine}
+use Rattle.machine.specs.Answers.{Did}
 use Rattle.elements.specs.Elements.{free_cells}
 use Rattle.group_building.specs.Building.{Known, planted}
-use Rattle.group_taking.specs.declared.Grouped.{Grouped}
-use Rattle.group_taking.specs.declared.Grouped.TheVariants.{Done, Fail, Misread}
+use Rattle.group_taking.specs.declared.GroupError.{GroupError}
+use Rattle.group_taking.specs.declared.GroupError.TheVariants.{Failed, Misread}
 
 -- The definition's reading of the group whose opening brace ends at `from`.
 unfoldable pub group_read : List ℕ → ℕ → Floo.Machine → Lexing Taken
@@ -27,20 +28,28 @@ abbrev pub Opened : List ℕ → ℕ → Machine → List ℕ → List ℕ → L
 Opened script from m s d c =
     (1 ≤ from) × (from ≤ length script) × (length script ≤ script_most) × ((e : List ℕ) × (l : List ℕ) × (μ : Floo.Machine) × Rep m s e d c l μ)
 
+abbrev pub Grouped : Type 0
+Grouped = Result (Machine × ℕ) GroupError
+
 -- The machine after the group, and the offset after it; or the error of the test of room, with that offset, or what is wrong with the group's text, where the
 -- words stand for what they stood for.
 abbrev pub GroupedAs : List ℕ → ℕ → Machine → List ℕ → List ℕ → List ℕ → List ℕ → List ℕ → List ℕ → List ℕ → List ℕ → Floo.Machine → Grouped → Type 0
-GroupedAs script from m s s' e d d' c c' l μ (Done r after) =
+GroupedAs script from m s s' e d d' c c' l μ (Ok (r, after)) =
     (ν : Floo.Machine) × (group_read script from μ ≡ taken (array true (made μ)) ν after)
     × (room_for (lent s e d c l) μ (push (array true (made μ)) ν) ≡ ok (push (array true (made μ)) ν))
     × Rep r s' e d' c' l (push (array true (made μ)) ν) × (after ≤ length script)
-GroupedAs script from m s s' e d d' c c' l μ (Fail x after) =
+GroupedAs script from m s s' e d d' c c' l μ (Err (Failed x after)) =
     (ν : Floo.Machine) × (group_read script from μ ≡ taken (array true (made μ)) ν after)
     × (room_for (lent s e d c l) μ (push (array true (made μ)) ν) ≡ fault x) × (s' ≡ s) × (c' ≡ c) × Rep m s e d' c l μ × (after ≤ length script)
-GroupedAs script from m s s' e d d' c c' l μ (Misread r f) = (group_read script from μ ≡ fault f) × (s' ≡ s) × (c' ≡ c) × Rep m s e d' c l μ
+GroupedAs script from m s s' e d d' c c' l μ (Err (Misread f)) = (group_read script from μ ≡ fault f) × (s' ≡ s) × (c' ≡ c) × Rep m s e d' c l μ
 
 pub record TakesGroup (script : List ℕ) (from : ℕ) (m : Machine) (s s' d d' c c' : List ℕ) (r : Grouped) : Type 0 where
   pub takes : (e l : List ℕ) (μ : Floo.Machine) → Rep m s e d c l μ → GroupedAs script from m s s' e d d' c c' l μ r
+
+-- What taking a group that has been judged comes to, whose end is at `after`.
+abbrev pub counted : ℕ → Did → Grouped
+counted after (Ok r) = Ok (r, after)
+counted after (Err x) = Err (Failed x after)
 
 -- ---- where there is room
 

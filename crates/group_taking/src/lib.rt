@@ -2,23 +2,32 @@
 // nothing has changed but words of the dictionary past its names.
 #![tactic(auto)]
 
-ghost use Rattle.group_taking.specs.Taking.{Opened, TakesGroup, ReadyGroup, ConstructsGroup};
+ghost use Rattle.std.specs.Prelude.{◌≡◌, Ok};
+ghost use Rattle.groups.specs.Parsing.{JudgedAs};
+ghost use Rattle.group_taking.specs.declared.GroupError.TheVariants.{Misread};
+ghost use Rattle.group_taking.specs.Taking.{Opened, TakesGroup, counted, ReadyGroup, ConstructsGroup};
 
 use groups::Judged;
 use machine::{ITEM_PAYLOAD, Machine, TAG_NULL, TAG_PROCEDURE};
 use semantics::{Error, Fault, STACK_WIDTH};
-use taking::Named;
 
-// What taking a group came to: the machine and the offset after the group; the error and that offset, since a handled error counts the group as taken; or the
-// machine as it was, and what is wrong with the group's text. The last has the machine where the first has it, so that the compiler keeps its words whole.
-#[derive(Clone, Copy)]
-pub enum Grouped {
-    Done(Machine, usize),
-    Fail(Error, usize),
-    Misread(Machine, Fault),
+// Why a group was not taken: the error of the test of room, and the offset after the group, since a handled error counts the group as taken; or what is wrong
+// with the group's text.
+#[derive(Clone, Copy, PartialEq, Eq, Debug)]
+pub enum GroupError {
+    Failed(Error, usize),
+    Misread(Fault),
 }
 
-// The group whose opening brace is before `from` is pushed. Braces nest at most 16 deep, so 15 levels are left inside.
+impl From<Fault> for GroupError {
+    ghost from_gives = { λ f e. e ≡ Misread f };
+
+    fn from(f: Fault) -> GroupError {
+        GroupError::Misread(f)
+    }
+}
+
+// The group whose opening brace is before `from` is pushed: the machine then, and the offset after the group. Braces nest at most 16 deep, so 15 levels are left inside.
 // Ruled out: VMerror where the dictionary is full too; the cells of inner groups and strings left out of the test of room.
 pub fn take_group(
     m: Machine,
@@ -27,28 +36,37 @@ pub fn take_group(
     cells: &mut [u32],
     script: &[u8],
     from: usize,
-) -> Grouped
+) -> Result<(Machine, usize), GroupError>
     requires { Opened script.now from m stack.old dict.old cells.old }
     ensures { TakesGroup script.now from m stack.old stack.new dict.old dict.new cells.old cells.new result }
 {
-    let judged = groups::judge(script, from, 15);
-    let Judged::Good(size, wants, after) = judged else {
-        return Grouped::Misread(m, groups::fault_of(judged));
-    };
-    let named = taking::add_names(m, dict, script, from, after);
-    let Named::Done(with) = named else {
-        return Grouped::Fail(taking::fault_of(named), after);
-    };
-    if stack.len() < STACK_WIDTH * m.depth + STACK_WIDTH {
-        return Grouped::Fail(Error::StackOverflow, after);
+    let judged = groups::judge(script, from, 15)?;
+    match take_judged(m, stack, dict, cells, script, from, judged) {
+        Ok(r) => Ok((r, judged.next)),
+        Err(e) => Err(GroupError::Failed(e, judged.next)),
     }
-    if (elements::free_cells(m, cells) as usize) < size + 1 + wants {
-        return Grouped::Fail(Error::VmError, after);
+}
+
+// The group, which has been judged, is pushed, where there is room: for its names, on the stack and for its cells, in this order.
+fn take_judged(
+    m: Machine,
+    stack: &mut [u32],
+    dict: &mut [u32],
+    cells: &mut [u32],
+    script: &[u8],
+    from: usize,
+    judged: Judged,
+) -> Result<Machine, Error>
+    requires opened { Opened script.now from m stack.old dict.old cells.old }
+    requires judged { JudgedAs script.now 15 from (Ok judged) }
+    ensures { TakesGroup script.now from m stack.old stack.new dict.old dict.new cells.old cells.new (counted judged.next result) }
+{
+    let with = taking::add_names(m, dict, script, from, judged.next)?;
+    m.has_room(stack, 1)?;
+    if (elements::free_cells(m, cells) as usize) < judged.size + 1 + judged.wants {
+        return Err(Error::VmError);
     }
-    Grouped::Done(
-        construct(with, stack, dict, cells, script, from, size),
-        after,
-    )
+    Ok(construct(with, stack, dict, cells, script, from, judged.size))
 }
 
 // A procedure for the group is made, pushed, marked as read only and filled. Its names have slots, and there is room.
@@ -70,6 +88,5 @@ fn construct(
     elements::seal(made, stack, cells, 0);
     stack[STACK_WIDTH * n] = TAG_PROCEDURE;
     let first = group_building::first_cell(cells, stack[STACK_WIDTH * n + ITEM_PAYLOAD], size);
-    let built = group_building::build(made, dict, cells, script, from, first, 15);
-    built.machine
+    group_building::build(made, dict, cells, script, from, first, 15).machine
 }

@@ -1,7 +1,7 @@
 -- The loop that judges a brace group: what is known of the rest of the group gives what is known of the whole. A token takes at least as many bytes as the
 -- cells that it wants and one more, so the sums stay below the offset.
 -- Assumes nothing.
-use mathlib.Core.Path.{◌≡◌, refl, sym, ap, ◌∙◌, subst}
+use mathlib.Core.Path.{◌≡◌, refl, sym, ◌∙◌, subst}
 use mathlib.Core.List.{List, [], ◌∷◌}
 use Prim.Native.Nat.{ℕ, zero, suc, ◌+◌, ◌-◌, ◌/◌, ◌≤◌, ◌<◌}
 use native.Mathlib.Omega.{arith}
@@ -15,19 +15,13 @@ use Rattle.semantics.proofs.TokenLaws.{skip_le}
 use Rattle.semantics.specs.ResultLaws.{Gives, gives, fails, gives_then}
 use Rattle.semantics.specs.declared.Fault.{Fault}
 use Rattle.semantics.specs.declared.Fault.TheVariants.{BadBrace, OverLimit}
-use Rattle.token.specs.Lexing.{Lexes, LexedAt, TokenAt, BraceToken, fault_of}
+use Rattle.token.specs.Lexing.{Lexes, TokenAt, BraceToken}
 use Rattle.token.specs.Strings.{StringAt}
-use Rattle.token.specs.declared.Lexed.{Lexed}
-use Rattle.token.specs.declared.Lexed.TheVariants as lexed
 use Rattle.token.specs.declared.Token.TheVariants as read
-use Rattle.token.specs.declared.Token as scanned
 use Rattle.groups.specs.Nodes.{Nodes, end, leaf, inner, count, wanted}
-use Rattle.groups.specs.Parsing.{Parsed, closes, token, opens, Faults, JudgedAs, WeighedAs, fault_of as fault_in, weighed_fault}
+use Rattle.groups.specs.Parsing.{Parsed, closes, token, opens, Faults, JudgedAs, WeighedAs}
 use Rattle.groups.specs.declared.Judged.{Judged}
-use Rattle.groups.specs.declared.Judged.TheVariants.{Bad, Good}
-use Rattle.groups.specs.declared.Weighed.{Weighed}
-use Rattle.groups.specs.declared.Weighed.TheVariants as weighed
-use Rattle.groups.specs.declared.Weight.{Weight}
+use Rattle.std.specs.Prelude.{Ok, Err}
 use Rattle.groups.specs.declared.Weight.TheVariants.{Element, Open, Close, End}
 use Rattle.groups.proofs.Trees.{group_token, group_parsed, element_leaf}
 
@@ -92,61 +86,44 @@ faults_end script brace depth at le h = faults_on script brace depth at le (λ f
 
 -- ---- one token
 
-module _ (script : List ℕ) (at start : ℕ) (begins : start ≡ skip script at) (le : at ≤ length script) (answer : Lexed) (k : LexedAt script start answer) where
+module _ (script : List ℕ) (at start : ℕ) (begins : start ≡ skip script at) (le : at ≤ length script) where
   far : at ≤ start
   far = subst (λ n. at ≤ n) (sym begins) (skip_le script at le).0
 
-  pub weigh_fault : {e : Fault} → answer ≡ lexed.Fault e → (r : Fault) → r ≡ fault_of answer → WeighedAs script at (weighed.Bad r)
-  weigh_fault {e} g r q brace depth =
-      let h : lex start (drop start script) ≡ fault e = subst (LexedAt script start) g k in
-      let same : r ≡ e = q ∙ ap fault_of g in
-      rw same (faults_lex script brace depth at le (subst (λ n. lex n (drop n script) ≡ fault e) begins h))
+  pub weigh_fault : {e : Fault} → lex start (drop start script) ≡ fault e → WeighedAs script at (Err e)
+  weigh_fault {e} k brace depth = faults_lex script brace depth at le (subst (λ n. lex n (drop n script) ≡ fault e) begins k)
 
-  module _ (t : scanned.Token) (next : ℕ) (g : answer ≡ lexed.Token t next) where
-    here : TokenAt script start next t
-    here = subst (LexedAt script start) g k
-
-    at_token : (u : scanned.Token) → t ≡ u → TokenAt script start next u
-    at_token u q = subst (TokenAt script start next) q here
-
+  module _ {next : ℕ} where
     moved : {u : Token} → Lexes script start u next → Lexes script (skip script at) u next
     moved {u} l = subst (λ n. Lexes script n u next) begins l
 
-    pub weigh_integer : {w : ℕ} → t ≡ read.Integer w → WeighedAs script at (weighed.Good (Element 0) next)
+    pub weigh_integer : {w : ℕ} → TokenAt script start next (read.Integer w) → WeighedAs script at (Ok (Element 0, next))
     unfolding wanted sum_of
-    weigh_integer {w} q = let l = at_token (read.Integer w) q in (Token.integer w, moved l, refl, omega arith, omega (arith, l.past, far))
+    weigh_integer {w} l = (Token.integer w, moved l, refl, omega arith, omega (arith, l.past, far))
 
-    pub weigh_string : {from size : ℕ} → t ≡ read.String from size → WeighedAs script at (weighed.Good (Element (1 + (size + 7) / 8)) next)
+    pub weigh_string : {from size : ℕ} → TokenAt script start next (read.String from size) → WeighedAs script at (Ok (Element (1 + (size + 7) / 8), next))
     unfolding wanted sum_of cells
-    weigh_string {from} {size} q =
-        let l = at_token (read.String from size) q in
-        (Token.string l.bytes, moved l.token, refl, omega (arith, l.holds), omega (arith, string_shorter l.own, l.begins, l.holds, far))
+    weigh_string l = (Token.string l.bytes, moved l.token, refl, omega (arith, l.holds), omega (arith, string_shorter l.own, l.begins, l.holds, far))
 
-    pub string_room : {from size : ℕ} → t ≡ read.String from size → size < length script
-    string_room {from} {size} q =
-        let l = at_token (read.String from size) q in
-        omega (arith, string_shorter l.own, l.holds, l.token.inside)
+    pub string_room : {from size : ℕ} → TokenAt script start next (read.String from size) → size < length script
+    string_room l = omega (arith, string_shorter l.own, l.holds, l.token.inside)
 
-    pub weigh_executable : {from size : ℕ} → t ≡ read.ExecutableName from size → WeighedAs script at (weighed.Good (Element 0) next)
+    pub weigh_executable : {from size : ℕ} → TokenAt script start next (read.ExecutableName from size) → WeighedAs script at (Ok (Element 0, next))
     unfolding wanted sum_of
-    weigh_executable {from} {size} q =
-        let l = at_token (read.ExecutableName from size) q in
-        (_, moved l.token, refl, omega arith, omega (arith, l.token.past, far))
+    weigh_executable l = (_, moved l.token, refl, omega arith, omega (arith, l.token.past, far))
 
-    pub weigh_literal : {from size : ℕ} → t ≡ read.LiteralName from size → WeighedAs script at (weighed.Good (Element 0) next)
+    pub weigh_literal : {from size : ℕ} → TokenAt script start next (read.LiteralName from size) → WeighedAs script at (Ok (Element 0, next))
     unfolding wanted sum_of
-    weigh_literal {from} {size} q =
-        let l = at_token (read.LiteralName from size) q in
-        (_, moved l.token, refl, omega arith, omega (arith, l.token.past, far))
+    weigh_literal l = (_, moved l.token, refl, omega arith, omega (arith, l.token.past, far))
 
-    pub weigh_open : t ≡ read.OpenBrace → WeighedAs script at (weighed.Good Open next)
-    weigh_open q = subst (λ n. BraceToken script n Token.open_brace next) begins (at_token read.OpenBrace q)
+    pub weigh_open : TokenAt script start next read.OpenBrace → WeighedAs script at (Ok (Open, next))
+    weigh_open l = subst (λ n. BraceToken script n Token.open_brace next) begins l
 
-    pub weigh_close : t ≡ read.CloseBrace → WeighedAs script at (weighed.Good Close next)
-    weigh_close q = moved (at_token read.CloseBrace q).token
+    pub weigh_close : TokenAt script start next read.CloseBrace → WeighedAs script at (Ok (Close, next))
+    weigh_close l = moved l.token
 
-    pub weigh_end : t ≡ read.End → WeighedAs script at (weighed.Good End next)
-    weigh_end q = subst (λ n. lex n (drop n script) ≡ lexeme Token.end 0) begins (at_token read.End q).lexes
+    pub weigh_end : TokenAt script start next read.End → WeighedAs script at (Ok (End, next))
+    weigh_end l = subst (λ n. lex n (drop n script) ≡ lexeme Token.end 0) begins l.lexes
 
 -- ---- the loop
 
@@ -163,23 +140,16 @@ pub begin : (script : List ℕ) (depth from : ℕ) → from ≤ length script �
 begin script depth from le =
     record { inside = le; few = omega arith; failing = λ e f. f; parsing = λ ns next p. (ns, p, omega arith, omega arith) }
 
--- What a token is to the group, told apart.
-pub weighs : {r : Weighed} {w v : Weight} {next : ℕ} → r ≡ weighed.Good w next → w ≡ v → r ≡ weighed.Good v next
-weighs {next = next} g q = g ∙ ap (λ x. weighed.Good x next) q
-
 module _ {script : List ℕ} {depth from at size wants : ℕ} (J : Judging script depth from at size wants) where
-  pub judge_fault : {e x : Fault} {r : Weighed} → r ≡ weighed.Bad e → WeighedAs script at r → x ≡ weighed_fault r → JudgedAs script depth from (Bad x)
-  judge_fault {e} {x} g k q =
-      let same : x ≡ e = q ∙ ap weighed_fault g in
-      rw same (J.failing e (subst (WeighedAs script at) g k (from - 1) depth))
+  pub judge_fault : {e : Fault} → WeighedAs script at (Err e) → JudgedAs script depth from (Err e)
+  judge_fault {e} k = J.failing e (k (from - 1) depth)
 
-  pub element_inside : {c next : ℕ} {r : Weighed} → r ≡ weighed.Good (Element c) next → WeighedAs script at r → (c + 1 + at ≤ next) × (next ≤ length script)
-  element_inside g k = let w = subst (WeighedAs script at) g k in (w.4, w.1.inside)
+  pub element_inside : {c next : ℕ} → WeighedAs script at (Ok (Element c, next)) → (c + 1 + at ≤ next) × (next ≤ length script)
+  element_inside w = (w.4, w.1.inside)
 
-  pub judge_element : {c next : ℕ} {r : Weighed} → r ≡ weighed.Good (Element c) next → WeighedAs script at r → Judging script depth from next (size + 1) (wants + c)
+  pub judge_element : {c next : ℕ} → WeighedAs script at (Ok (Element c, next)) → Judging script depth from next (size + 1) (wants + c)
   unfolding count wanted
-  judge_element {c} {next} g k =
-      let w = subst (WeighedAs script at) g k in
+  judge_element {c} {next} w =
       let t = w.0 in
       let l = w.1 in
       record {
@@ -192,10 +162,7 @@ module _ {script : List ℕ} {depth from at size wants : ℕ} (J : Judging scrip
             (r.0, r.1, omega (arith, r.2), omega (arith, r.3, w.3));
       }
 
-  module _ {next : ℕ} {r : Weighed} (g : r ≡ weighed.Good Open next) (k : WeighedAs script at r) where
-    brace : BraceToken script (skip script at) Token.open_brace next
-    brace = subst (WeighedAs script at) g k
-
+  module _ {next : ℕ} (brace : WeighedAs script at (Ok (Open, next))) where
     l : Lexes script (skip script at) Token.open_brace next
     l = brace.token
 
@@ -206,52 +173,45 @@ module _ {script : List ℕ} {depth from at size wants : ℕ} (J : Judging scrip
     pub open_inside : (1 ≤ next) × (next ≤ length script)
     open_inside = (let p = l.past in omega arith, l.inside)
 
-    pub judge_deep : depth ≡ 0 → JudgedAs script depth from (Bad OverLimit)
+    pub judge_deep : depth ≡ 0 → JudgedAs script depth from (Err OverLimit)
     unfolding element
     judge_deep z = J.failing OverLimit (faults_via script (from - 1) depth at J.inside l (λ fuel i vs m h. rw z refl))
 
-    module _ (d : ℕ) (some : depth ≡ suc d) {inside : Judged} (I : JudgedAs script d next inside) where
-      pub judge_inner_fault : {e : Fault} → inside ≡ Bad e → (x : Fault) → x ≡ fault_in inside → JudgedAs script depth from (Bad x)
+    module _ (d : ℕ) (some : depth ≡ suc d) where
+      pub judge_inner_fault : {e : Fault} → JudgedAs script d next (Err e) → JudgedAs script depth from (Err e)
       unfolding element ◌>>=◌
-      judge_inner_fault {e} u x q =
-          let r : Faults script (next - 1) d next e = subst (JudgedAs script d next) u I in
+      judge_inner_fault {e} r =
           let f : Faults script (skip script at) d next e = subst (λ n. Faults script n d next e) opens_at r in
-          let same : x ≡ e = q ∙ ap fault_in u in
-          rw same
-          (J.failing e (faults_via script (from - 1) depth at J.inside l (λ fuel i vs m h. rw (some, f.says fuel (made m) [] (opened m) h) refl)))
+          J.failing e (faults_via script (from - 1) depth at J.inside l (λ fuel i vs m h. rw (some, f.says fuel (made m) [] (opened m) h) refl))
 
-      pub inner_inside : {n more after : ℕ} → inside ≡ Good n more after → (at < after) × (next + n + more < after) × (after ≤ length script)
-      inner_inside u =
-          let w = subst (JudgedAs script d next) u I in
-          (omega (arith, w.4, l.past, (skip_le script at J.inside).0), w.4, w.5)
+      module _ {inner_of : Judged} (w : JudgedAs script d next (Ok inner_of)) where
+        pub inner_inside : (at < inner_of.next) × (next + inner_of.size + inner_of.wants < inner_of.next) × (inner_of.next ≤ length script)
+        inner_inside = (omega (arith, w.4, l.past, (skip_le script at J.inside).0), w.4, w.5)
 
-      pub judge_inner : {n more after : ℕ} → inside ≡ Good n more after → Judging script depth from after (size + 1) (wants + (n + 1) + more)
-      unfolding element ◌>>=◌ taken count wanted
-      judge_inner {n} {more} {after} u =
-          let w = subst (JudgedAs script d next) u I in
-          let ms = w.0 in
-          let far = (skip_le script at J.inside).0 in
-          record {
-            inside = w.5;
-            few = omega (arith, J.few, w.4, l.past, far);
-            failing = λ e f. J.failing e (faults_via script (from - 1) depth at J.inside l
-                (λ fuel i vs m h. rw (some, group_parsed script w.1 l.inside fuel (made m) (skip script at) [] (opened m) h)
-                ((subst (λ k. Faults script (from - 1) k after e) some f).says fuel i _ _ (omega (arith, h, w.4)))));
-            parsing = λ ns last p.
-                let q = opens l w.1 (subst (λ k. Parsed script k after ns last) some p) in
-                let r = J.parsing (inner ms ns) last (subst (λ k. Parsed script k at (inner ms ns) last) (sym some) q) in
-                (r.0, r.1, omega (arith, r.2), omega (arith, r.3, w.2, w.3));
-          }
+        pub judge_inner : Judging script depth from inner_of.next (size + 1) (wants + (inner_of.size + 1 + inner_of.wants))
+        unfolding element ◌>>=◌ taken count wanted
+        judge_inner =
+            let after = inner_of.next in
+            let ms = w.0 in
+            let far = (skip_le script at J.inside).0 in
+            record {
+              inside = w.5;
+              few = omega (arith, J.few, w.4, l.past, far);
+              failing = λ e f. J.failing e (faults_via script (from - 1) depth at J.inside l
+                  (λ fuel i vs m h. rw (some, group_parsed script w.1 l.inside fuel (made m) (skip script at) [] (opened m) h)
+                  ((subst (λ k. Faults script (from - 1) k after e) some f).says fuel i _ _ (omega (arith, h, w.4)))));
+              parsing = λ ns last p.
+                  let q = opens l w.1 (subst (λ k. Parsed script k after ns last) some p) in
+                  let r = J.parsing (inner ms ns) last (subst (λ k. Parsed script k at (inner ms ns) last) (sym some) q) in
+                  (r.0, r.1, omega (arith, r.2), omega (arith, r.3, w.2, w.3));
+            }
 
-  pub judge_close : {next : ℕ} {r : Weighed} → r ≡ weighed.Good Close next → WeighedAs script at r → JudgedAs script depth from (Good size wants next)
+  pub judge_close : {next : ℕ} → WeighedAs script at (Ok (Close, next)) → JudgedAs script depth from (Ok (record { size = size; wants = wants; next = next }))
   unfolding count wanted
-  judge_close {next} g k =
-      let l : Lexes script (skip script at) Token.close_brace next = subst (WeighedAs script at) g k in
+  judge_close {next} l =
       let r = J.parsing end next (closes l) in
       (r.0, r.1, omega (arith, r.2), omega (arith, r.3), omega (arith, J.few, l.past, (skip_le script at J.inside).0), l.inside)
 
   -- The end is met, and this group's brace is the innermost that is open.
-  pub judge_end : {next : ℕ} {r : Weighed} → r ≡ weighed.Good End next → WeighedAs script at r → JudgedAs script depth from (Bad (BadBrace (from - 1)))
-  judge_end {next} g k =
-      let l : lex (skip script at) (drop (skip script at) script) ≡ lexeme Token.end 0 = subst (WeighedAs script at) g k in
-      J.failing (BadBrace (from - 1)) (faults_end script (from - 1) depth at J.inside l)
+  pub judge_end : lex (skip script at) (drop (skip script at) script) ≡ lexeme Token.end 0 → JudgedAs script depth from (Err (BadBrace (from - 1)))
+  judge_end k = J.failing (BadBrace (from - 1)) (faults_end script (from - 1) depth at J.inside k)

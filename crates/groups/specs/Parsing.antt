@@ -1,18 +1,14 @@
 -- What a brace group's bytes hold, and what judging them answers.
 -- Assumes nothing.
-use Rattle.std.specs.Prelude.{◌≡◌, true, List, ℕ, suc, ◌+◌, ◌-◌, ◌≤◌, ◌<◌, length, drop}
+use Rattle.std.specs.Prelude.{◌≡◌, true, List, ℕ, suc, ◌+◌, ◌-◌, ◌≤◌, ◌<◌, length, drop, Result, Ok, Err}
 use Rattle.semantics.specs.Tokens.{Token, lex, lexeme}
 use Rattle.semantics.specs.Values.{Value, fault}
 use Rattle.semantics.specs.Machine.{Machine}
 use Rattle.semantics.specs.Groups.{skip, group}
 use Rattle.semantics.specs.declared.Fault.{Fault}
-use Rattle.semantics.specs.declared.Fault.TheVariants.{OverLimit}
 use Rattle.token.specs.Lexing.{Lexes, BraceToken}
 use Rattle.groups.specs.Nodes.{Nodes, end, leaf, inner, is_leaf, count, wanted}
 use Rattle.groups.specs.declared.Judged.{Judged}
-use Rattle.groups.specs.declared.Judged.TheVariants.{Bad, Good}
-use Rattle.groups.specs.declared.Weighed.{Weighed}
-use Rattle.groups.specs.declared.Weighed.TheVariants as weighed
 use Rattle.groups.specs.declared.Weight.{Weight}
 use Rattle.groups.specs.declared.Weight.TheVariants.{Element, Open, Close, End}
 
@@ -35,10 +31,10 @@ pub record Faults (script : List ℕ) (brace depth offset : ℕ) (f : Fault) : T
   pub says : (fuel i : ℕ) (vs : List Value) (m : Machine) → length script < offset + fuel → group script fuel i brace depth offset vs m ≡ fault f
 
 -- What judging a group's rest answers: its fault, or how many elements it has, the cells of the objects in it, and the offset after it.
-abbrev pub JudgedAs : List ℕ → ℕ → ℕ → Judged → Type 0
-JudgedAs script depth offset (Bad f) = Faults script (offset - 1) depth offset f
-JudgedAs script depth offset (Good size wants next) =
-    (ns : Nodes) × Parsed script depth offset ns next × (size ≡ count ns) × (wants ≡ wanted ns) × (offset + size + wants < next) × (next ≤ length script)
+abbrev pub JudgedAs : List ℕ → ℕ → ℕ → Result Judged Fault → Type 0
+JudgedAs script depth offset (Err f) = Faults script (offset - 1) depth offset f
+JudgedAs script depth offset (Ok j) =
+    (ns : Nodes) × Parsed script depth offset ns j.next × (j.size ≡ count ns) × (j.wants ≡ wanted ns) × (offset + j.size + j.wants < j.next) × (j.next ≤ length script)
 
 -- What weighing one token of a group answers: a fault, whatever the group's brace and depth; an element, the cells of the object that it makes, and the
 -- offset after it; a brace; or the script's end.
@@ -49,14 +45,6 @@ WeightAs script offset next Open = BraceToken script (skip script offset) Token.
 WeightAs script offset next Close = Lexes script (skip script offset) Token.close_brace next
 WeightAs script offset next End = lex (skip script offset) (drop (skip script offset) script) ≡ lexeme Token.end 0
 
-abbrev pub WeighedAs : List ℕ → ℕ → Weighed → Type 0
-WeighedAs script offset (weighed.Bad f) = (brace depth : ℕ) → Faults script brace depth offset f
-WeighedAs script offset (weighed.Good w next) = WeightAs script offset next w
-
-abbrev pub fault_of : Judged → Fault
-fault_of (Bad f) = f
-fault_of (Good size wants next) = OverLimit
-
-abbrev pub weighed_fault : Weighed → Fault
-weighed_fault (weighed.Bad f) = f
-weighed_fault (weighed.Good w next) = OverLimit
+abbrev pub WeighedAs : List ℕ → ℕ → Result (Weight × ℕ) Fault → Type 0
+WeighedAs script offset (Err f) = (brace depth : ℕ) → Faults script brace depth offset f
+WeighedAs script offset (Ok (w, next)) = WeightAs script offset next w

@@ -1,5 +1,6 @@
 -- The row of the error whose name has a slot: the names of errors are gone through one after another, and none before is the slot's.
 -- Assumes nothing.
+use Rattle.std.specs.Prelude.{Option, Some, None, IfSome, unwrap_or}
 use mathlib.Core.Path.{◌≡◌, refl, sym, ap, ◌∙◌, subst}
 use mathlib.Core.Bool.{Bool, true, false, not}
 use mathlib.Core.List.{List, [], ◌∷◌, ◌++◌}
@@ -107,3 +108,12 @@ search_end {j = j} S high =
           let same_name : n ≡ name i = some_one (sym q ∙ name_is i inside) in
           S.none i (omega arith) m s e c x μ R (key ∙ ap some same_name);
     }
+
+-- ---- what `row_named` answers
+
+module _ {d : List ℕ} {k : ℕ} {r : Option ℕ} (X : NamesRow d k (unwrap_or r error_count)) where
+  pub some_row : {j : ℕ} → IfSome r (λ i. i < error_count) → r ≡ Some j → NamesRow d k j × (j < error_count)
+  some_row low q = (subst (λ x. NamesRow d k (unwrap_or x error_count)) q X, subst (λ x. IfSome x (λ i. i < error_count)) q low)
+
+  pub no_row : r ≡ None → NamesRow d k error_count
+  no_row q = subst (λ x. NamesRow d k (unwrap_or x error_count)) q X

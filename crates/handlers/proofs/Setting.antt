@@ -79,6 +79,10 @@ module _ {m : Machine} {st e d c l : List ℕ} {μ : Floo.Machine} (R : Rep m st
   pub handler_value : {v : Value} → lookup n μ.handlers ≡ some v → IsIn R.world μ v (handler_tag d j) (handler_payload d j)
   handler_value q = bound_is handler_at q
 
+  -- The same, by the words that were read.
+  pub handler_words : {v : Value} {t p : ℕ} → lookup n μ.handlers ≡ some v → t ≡ handler_tag d j → p ≡ handler_payload d j → IsIn R.world μ v t p
+  handler_words q x y = rw (x, y) (handler_value q)
+
   -- The error's name has the slot that the row has.
   pub handler_named : {v : Value} → lookup n μ.handlers ≡ some v → get_elem? (keys μ) (handler_name d j) ≡ some n
   handler_named {v} q = words.named v (sym (lookup_sits n at.1) ∙ q) ∙ ap some (element_sits n at.1).1

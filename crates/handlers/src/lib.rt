@@ -2,21 +2,21 @@
 // the latest error. Each function keeps `Rep`, and does to the machine of the definition what its contract names.
 #![tactic(auto)]
 
-ghost use Rattle.std.specs.Prelude.{◌≡◌, ◌+◌, ◌*◌, ◌≤◌, ◌<◌, length};
+ghost use Rattle.std.specs.Prelude.{◌≡◌, ◌+◌, ◌*◌, ◌≤◌, ◌<◌, length, set, unwrap_or, IfSome};
 ghost use Rattle.semantics.specs.Sizes.{operator_count, error_count, dictionary_words_most};
 ghost use Rattle.semantics.specs.Errors.{error_names};
 ghost use Rattle.semantics.specs.ErrorLaws.{error_row};
-ghost use Rattle.machine.specs.Words.{handler_tag, handler_name};
+ghost use Rattle.machine.specs.Words.{handler_tag, handler_payload, handler_name};
 ghost use Rattle.dictionary.specs.Listing.{listed};
 ghost use Rattle.dictionary.specs.Bindings.{NamedItems};
 ghost use Rattle.handlers.specs.Handling.{NamesRow, BindsHandler, PendsHandler, HandledFrames, NotesNames};
 
-use frames::PENDING;
+use heap::Value;
 use machine::{
-    FRAME_PAYLOAD, FRAME_TAG, HANDLER_NAME, HANDLER_PAYLOAD, HANDLER_TAG, HANDLER_WIDTH,
-    ITEM_PAYLOAD, LATEST_COMMAND, LATEST_ERROR, Machine, TAG_NULL,
+    HANDLER_NAME, HANDLER_PAYLOAD, HANDLER_TAG, HANDLER_WIDTH, LATEST_COMMAND, LATEST_ERROR,
+    Machine,
 };
-use semantics::{ERROR_COUNT, EXEC_WIDTH, Error, STACK_WIDTH};
+use semantics::{ERROR_COUNT, Error};
 
 // The row of an error: its place among the names of errors.
 pub fn row_of(e: Error) -> usize
@@ -38,11 +38,12 @@ pub fn row_of(e: Error) -> usize
     }
 }
 
-// The row of the error whose name has the slot; the number of rows where the name is no error's.
+// The row of the error whose name has the slot, if the name is an error's.
 // Ruled out: `vmerror` taken for VMerror; a name that starts like an error's.
-pub fn row_named(dict: &[u32], slot: usize) -> usize
+pub fn row_named(dict: &[u32], slot: usize) -> Option<usize>
     requires { (12 * slot + 12 ≤ length dict.now) × (length dict.now ≤ dictionary_words_most) }
-    ensures { NamesRow dict.now slot result }
+    ensures names_row { NamesRow dict.now slot (unwrap_or result error_count) }
+    ensures upper_bound { IfSome result (λ j. j < error_count) }
 {
     row_among(
         dict,
@@ -71,7 +72,7 @@ pub fn name_slot(dict: &[u32], row: usize) -> u32
 // The row's handler becomes a copy of item i.
 // Ruled out: the old handler let go before the new one is counted; another row's handler changed.
 pub fn bind_handler(
-    m: Machine,
+    mut m: Machine,
     stack: &[u32],
     dict: &mut [u32],
     cells: &mut [u32],
@@ -83,20 +84,14 @@ pub fn bind_handler(
     ensures binds_handler { BindsHandler row slot i m result stack.now dict.old dict.new cells.old cells.new }
     ensures depth_value { result.depth ≡ m.depth }
 {
-    let k = m.depth - 1 - i;
-    let tag = stack[STACK_WIDTH * k];
-    let pay = stack[STACK_WIDTH * k + ITEM_PAYLOAD];
-    let at = HANDLER_WIDTH * row;
-    let old = dict[at + HANDLER_TAG];
-    let was = dict[at + HANDLER_PAYLOAD];
     let lists = m.lists;
-    let left = machine::recount(lists, cells, old, was, tag, pay);
-    dict[at + HANDLER_TAG] = tag;
-    dict[at + HANDLER_PAYLOAD] = pay;
-    dict[at + HANDLER_NAME] = slot;
-    let mut r = m;
-    r.lists = left;
-    r
+    let new = machine::item(stack, m.depth - 1 - i);
+    let old = handler(dict, row);
+    let left = machine::recount(lists, cells, old, new);
+    set_handler(dict, row, new);
+    dict[HANDLER_WIDTH * row + HANDLER_NAME] = slot;
+    m.lists = left;
+    m
 }
 
 // A copy of the row's handler becomes pending.
@@ -112,19 +107,8 @@ pub fn pend_handler(
     ensures pends_handler { PendsHandler row m result exec.old exec.new dict.now cells.old cells.new }
     ensures depth_value { (result.depth ≡ m.depth) × (result.frames ≡ m.frames + 1) }
 {
-    let n = m.frames;
-    let at = HANDLER_WIDTH * row;
-    let tag = dict[at + HANDLER_TAG];
-    let pay = dict[at + HANDLER_PAYLOAD];
-    let lists = m.lists;
-    let counted = machine::recount(lists, cells, TAG_NULL, 0, tag, pay);
-    exec[EXEC_WIDTH * n] = PENDING;
-    exec[EXEC_WIDTH * n + FRAME_TAG] = tag;
-    exec[EXEC_WIDTH * n + FRAME_PAYLOAD] = pay;
-    let mut r = m;
-    r.frames = n + 1;
-    r.lists = counted;
-    r
+    let value = handler(dict, row);
+    frames::pend(m, exec, cells, value)
 }
 
 // The names of the latest error and of its command are stored: 0 for none, else one more than the name's slot.
@@ -136,20 +120,39 @@ pub fn note(dict: &mut [u32], error: u32, command: u32)
     dict[LATEST_COMMAND] = command;
 }
 
+// The row's handler.
+fn handler(dict: &[u32], row: usize) -> Value
+    requires { (row < error_count) × (12 * operator_count ≤ length dict.now) × (length dict.now ≤ dictionary_words_most) }
+    ensures { (result.tag ≡ handler_tag dict.now row) × (result.pay ≡ handler_payload dict.now row) }
+{
+    Value {
+        tag: handler_tag(dict, row),
+        pay: dict[HANDLER_WIDTH * row + HANDLER_PAYLOAD],
+    }
+}
+
+// The row's handler becomes the value; nothing is counted.
+fn set_handler(dict: &mut [u32], row: usize, value: Value)
+    requires { (row < error_count) × (12 * operator_count ≤ length dict.old) × (length dict.old ≤ dictionary_words_most) }
+    ensures { dict.new ≡ set (set dict.old (36 * row + 11) value.tag) (36 * row + 23) value.pay }
+{
+    dict[HANDLER_WIDTH * row + HANDLER_TAG] = value.tag;
+    dict[HANDLER_WIDTH * row + HANDLER_PAYLOAD] = value.pay;
+}
+
 // The first row whose name in the list, which a blank ends, is the slot's.
-fn row_among(dict: &[u32], slot: usize, list: &[u8]) -> usize
+fn row_among(dict: &[u32], slot: usize, list: &[u8]) -> Option<usize>
     requires { (list.now ≡ listed error_names) × (12 * slot + 12 ≤ length dict.now) × (length dict.now ≤ dictionary_words_most) }
-    ensures { NamesRow dict.now slot result }
+    ensures names_row { NamesRow dict.now slot (unwrap_or result error_count) }
+    ensures upper_bound { IfSome result (λ j. j < error_count) }
 {
     let mut at = 0;
-    let mut j = 0;
-    while j < ERROR_COUNT {
+    for j in 0..ERROR_COUNT {
         let end = dictionary::blank_from(list, at);
         if dictionary::is_named(dict, slot, &list[at..end]) {
-            return j;
+            return Some(j);
         }
         at = end + 1;
-        j = j + 1;
     }
-    j
+    None
 }

@@ -1,5 +1,6 @@
 -- The error is handed over, or not, as the definition decides: what failed is taken, both names are stored, and the handler becomes pending.
 -- Assumes nothing.
+use Rattle.std.specs.Prelude.{Some, None}
 use mathlib.Core.Path.{◌≡◌, refl, sym, ap, ◌∙◌, subst}
 use mathlib.Core.Bool.{Bool, true, false}
 use mathlib.Core.List.{List}
@@ -33,7 +34,6 @@ use Rattle.handlers.specs.Handling.{HasHandler, HandledFrames, PendsHandler, Not
 use Rattle.dictionary.proofs.Rebinding.{bound_none, bound_some}
 use Rattle.handlers.proofs.Setting.{rows_room, rows_few, handler_at, handler_named}
 use Rattle.handover.specs.Handover.{left_of, passed_top, HasSlot, MayKnow, Knows, handed_over, MayHand, HandsOver}
-use Rattle.handover.specs.declared.Handed.TheVariants.{Over, Not}
 use Rattle.handover.specs.declared.Known.{Known}
 
 module _ (limits : Limits) (x : Error) (text : List ℕ) (μ : Floo.Machine) where
@@ -67,11 +67,11 @@ module _ (x : Error) {row : ℕ} (is : row ≡ error_row x) where
     handler q = bound_some (handler_at R row (error_text x) named) q
 
 module _ (script : List ℕ) (x : Error) (command : Command) (m : Machine) (e d c : List ℕ) {row : ℕ} (is : row ≡ error_row x) where
-  pub hands_none : handler_tag d row ≡ 7 → HandsOver script x command m e e d d c c Not
+  pub hands_none : handler_tag d row ≡ 7 → HandsOver script x command m e e d d c c None
   hands_none q = record { hands = λ s l μ limits R i a b. (none_over limits x _ μ (unhandled x is R q), (refl, refl, refl)) }
 
   module _ (tagged : handler_tag d row ≡ 7 → ⊥) {t : Bool} (H : HasSlot m e t) where
-    pub hands_full : t ≡ false → HandsOver script x command m e e d d c c Not
+    pub hands_full : t ≡ false → HandsOver script x command m e e d d c c None
     hands_full q =
         record {
           hands = λ s l μ limits R i a b.
@@ -147,7 +147,7 @@ module _ (script : List ℕ) (x : Error) (command : Command) (m : Machine) (e d 
           pub pend_there : MayHand script command m e d c → HandledFrames row known.machine e₁ d₂ c₁
           pend_there M = (M.stack, M.log, _, _, _, handler_there M.stands M.is, noted_rep M.stands M.is)
 
-          pub hands : {r : Machine} {e₂ c₂ : List ℕ} → PendsHandler row known.machine r e₁ e₂ d₂ c₁ c₂ → HandsOver script x command m e e₂ d d₂ c c₂ (Over r)
+          pub hands : {r : Machine} {e₂ c₂ : List ℕ} → PendsHandler row known.machine r e₁ e₂ d₂ c₁ c₂ → HandsOver script x command m e e₂ d d₂ c c₂ (Some r)
           unfolding enter with_latest with_dictionary with_exec
           hands {r} {e₂} {c₂} Q =
               record {

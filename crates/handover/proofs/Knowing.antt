@@ -29,7 +29,7 @@ use Rattle.machine.specs.Rep as Words
 use Rattle.machine.specs.Rep.{Rep, Noted, nothing}
 use Rattle.machine.specs.declared.Machine.{Machine}
 use Rattle.machine.proofs.Rooms.{dictionary_fits}
-use Rattle.dictionary.specs.Names.{Finds, Adds}
+use Rattle.dictionary.specs.Names.{slot_of, Finds, Adds}
 use Rattle.dictionary.proofs.Dictionaries.{absent}
 use Rattle.dictionary.proofs.Interning.{new_slot, new_key}
 use Rattle.handover.specs.Handover.{Stored, KnowsName, KnowsSlot, Knows, NamesSomewhere, MayKnow}
@@ -66,29 +66,30 @@ module _ {m : Machine} {s e d c l : List ℕ} {μ : Floo.Machine} (R : Rep m s e
       stored_by n d (record { machine = m; word = w }) (some n) μ.dictionary (noted_found (length d / 12) n μ.dictionary (omega (arith, some_bytes)) (has_key n μ.dictionary k key) (dictionary_fits R)) same
       (subst (Noted (keys μ) (some n)) (sym (w_is ∙ add-one k)) (Words.noted key))
 
-  module _ (n : List ℕ) {k : ℕ} (F : Finds m d n k) where
+  module _ (n : List ℕ) (F : Finds m d n m.names) where
+    lacks : slot_of n μ.dictionary ≡ m.names
+    lacks = new_slot R n F (omega arith) (omega arith)
+
     -- No slot is free.
-    pub stored_none : k ≤ m.names → m.names ≤ k → length d < 12 * m.names + 12 → Stored n d d (record { machine = m; word = 0 }) s e c l μ
-    stored_none low high full =
-        let lacks = has_absent n (absent n μ.dictionary (new_slot R n F low high ∙ R.naming.many)) in
-        stored_by n d (record { machine = m; word = 0 }) none μ.dictionary (noted_full (length d / 12) n μ.dictionary lacks (omega (arith, full, R.naming.many))) same nothing
+    pub stored_none : length d < 12 * m.names + 12 → Stored n d d (record { machine = m; word = 0 }) s e c l μ
+    stored_none full =
+        let without = has_absent n (absent n μ.dictionary (lacks ∙ R.naming.many)) in
+        stored_by n d (record { machine = m; word = 0 }) none μ.dictionary (noted_full (length d / 12) n μ.dictionary without (omega (arith, full, R.naming.many))) same nothing
 
     -- One is.
     pub stored_new : (d' : List ℕ) (r : Machine) (w : ℕ)
-        → k ≤ m.names
-        → m.names ≤ k
         → 12 * m.names + 12 ≤ length d
         → (length n ≡ 0 → ⊥)
         → Adds m r d d' n
-        → w ≡ k + 1
+        → w ≡ m.names + 1
         → Stored n d d' (record { machine = r; word = w }) s e c l μ
     unfolding intern with_dictionary
-    stored_new d' r w low high room some_bytes A w_is =
-        let missing = absent n μ.dictionary (new_slot R n F low high ∙ R.naming.many) in
+    stored_new d' r w room some_bytes A w_is =
+        let missing = absent n μ.dictionary (lacks ∙ R.naming.many) in
         let more = slotted_absent n missing in
         stored_by n d' (record { machine = r; word = w }) (some n) (μ.dictionary ++ (record { key = n; binding = none } ∷ [])) (noted_new (length d / 12) n μ.dictionary (omega (arith, some_bytes)) (has_absent n missing) (omega (arith, room, R.naming.many)))
-        (subst (λ f. Rep r s e d' c l (with_dictionary f μ)) more (A.moves s e c l μ R (new_slot R n F low high)))
-        (subst (λ f. Noted (keys_of f) (some n) w) more (subst (Noted (keys_of (slotted n μ.dictionary)) (some n)) (sym (w_is ∙ add-one k)) (Words.noted (new_key R n F low high))))
+        (subst (λ f. Rep r s e d' c l (with_dictionary f μ)) more (A.moves s e c l μ R lacks))
+        (subst (λ f. Noted (keys_of f) (some n) w) more (subst (Noted (keys_of (slotted n μ.dictionary)) (some n)) (sym (w_is ∙ add-one m.names)) (Words.noted (new_key R n F (omega arith) (omega arith)))))
 
 -- ---- commands
 

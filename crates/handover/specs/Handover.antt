@@ -1,6 +1,6 @@
 -- An error that is handed over to its handler, as the definition has it (02, W1).
 -- Assumes nothing.
-use Rattle.std.specs.Prelude.{◌≡◌, Bool, true, false, List, [], ◌∷◌, ℕ, suc, ◌/◌, ◌≤◌, leb, length}
+use Rattle.std.specs.Prelude.{◌≡◌, Bool, true, false, List, [], ◌∷◌, ℕ, suc, ◌/◌, ◌≤◌, leb, length, Option as Maybe, Some, None}
 use Rattle.std.proofs.Math.Option.{Option, none, some}
 use Rattle.std.proofs.Math.ListN.{get_elem?}
 use Rattle.semantics.specs.Errors.{error_text}
@@ -15,8 +15,6 @@ use Rattle.machine.specs.Words.{frame_kind, frame_left}
 use Rattle.machine.specs.Places.{keys}
 use Rattle.machine.specs.Rep.{Rep, Noted}
 use Rattle.machine.specs.declared.Machine.{Machine}
-use Rattle.handover.specs.declared.Handed.{Handed}
-use Rattle.handover.specs.declared.Handed.TheVariants.{Over, Not}
 use Rattle.handover.specs.declared.Known.{Known}
 
 -- ---- what failed counts as taken
@@ -82,10 +80,14 @@ handed_over l x command μ =
       | some h ↦ elim (leb (suc (length (left_of μ.exec))) l.exec_slots) [ true ↦ some (handling l h x command (left_of μ.exec) μ) | false ↦ none ]
     ]
 
+-- The machine in which the handler took over, if it did.
+abbrev pub Handed : Type 0
+Handed = Maybe Machine
+
 -- What the answer means: R says that a machine stands for one of the definition, Same that no word has changed.
 abbrev pub HandedAs : (Machine → Floo.Machine → Type 0) → Type 0 → Handed → Option Floo.Machine → Type 0
-HandedAs R Same (Over m) q = (ν : Floo.Machine) × (q ≡ some ν) × R m ν
-HandedAs R Same Not q = (q ≡ none) × Same
+HandedAs R Same (Some m) q = (ν : Floo.Machine) × (q ≡ some ν) × R m ν
+HandedAs R Same None q = (q ≡ none) × Same
 
 -- The words stand for some machine in which the command is there, and whose topmost slot can fail.
 pub record MayHand (script : List ℕ) (command : Command) (m : Machine) (e d c : List ℕ) : Type 0 where

@@ -12,13 +12,6 @@ use frames::{FOR, PENDING, REPEAT, RUNNING};
 use machine::{FRAME_INCREMENT, FRAME_NEXT, Machine, TAG_UNBOUND};
 use semantics::{DICTIONARY_WIDTH, EXEC_WIDTH, Error};
 
-// Whether the handler took over, and the machine then.
-#[derive(Clone, Copy)]
-pub enum Handed {
-    Over(Machine),
-    Not,
-}
-
 // A machine whose dictionary knows a name, and the word for the name: one more than its slot, 0 for none.
 #[derive(Clone, Copy)]
 pub struct Known {
@@ -26,6 +19,7 @@ pub struct Known {
     pub word: u32,
 }
 
+// The machine in which the handler has taken over, if it has.
 // Ruled out: a handler that runs while what failed stays; an error handed over with no slot for its handler; names stored where it is not.
 pub fn hand_over(
     m: Machine,
@@ -35,23 +29,22 @@ pub fn hand_over(
     cells: &mut [u32],
     e: Error,
     command: Command,
-) -> Handed
+) -> Option<Machine>
     requires { MayHand script.now command m exec.old dict.old cells.old }
     ensures { HandsOver script.now e command m exec.old exec.new dict.old dict.new cells.old cells.new result }
 {
     let row = handlers::row_of(e);
     if handlers::handler_tag(dict, row) == TAG_UNBOUND {
-        return Handed::Not;
+        return None;
     }
-    if has_slot(m, exec) {
-        let passed = pass_top(m, exec, cells);
-        let known = know_command(passed, dict, script, command);
-        let error = handlers::name_slot(dict, row) + 1;
-        handlers::note(dict, error, known.word);
-        let r = known.machine;
-        return Handed::Over(handlers::pend_handler(r, exec, dict, cells, row));
+    if !has_slot(m, exec) {
+        return None;
     }
-    Handed::Not
+    let passed = pass_top(m, exec, cells);
+    let known = know_command(passed, dict, script, command);
+    let error = handlers::name_slot(dict, row) + 1;
+    handlers::note(dict, error, known.word);
+    Some(handlers::pend_handler(known.machine, exec, dict, cells, row))
 }
 
 // Whether an execution slot is free once what failed is taken: a pending object's own slot is.
@@ -156,8 +149,7 @@ fn know_name(m: Machine, dict: &mut [u32], name: &[u8]) -> Known
             word: 0,
         };
     }
-    let k = dictionary::find(m, dict, name);
-    if k < m.names {
+    if let Some(k) = dictionary::find(m, dict, name) {
         return Known {
             machine: m,
             word: k as u32 + 1,
@@ -172,6 +164,6 @@ fn know_name(m: Machine, dict: &mut [u32], name: &[u8]) -> Known
     let r = dictionary::add(m, dict, name);
     Known {
         machine: r,
-        word: k as u32 + 1,
+        word: m.names as u32 + 1,
     }
 }

@@ -53,6 +53,13 @@ pub struct Taken {
     pub lists: Lists,
 }
 
+// A value in two words: what it is, and what that tells of the payload. From FIRST_OBJECT on the tag makes the payload a header cell.
+#[derive(Clone, Copy, PartialEq, Eq)]
+pub struct Value {
+    pub tag: u32,
+    pub pay: u32,
+}
+
 // The lists of a heap with no object, whatever the words hold.
 // Ruled out: a first cell passed over; words that would have to be cleared.
 pub fn fresh() -> Lists
@@ -81,6 +88,18 @@ pub fn put(m: &mut [u32], c: u32, w: usize, v: u32)
     ensures { Put m.old c w v m.new }
 {
     m[(c as usize) * 4 + w] = v;
+}
+
+// The value that the body cell c holds.
+// Ruled out: the words of another cell; the payload read for the tag.
+pub fn value_of(m: &[u32], c: u32) -> Value
+    requires { c * 4 + 4 ≤ length m.now }
+    ensures { (result.tag ≡ word m.now c 0) × (result.pay ≡ word m.now c 1) }
+{
+    Value {
+        tag: get(m, c, 0),
+        pay: get(m, c, 1),
+    }
 }
 
 // The kind of the header h: 0 of an array, and 1 and the maximum of a string.
@@ -172,20 +191,19 @@ pub fn allocate(s: Lists, m: &mut [u32], kind: u32, n: u32) -> Taken
     let t = new_header(s, m, kind);
     let h = t.cell;
     let mut r = t.lists;
-    let mut i: u32 = 0;
-    while i < n {
+    for i in 0..n {
         r = prepend(r, m, h);
-        i += 1;
     }
     Taken { cell: h, lists: r }
 }
 
 // If the value is an object, one place more names it.
 // Ruled out: a payload taken for a header where the tag is a plain value's; another object counted.
-pub fn increment(m: &mut [u32], tag: u32, pay: u32)
-    requires { (p : ℕ) × (g : Ghost) × (s : Lists) × Full g p 0 s m.old × Alives g tag pay }
-    ensures { Risen tag pay m.old m.new × ((x u : ℕ) → u < 4 → (u ≡ 2 → ⊥) → word m.new x u ≡ word m.old x u) }
+pub fn increment(m: &mut [u32], value: Value)
+    requires { (p : ℕ) × (g : Ghost) × (s : Lists) × Full g p 0 s m.old × Alives g value.tag value.pay }
+    ensures { Risen value.tag value.pay m.old m.new × ((x u : ℕ) → u < 4 → (u ≡ 2 → ⊥) → word m.new x u ≡ word m.old x u) }
 {
+    let Value { tag, pay } = value;
     if FIRST_OBJECT <= tag {
         let n = get(m, pay, 2);
         put(m, pay, 2, n + 1);
@@ -194,13 +212,13 @@ pub fn increment(m: &mut [u32], tag: u32, pay: u32)
 
 // The cell c of a live array holds the value, and what it held before is let go.
 // Ruled out: the old value let go and the new one not counted; the new one let go in place of the old.
-pub fn assign(s: Lists, m: &mut [u32], c: u32, tag: u32, pay: u32) -> Lists
-    requires { Target c tag pay s m.old × (s.dead ≡ 0) }
-    ensures { (result.dead ≡ 0) × Assigned c tag pay s m.old result m.new }
+pub fn assign(s: Lists, m: &mut [u32], c: u32, new: Value) -> Lists
+    requires { Target c new.tag new.pay s m.old × (s.dead ≡ 0) }
+    ensures { (result.dead ≡ 0) × Assigned c new.tag new.pay s m.old result m.new }
 {
-    let old = get(m, c, 0);
-    let was = get(m, c, 1);
-    increment(m, tag, pay);
+    let Value { tag: old, pay: was } = value_of(m, c);
+    let Value { tag, pay } = new;
+    increment(m, new);
     put(m, c, 0, tag);
     put(m, c, 1, pay);
     if FIRST_OBJECT <= old {
@@ -229,16 +247,13 @@ fn take(s: Lists, m: &[u32]) -> Taken
     ensures { (result.lists.listed + s.edge + 1 ≡ s.listed + result.lists.edge) × Took s m.now result.cell result.lists × (result.lists.dead ≡ s.dead) }
 {
     if s.listed == 0 {
-        let lists = Lists {
-            free: s.free,
-            listed: 0,
-            edge: s.edge + 1,
-            work: s.work,
-            dead: s.dead,
-        };
         Taken {
             cell: s.edge,
-            lists,
+            lists: Lists {
+                listed: 0,
+                edge: s.edge + 1,
+                ..s
+            },
         }
     } else {
         let c = s.free;
@@ -246,9 +261,7 @@ fn take(s: Lists, m: &[u32]) -> Taken
         let lists = Lists {
             free: next,
             listed: s.listed - 1,
-            edge: s.edge,
-            work: s.work,
-            dead: s.dead,
+            ..s
         };
         Taken { cell: c, lists }
     }
@@ -336,11 +349,9 @@ fn decrement(s: Lists, m: &mut [u32], o: u32) -> Lists
     if count == 1 {
         put(m, o, 2, s.work);
         Lists {
-            free: s.free,
-            listed: s.listed,
-            edge: s.edge,
             work: o,
             dead: s.dead + 1,
+            ..s
         }
     } else {
         put(m, o, 2, count - 1);
@@ -370,11 +381,9 @@ fn free_header(s: Lists, m: &mut [u32]) -> Lists
     let d = s.work;
     let next = get(m, d, 2);
     let t = Lists {
-        free: s.free,
-        listed: s.listed,
-        edge: s.edge,
         work: next,
         dead: s.dead - 1,
+        ..s
     };
     put(m, d, 3, 0);
     free_cell(t, m, d)
@@ -420,8 +429,6 @@ fn free_cell(s: Lists, m: &mut [u32], c: u32) -> Lists
     Lists {
         free: c,
         listed: s.listed + 1,
-        edge: s.edge,
-        work: s.work,
-        dead: s.dead,
+        ..s
     }
 }

@@ -21,8 +21,7 @@ use Rattle.heap.proofs.Since.{begins}
 use Rattle.heap.proofs.Parts as parts
 use Rattle.heap.proofs.Roots.{root_swap}
 use Rattle.heap_counts.specs.Slots.{Slots, Found}
-use Rattle.heap_counts.specs.declared.Element.{Element}
-use Rattle.heap_counts.specs.declared.Element.TheVariants.{At}
+use Rattle.std.specs.Prelude.{Option, Some}
 
 -- ---- the parts
 
@@ -84,8 +83,8 @@ module _ {s : Lists} {slots m : List ℕ} (D : Slots s slots m) where
   element_lives {tag} {pay} c a k oc w e f t = let C = D.full.counts in
       C.aimed c pay (omega (arith, (inside D.full.heap.shape c oc refl).0)) (C.body c a k oc ∙ parts.object (word m a 0) (word m c 0) (word m c 1) w (rw e at t) ∙ ap suc (sym f))
 
-  pub found : {c : ℕ} (r : Element) → Found s slots m r → r ≡ At c → (a : ℕ) × (k : ℕ) × (D.ghost.own c ≡ on (a + 2) k) × (D.ghost.own a ≡ live) × (word m a 0 ≡ 0)
-  found {c} r k e = let f : Found s slots m (At c) = rw e at k in f D
+  pub found : {c : ℕ} (r : Option ℕ) → Found s slots m r → r ≡ Some c → (a : ℕ) × (k : ℕ) × (D.ghost.own c ≡ on (a + 2) k) × (D.ghost.own a ≡ live) × (word m a 0 ≡ 0)
+  found {c} r k e = let f : Found s slots m (Some c) = rw e at k in f D
 
   -- element i of an array of more elements
   pub element_at : (h i c : ℕ) → D.ghost.own h ≡ live → word m h 0 ≡ 0 → i < D.ghost.size (h + 2)

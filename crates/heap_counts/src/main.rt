@@ -76,7 +76,7 @@ ghost use Rattle.std.specs.Prelude.{◌≡◌, ◌+◌, ◌-◌, ◌≤◌, leng
 ghost use Rattle.heap.specs.Shape.{cells};
 ghost use Rattle.heap_counts.specs.Slots.{Slots, Found};
 
-use heap::Lists;
+use heap::{FIRST_OBJECT, Lists, Value};
 use std::io;
 use std::io::Write;
 use steps::Step;
@@ -91,13 +91,6 @@ const WORDS: usize = 131072;
 
 // More bytes than there are of steps.
 const SCRIPT: usize = 4096;
-
-// An element of an array: the cell that it is in, if there is one.
-#[derive(Clone, Copy)]
-enum Element {
-    At(u32),
-    Nowhere,
-}
 
 fn say_number<W: Write>(out: &mut W, n: u32) -> io::Result<()> {
     let mut digits = [0u8; 10];
@@ -131,11 +124,7 @@ fn clear(slots: &mut [u32], m: &[u32]) -> Lists
     requires { (cells m.now ≤ 32768) × (cells m.now + length slots.old ≤ 65536) }
     ensures { Slots result slots.new m.now }
 {
-    let mut k: usize = 0;
-    while k < slots.len() {
-        slots[k] = 0;
-        k += 1;
-    }
+    slots.fill(0);
     heap::fresh()
 }
 
@@ -184,7 +173,13 @@ fn share(s: Lists, slots: &mut [u32], m: &mut [u32], a: usize, b: usize) -> List
     if slots[b] != 0 {
         return s;
     }
-    heap::increment(m, heap::FIRST_OBJECT, named - 1);
+    heap::increment(
+        m,
+        Value {
+            tag: FIRST_OBJECT,
+            pay: named - 1,
+        },
+    );
     slots[b] = named;
     s
 }
@@ -205,26 +200,26 @@ fn let_go(s: Lists, slots: &mut [u32], m: &mut [u32], slot: usize) -> Lists
     heap::release(s, m, named - 1)
 }
 
-// Element i of the array that the slot names.
-fn find_element(s: Lists, slots: &[u32], m: &[u32], slot: usize, i: u32) -> Element
+// The cell of element i of the array that the slot names, if there is one.
+fn find_element(s: Lists, slots: &[u32], m: &[u32], slot: usize, i: u32) -> Option<u32>
     requires { Slots s slots.now m.now }
     ensures { Found s slots.now m.now result }
 {
     if slots.len() <= slot {
-        return Element::Nowhere;
+        return None;
     }
     let named = slots[slot];
     if named == 0 {
-        return Element::Nowhere;
+        return None;
     }
     let h = named - 1;
     if heap::kind(m, h) != 0 {
-        return Element::Nowhere;
+        return None;
     }
     if heap::size(m, h) <= i {
-        return Element::Nowhere;
+        return None;
     }
-    Element::At(heap::seek(m, h, i))
+    Some(heap::seek(m, h, i))
 }
 
 // Element i of slot a's array names what slot b names; it is null where that is nothing.
@@ -232,7 +227,7 @@ fn set(s: Lists, slots: &[u32], m: &mut [u32], a: usize, i: u32, b: usize) -> Li
     requires { Slots s slots.now m.old }
     ensures { Slots result slots.now m.new }
 {
-    let Element::At(c) = find_element(s, slots, m, a, i) else {
+    let Some(c) = find_element(s, slots, m, a, i) else {
         return s;
     };
     if slots.len() <= b {
@@ -240,9 +235,17 @@ fn set(s: Lists, slots: &[u32], m: &mut [u32], a: usize, i: u32, b: usize) -> Li
     }
     let named = slots[b];
     if named == 0 {
-        return heap::assign(s, m, c, 0, 0);
+        return heap::assign(s, m, c, Value { tag: 0, pay: 0 });
     }
-    heap::assign(s, m, c, heap::FIRST_OBJECT, named - 1)
+    heap::assign(
+        s,
+        m,
+        c,
+        Value {
+            tag: FIRST_OBJECT,
+            pay: named - 1,
+        },
+    )
 }
 
 // Element i of slot a's array becomes its element j.
@@ -250,15 +253,14 @@ fn copy(s: Lists, slots: &[u32], m: &mut [u32], a: usize, i: u32, j: u32) -> Lis
     requires { Slots s slots.now m.old }
     ensures { Slots result slots.now m.new }
 {
-    let Element::At(c) = find_element(s, slots, m, a, i) else {
+    let Some(c) = find_element(s, slots, m, a, i) else {
         return s;
     };
-    let Element::At(d) = find_element(s, slots, m, a, j) else {
+    let Some(d) = find_element(s, slots, m, a, j) else {
         return s;
     };
-    let tag = heap::get(m, d, 0);
-    let pay = heap::get(m, d, 1);
-    heap::assign(s, m, c, tag, pay)
+    let new = heap::value_of(m, d);
+    heap::assign(s, m, c, new)
 }
 
 // One array of 1 more in front of the chain of slot 0. Slot 1 is empty before and after.
@@ -278,10 +280,8 @@ fn chain(s: Lists, slots: &mut [u32; SLOTS], m: &mut [u32; WORDS], n: u32) -> Li
     ensures { Slots result slots.new m.new }
 {
     let mut r = s;
-    let mut left = n;
-    while 0 < left {
+    for _ in 0..n {
         r = lengthen(r, slots, m);
-        left -= 1;
     }
     r
 }
@@ -316,7 +316,7 @@ fn run_line(s: Lists, slots: &mut [u32; SLOTS], m: &mut [u32; WORDS], line: &[u8
     requires { Slots s slots.old m.old }
     ensures { Slots result slots.new m.new }
 {
-    let colon = steps::find(line, 0, b':');
+    let colon = steps::find(line, b':');
     act(s, slots, m, steps::read(&line[..colon]))
 }
 
@@ -330,7 +330,7 @@ fn show_line<W: Write>(
 ) -> io::Result<()>
     requires { Slots s slots.now m.now }
 {
-    let colon = steps::find(line, 0, b':');
+    let colon = steps::find(line, b':');
     show(out, &line[colon..], s, slots, m)
 }
 
@@ -341,14 +341,17 @@ fn run_lines<W: Write>(
     m: &mut [u32; WORDS],
 ) -> io::Result<()> {
     let mut s = clear(slots, m);
-    let mut at = 0;
-    while at < script.len() {
-        let end = steps::find(script, at, b'\n');
-        s = run_line(s, slots, m, &script[at..end]);
-        show_line(out, &script[at..end], s, slots, m)?;
-        at = end + 1;
+    // a line at a time: a `for` over `split` gets no proof in a generic function
+    let mut rest = script;
+    loop {
+        let end = steps::find(rest, b'\n');
+        s = run_line(s, slots, m, &rest[..end]);
+        show_line(out, &rest[..end], s, slots, m)?;
+        let Some((_, after)) = rest[end..].split_first() else {
+            return Ok(());
+        };
+        rest = after;
     }
-    Ok(())
 }
 
 fn main(rt: HostRuntime) -> io::Result<()> {

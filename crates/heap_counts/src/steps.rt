@@ -10,57 +10,35 @@ pub struct Step {
     pub c: u16,
 }
 
-// The first byte b of a text, from `at` on, or the text's end.
-pub fn find(text: &[u8], at: usize, b: u8) -> usize
-    requires { at ≤ length text.now }
-    ensures { (at ≤ result) × (result ≤ length text.now) }
+// The first byte b of a text, or the text's end.
+pub fn find(text: &[u8], b: u8) -> usize
+    ensures { result ≤ length text.now }
 {
-    let mut i = at;
-    while i < text.len() {
-        if text[i] == b {
-            return i;
-        }
-        i += 1;
-    }
-    i
-}
-
-fn first(text: &[u8]) -> u8 {
-    if 0 < text.len() {
-        return text[0];
-    }
-    0
+    text.iter().position(|x| *x == b).unwrap_or(text.len())
 }
 
 // A digit lengthens the last number. Any other byte makes room for the next.
 fn taken(step: Step, byte: u8) -> Step {
     match byte {
         b'0'..=b'9' => Step {
-            what: step.what,
-            a: step.a,
-            b: step.b,
-            c: ((step.c as u32 * 10 + (byte - b'0') as u32) % 65536) as u16,
+            c: step.c.wrapping_mul(10).wrapping_add(u16::from(byte - b'0')),
+            ..step
         },
         _ => Step {
-            what: step.what,
             a: step.b,
             b: step.c,
             c: 0,
+            ..step
         },
     }
 }
 
 pub fn read(text: &[u8]) -> Step {
-    let mut step = Step {
-        what: first(text),
+    let start = Step {
+        what: text.first().copied().unwrap_or(0),
         a: 0,
         b: 0,
         c: 0,
     };
-    let mut i = 0;
-    while i < text.len() {
-        step = taken(step, text[i]);
-        i += 1;
-    }
-    step
+    text.iter().fold(start, |step, byte| taken(step, *byte))
 }

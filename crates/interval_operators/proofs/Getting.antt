@@ -1,5 +1,6 @@
 -- getinterval: what each return shows, by the tags and sizes that the code has compared and by what its primitives did.
 -- Assumes nothing.
+use Rattle.std.specs.Prelude.{Ok, Err}
 use mathlib.Core.Path.{◌≡◌, refl, sym, ap, ◌∙◌, subst}
 use mathlib.Core.Bool.{Bool, true, false}
 use mathlib.Core.List.{List, [], ◌∷◌, ◌++◌, append-nil}
@@ -25,9 +26,7 @@ use Rattle.machine.specs.Moves.{dropped, swapped, retagged}
 use Rattle.machine.specs.Operands.{two_ints, TwoIs, FetchesTwo}
 use Rattle.machine.specs.Room.{DoesHeap}
 use Rattle.machine.specs.declared.Machine.{Machine}
-use Rattle.machine.specs.declared.TwoInts.{TwoInts}
-use Rattle.machine.specs.declared.TwoInts.TheVariants as Two
-use Rattle.machine.specs.declared.Did.TheVariants.{Ok, Fail}
+use Rattle.machine.specs.Answers.{TwoInts}
 use Rattle.machine.proofs.Operands.{pop2_some}
 use Rattle.machine.proofs.Outcomes.{stack_depth, fails_heap, then_heap, stack_heap, two_fault}
 use Rattle.machine.proofs.Rooms.{stack_fits}
@@ -92,18 +91,18 @@ module _ {m : Machine} {s c : List ℕ} (deep : 3 ≤ m.depth) {start n : ℕ} (
       known T.split (ap (λ (r : List Value). get_or r 0 null) q) (ap (λ (r : List Value). get_or r 1 null) q) x
 
 module _ {m : Machine} {s c : List ℕ} where
-  pub get_short : m.depth < 3 → DoesHeap op m s s c c (Fail StackUnderflow)
+  pub get_short : m.depth < 3 → DoesHeap op m s s c c (Err StackUnderflow)
   get_short h = fails_heap (λ e d l μ R. get_under μ (omega (arith, h, stack_depth R)))
 
   module _ (deep : 3 ≤ m.depth) {t : ℕ} (X : ItemTag 2 m s t) where
-    pub get_no_object : t < 8 → DoesHeap op m s s c c (Fail TypeCheck)
+    pub get_no_object : t < 8 → DoesHeap op m s s c c (Err TypeCheck)
     get_no_object h =
         fails_heap (λ e d l μ R.
         let T = three R deep in
         get_is μ T.split ∙ no_object T.x T.y T.z (with_stack T.rest μ) (omega (arith, h, tag_x R T X)))
 
     module _ (h : 8 ≤ t) where
-      pub get_no_integers : {r : TwoInts} {x : Error} → FetchesTwo m s r → r ≡ Two.Bad x → DoesHeap op m s s c c (Fail x)
+      pub get_no_integers : {r : TwoInts} {x : Error} → FetchesTwo m s r → r ≡ Err x → DoesHeap op m s s c c (Err x)
       get_no_integers F q =
           fails_heap (λ e d l μ R.
           let T = three R deep in
@@ -114,13 +113,13 @@ module _ {m : Machine} {s c : List ℕ} where
           object_x : object_id (three R deep).x ≡ ok (named (three R deep).x)
           object_x = tag_object (three R deep).x (omega (arith, h, tag_x R (three R deep) X))
 
-        pub get_negative_start : 2 ^ 31 ≤ start → start < 2 ^ 32 → DoesHeap op m s s c c (Fail RangeCheck)
+        pub get_negative_start : 2 ^ 31 ≤ start → start < 2 ^ 32 → DoesHeap op m s s c c (Err RangeCheck)
         get_negative_start l k = fails_heap (λ e d l' μ R. get_is μ (three_split deep I R refl) ∙ negative_start (three R deep).x (with_stack (three R deep).rest μ) (object_x R) start n l k)
 
-        pub get_negative_count : start < 2 ^ 31 → 2 ^ 31 ≤ n → n < 2 ^ 32 → DoesHeap op m s s c c (Fail RangeCheck)
+        pub get_negative_count : start < 2 ^ 31 → 2 ^ 31 ≤ n → n < 2 ^ 32 → DoesHeap op m s s c c (Err RangeCheck)
         get_negative_count low l k = fails_heap (λ e d l' μ R. get_is μ (three_split deep I R refl) ∙ negative_count (three R deep).x (with_stack (three R deep).rest μ) (object_x R) start n low l k)
 
-pub integers : {m : Machine} {s : List ℕ} {r : TwoInts} {a b : ℕ} → FetchesTwo m s r → r ≡ Two.Got a b → Integers a b m s
+pub integers : {m : Machine} {s : List ℕ} {r : TwoInts} {a b : ℕ} → FetchesTwo m s r → r ≡ Ok (a, b) → Integers a b m s
 integers F q = record { says = λ e d c l μ R. subst (TwoIs μ) q (F.says e d c l μ R) }
 
 -- ---- the new object
@@ -257,7 +256,7 @@ module _ {m : Machine} {s c : List ℕ} (deep : 3 ≤ m.depth) {start n : ℕ} (
           let S = string_case deep I R X in
           get_is μ S.split ∙ inside (string S.i) (with_stack S.rest μ) (string_id_lem S.i) start n low few (omega (arith, h, string_size, text_size S.whole))
 
-    pub get_bytes_outside : k < start + n → DoesHeap op m s s c c (Fail RangeCheck)
+    pub get_bytes_outside : k < start + n → DoesHeap op m s s c c (Err RangeCheck)
     unfolding object with_stack
     get_bytes_outside h =
         fails_heap (λ e d l μ R.
@@ -265,7 +264,7 @@ module _ {m : Machine} {s c : List ℕ} (deep : 3 ≤ m.depth) {start n : ℕ} (
         get_is μ S.split ∙ outside (string S.i) (with_stack S.rest μ) (string_id_lem S.i) start n low few (omega (arith, h, string_size R, text_size S.whole)))
 
     module _ (h : start + n ≤ k) where
-      pub get_bytes_full : {r : ℕ} → r ≡ free_cells m c → r < (n + 7) / 8 + 1 → DoesHeap op m s s c c (Fail VmError)
+      pub get_bytes_full : {r : ℕ} → r ≡ free_cells m c → r < (n + 7) / 8 + 1 → DoesHeap op m s s c c (Err VmError)
       unfolding push_new push make with_stack with_store
       get_bytes_full q full =
           full_heap (λ e d l μ R.
@@ -305,7 +304,7 @@ module _ {m : Machine} {s c : List ℕ} (deep : 3 ≤ m.depth) {start n : ℕ} (
           let S = array_case deep I R high X in
           get_is μ S.split ∙ inside (array S.b S.i) (with_stack S.rest μ) (array_id_lem S.b S.i) start n low few (omega (arith, h, array_long, array_size S.whole))
 
-    pub get_elements_outside : k < start + n → DoesHeap op m s s c c (Fail RangeCheck)
+    pub get_elements_outside : k < start + n → DoesHeap op m s s c c (Err RangeCheck)
     unfolding object with_stack
     get_elements_outside h =
         fails_heap (λ e d l μ R.
@@ -313,7 +312,7 @@ module _ {m : Machine} {s c : List ℕ} (deep : 3 ≤ m.depth) {start n : ℕ} (
         get_is μ S.split ∙ outside (array S.b S.i) (with_stack S.rest μ) (array_id_lem S.b S.i) start n low few (omega (arith, h, array_long R, array_size S.whole)))
 
     module _ (h : start + n ≤ k) where
-      pub get_elements_full : {r : ℕ} → r ≡ free_cells m c → r < n + 1 → DoesHeap op m s s c c (Fail VmError)
+      pub get_elements_full : {r : ℕ} → r ≡ free_cells m c → r < n + 1 → DoesHeap op m s s c c (Err VmError)
       unfolding push_new push make with_stack with_store
       get_elements_full q full =
           full_heap (λ e d l μ R.

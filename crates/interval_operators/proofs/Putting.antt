@@ -1,5 +1,6 @@
 -- putinterval: what each return shows, by the tags and sizes that the code has compared and by what its primitives did.
 -- Assumes nothing.
+use Rattle.std.specs.Prelude.{Ok, Err}
 use mathlib.Core.Path.{◌≡◌, refl, sym, ap, ◌∙◌, subst}
 use mathlib.Core.Bool.{Bool, true, false}
 use mathlib.Core.List.{List, ◌∷◌, ◌++◌}
@@ -20,7 +21,6 @@ use Rattle.machine.specs.Rep.{Rep, Somewhere, MovesHeap}
 use Rattle.machine.specs.Moves.{dropped}
 use Rattle.machine.specs.Room.{DoesHeap}
 use Rattle.machine.specs.declared.Machine.{Machine}
-use Rattle.machine.specs.declared.Did.TheVariants.{Ok, Fail}
 use Rattle.machine.proofs.Outcomes.{KeepsStore, stack_depth, fails_heap, moves_heap, then_heap}
 use Rattle.elements.specs.Elements.{tag_of, named, item_id, ItemTag, ItemSealed, ArraySize, StringSize}
 use Rattle.elements.proofs.Tags.{tag_string, tag_array, tag_object, tag_no_object}
@@ -62,32 +62,32 @@ unfolding put_all
 kinds_elements a b = rw (a, b) refl
 
 module _ {m : Machine} {s c : List ℕ} where
-  pub put_short : m.depth < 3 → DoesHeap op m s s c c (Fail StackUnderflow)
+  pub put_short : m.depth < 3 → DoesHeap op m s s c c (Err StackUnderflow)
   put_short h = fails_heap (λ e d l μ R. put_under μ (omega (arith, h, stack_depth R)))
 
   module _ (deep : 3 ≤ m.depth) {t : ℕ} (X : ItemTag 2 m s t) where
-    pub put_no_target : t < 8 → DoesHeap op m s s c c (Fail TypeCheck)
+    pub put_no_target : t < 8 → DoesHeap op m s s c c (Err TypeCheck)
     put_no_target h =
         fails_heap (λ e d l μ R.
         let T = three R deep in
         put_is μ T.split ∙ no_target T.x T.y T.z (with_stack T.rest μ) (omega (arith, h, tag_x R T X)))
 
     module _ (h : 8 ≤ t) {u : ℕ} (Y : ItemTag 1 m s u) where
-      pub put_no_start : (u ≡ 1 → ⊥) → DoesHeap op m s s c c (Fail TypeCheck)
+      pub put_no_start : (u ≡ 1 → ⊥) → DoesHeap op m s s c c (Err TypeCheck)
       put_no_start n =
           fails_heap (λ e d l μ R.
           let T = three R deep in
           put_is μ T.split ∙ no_start T.x T.y T.z (with_stack T.rest μ) (omega (arith, h, tag_x R T X)) (λ q. n (tag_y R T Y ∙ q)))
 
       module _ (i : u ≡ 1) {v : ℕ} (Z : ItemTag 0 m s v) where
-        pub put_no_source : v < 8 → DoesHeap op m s s c c (Fail TypeCheck)
+        pub put_no_source : v < 8 → DoesHeap op m s s c c (Err TypeCheck)
         put_no_source k =
             fails_heap (λ e d l μ R.
             let T = three R deep in
             put_is μ T.split ∙ no_source T.x T.y T.z (with_stack T.rest μ) (omega (arith, h, tag_x R T X)) (sym (tag_y R T Y) ∙ i) (omega (arith, k, tag_z R T Z)))
 
         module _ (k : 8 ≤ v) where
-          pub put_text_array : t ≡ 8 → (v ≡ 8 → ⊥) → DoesHeap op m s s c c (Fail TypeCheck)
+          pub put_text_array : t ≡ 8 → (v ≡ 8 → ⊥) → DoesHeap op m s s c c (Err TypeCheck)
           unfolding object with_stack named
           put_text_array a b =
               fails_heap (λ e d l μ R.
@@ -100,7 +100,7 @@ module _ {m : Machine} {s c : List ℕ} where
               let Q : object μ (named T.z) ≡ elements (elements_of (object μ z.1)) = ap (λ v. object μ (named v)) z.2 ∙ B.0 in
               put_is μ T.split ∙ two_kinds T.x T.y T.z (with_stack T.rest μ) (omega (arith, h, tag_x R T X)) (sym (tag_y R T Y) ∙ i) (omega (arith, k, tag_z R T Z)) (kinds_text P Q))
 
-          pub put_array_text : (t ≡ 8 → ⊥) → v ≡ 8 → DoesHeap op m s s c c (Fail TypeCheck)
+          pub put_array_text : (t ≡ 8 → ⊥) → v ≡ 8 → DoesHeap op m s s c c (Err TypeCheck)
           unfolding object with_stack named
           put_array_text a b =
               fails_heap (λ e d l μ R.
@@ -331,11 +331,11 @@ module _ {m : Machine} {s c : List ℕ} (deep : 3 ≤ m.depth) {start : ℕ} (I 
   -- ---- strings
 
   module _ (X : ItemTag 2 m s 8) (Z : ItemTag 0 m s 8) {p : Bool} (M : ItemSealed 2 m s c p) where
-    pub put_bytes_refused : p ≡ true → DoesHeap op m s s c c (Fail InvalidAccess)
+    pub put_bytes_refused : p ≡ true → DoesHeap op m s s c c (Err InvalidAccess)
     put_bytes_refused q = fails_heap (λ e d l μ R. case_refused M R (strings_case (two_strings X Z R)) q)
 
     module _ (plain : p ≡ false) where
-      pub put_bytes_negative : 2 ^ 31 ≤ start → start < 2 ^ 32 → DoesHeap op m s s c c (Fail RangeCheck)
+      pub put_bytes_negative : 2 ^ 31 ≤ start → start < 2 ^ 32 → DoesHeap op m s s c c (Err RangeCheck)
       put_bytes_negative l h = fails_heap (λ e d l' μ R. case_negative M R (strings_case (two_strings X Z R)) plain l h)
 
       module _ (low : start < 2 ^ 31) {n k : ℕ} (N : StringSize 0 m s c n) (K : StringSize 2 m s c k) where
@@ -346,7 +346,7 @@ module _ {m : Machine} {s c : List ℕ} (deep : 3 ≤ m.depth) {start : ℕ} (I 
           bytes_target : k ≡ size (object μ (two_strings X Z R).i)
           bytes_target = let S = two_strings X Z R in K.says e d l μ R S.i (ap (λ (r : List Value). get_or r 2 null) S.split) ∙ sym (text_size S.target)
 
-        pub put_bytes_outside : k < start + n → DoesHeap op m s s c c (Fail RangeCheck)
+        pub put_bytes_outside : k < start + n → DoesHeap op m s s c c (Err RangeCheck)
         unfolding strings_case texts object with_stack
         put_bytes_outside h = fails_heap (λ e d l μ R. case_outside M R (strings_case (two_strings X Z R)) plain low (bytes_source R) (bytes_target R) h)
 
@@ -366,11 +366,11 @@ module _ {m : Machine} {s c : List ℕ} (deep : 3 ≤ m.depth) {start : ℕ} (I 
   -- ---- arrays
 
   module _ (X : ArrayItem 2 m s) (Z : ArrayItem 0 m s) {p : Bool} (M : ItemSealed 2 m s c p) where
-    pub put_elements_refused : p ≡ true → DoesHeap op m s s c c (Fail InvalidAccess)
+    pub put_elements_refused : p ≡ true → DoesHeap op m s s c c (Err InvalidAccess)
     put_elements_refused q = fails_heap (λ e d l μ R. case_refused M R (arrays_case (two_arrays X Z R)) q)
 
     module _ (plain : p ≡ false) where
-      pub put_elements_negative : 2 ^ 31 ≤ start → start < 2 ^ 32 → DoesHeap op m s s c c (Fail RangeCheck)
+      pub put_elements_negative : 2 ^ 31 ≤ start → start < 2 ^ 32 → DoesHeap op m s s c c (Err RangeCheck)
       put_elements_negative l h = fails_heap (λ e d l' μ R. case_negative M R (arrays_case (two_arrays X Z R)) plain l h)
 
       module _ (low : start < 2 ^ 31) {n k : ℕ} (N : ArraySize 0 m s c n) (K : ArraySize 2 m s c k) where
@@ -381,7 +381,7 @@ module _ {m : Machine} {s c : List ℕ} (deep : 3 ≤ m.depth) {start : ℕ} (I 
           elements_target : k ≡ size (object μ (two_arrays X Z R).i)
           elements_target = let S = two_arrays X Z R in K.says e d l μ R S.a S.i (ap (λ (r : List Value). get_or r 2 null) S.split) ∙ sym (array_size S.target)
 
-        pub put_elements_outside : k < start + n → DoesHeap op m s s c c (Fail RangeCheck)
+        pub put_elements_outside : k < start + n → DoesHeap op m s s c c (Err RangeCheck)
         unfolding arrays_case arrays object with_stack
         put_elements_outside h = fails_heap (λ e d l μ R. case_outside M R (arrays_case (two_arrays X Z R)) plain low (elements_source R) (elements_target R) h)
 

@@ -10,84 +10,82 @@ ghost use Rattle.machine.specs.Room.{DoesHeap};
 ghost use Rattle.elements.specs.Elements.{ItemTag, ArraySize, SomewhereThat};
 ghost use Rattle.interval_operators.specs.Intervals.{ArrayItem, Integers, ItemInteger, CopiesElements, elements_copied, three_dropped, result_left};
 
-use machine::{Did, ITEM_PAYLOAD, Machine, TAG_INTEGER, TAG_PROCEDURE, TAG_STRING, TwoInts};
+use machine::{ITEM_PAYLOAD, Machine, TAG_INTEGER, TAG_PROCEDURE, TAG_STRING};
 use semantics::{Error, STACK_WIDTH};
 use word::SIGN;
 
 // Ruled out: a new array that is literal where the old one was a procedure, and VMerror where the new object just fits.
-pub fn getinterval(m: Machine, stack: &mut [u32], cells: &mut [u32]) -> Did
+pub fn getinterval(m: Machine, stack: &mut [u32], cells: &mut [u32]) -> Result<Machine, Error>
     requires { Somewhere m stack.old cells.old }
     ensures { DoesHeap (perform (bytes "getinterval")) m stack.old stack.new cells.old cells.new result }
 {
-    if m.depth < 3 {
-        return Did::Fail(Error::StackUnderflow);
-    }
+    m.needs(3)?;
     let tag = elements::tag_of(m, stack, 2);
     if tag < TAG_STRING {
-        return Did::Fail(Error::TypeCheck);
+        return Err(Error::TypeCheck);
     }
-    match m.two_ints(stack) {
-        TwoInts::Bad(e) => Did::Fail(e),
-        TwoInts::Got(start, n) => {
-            if SIGN <= start {
-                return Did::Fail(Error::RangeCheck);
-            }
-            if SIGN <= n {
-                return Did::Fail(Error::RangeCheck);
-            }
-            if tag == TAG_STRING {
-                return get_bytes(m, stack, cells, start, n);
-            }
-            get_elements(m, stack, cells, tag, start, n)
-        }
+    let (start, n) = m.two_ints(stack)?;
+    if SIGN <= start {
+        return Err(Error::RangeCheck);
     }
+    if SIGN <= n {
+        return Err(Error::RangeCheck);
+    }
+    if tag == TAG_STRING {
+        return get_bytes(m, stack, cells, start, n);
+    }
+    get_elements(m, stack, cells, tag, start, n)
 }
 
 // Ruled out: rangecheck for a negative start where the operands are of two kinds or the target is read only, and bytes after those written that are lost.
-pub fn putinterval(m: Machine, stack: &mut [u32], cells: &mut [u32]) -> Did
+pub fn putinterval(m: Machine, stack: &mut [u32], cells: &mut [u32]) -> Result<Machine, Error>
     requires { Somewhere m stack.old cells.old }
     ensures { DoesHeap (perform (bytes "putinterval")) m stack.old stack.new cells.old cells.new result }
 {
-    if m.depth < 3 {
-        return Did::Fail(Error::StackUnderflow);
-    }
+    m.needs(3)?;
     let into = elements::tag_of(m, stack, 2);
     if into < TAG_STRING {
-        return Did::Fail(Error::TypeCheck);
+        return Err(Error::TypeCheck);
     }
     if elements::tag_of(m, stack, 1) != TAG_INTEGER {
-        return Did::Fail(Error::TypeCheck);
+        return Err(Error::TypeCheck);
     }
     let from = elements::tag_of(m, stack, 0);
     if from < TAG_STRING {
-        return Did::Fail(Error::TypeCheck);
+        return Err(Error::TypeCheck);
     }
     if into == TAG_STRING {
         if from != TAG_STRING {
-            return Did::Fail(Error::TypeCheck);
+            return Err(Error::TypeCheck);
         }
         return put_bytes(m, stack, cells);
     }
     if from == TAG_STRING {
-        return Did::Fail(Error::TypeCheck);
+        return Err(Error::TypeCheck);
     }
     put_elements(m, stack, cells)
 }
 
 // getinterval of a string.
-fn get_bytes(m: Machine, stack: &mut [u32], cells: &mut [u32], start: u32, n: u32) -> Did
+fn get_bytes(
+    m: Machine,
+    stack: &mut [u32],
+    cells: &mut [u32],
+    start: u32,
+    n: u32,
+) -> Result<Machine, Error>
     requires { (3 ≤ m.depth) × (start < 2 ^ 31) × (n < 2 ^ 31) × ItemTag 2 m stack.old 8 × Integers start n m stack.old × Somewhere m stack.old cells.old }
     ensures { DoesHeap (perform (bytes "getinterval")) m stack.old stack.new cells.old cells.new result }
 {
     if elements::maximum(m, stack, cells, 2) < start + n {
-        return Did::Fail(Error::RangeCheck);
+        return Err(Error::RangeCheck);
     }
     if elements::free_cells(m, cells) < (n + 7) / 8 + 1 {
-        return Did::Fail(Error::VmError);
+        return Err(Error::VmError);
     }
     let made = elements::new_string(m, stack, cells, 0, n);
     strings::copy_bytes(made, stack, cells, 0, 0, 2, start, n);
-    Did::Ok(leave_result(made, stack, cells))
+    Ok(leave_result(made, stack, cells))
 }
 
 // getinterval of an array of this tag.
@@ -98,60 +96,60 @@ fn get_elements(
     tag: u32,
     start: u32,
     n: u32,
-) -> Did
+) -> Result<Machine, Error>
     requires { (3 ≤ m.depth) × (start < 2 ^ 31) × (n < 2 ^ 31) × (9 ≤ tag) × ItemTag 2 m stack.old tag × Integers start n m stack.old × Somewhere m stack.old cells.old }
     ensures { DoesHeap (perform (bytes "getinterval")) m stack.old stack.new cells.old cells.new result }
 {
     if elements::size_of(m, stack, cells, 2) < start + n {
-        return Did::Fail(Error::RangeCheck);
+        return Err(Error::RangeCheck);
     }
     if elements::free_cells(m, cells) < n + 1 {
-        return Did::Fail(Error::VmError);
+        return Err(Error::VmError);
     }
     let made = elements::new_array(m, stack, cells, 0, n);
     let copied = copy_elements(made, stack, cells, 0, 0, 2, start, n);
     let tagged = copied.retag(stack, tag == TAG_PROCEDURE);
-    Did::Ok(leave_result(tagged, stack, cells))
+    Ok(leave_result(tagged, stack, cells))
 }
 
 // putinterval of a string into a string.
-fn put_bytes(m: Machine, stack: &mut [u32], cells: &mut [u32]) -> Did
+fn put_bytes(m: Machine, stack: &mut [u32], cells: &mut [u32]) -> Result<Machine, Error>
     requires { (3 ≤ m.depth) × ItemTag 2 m stack.old 8 × ItemTag 1 m stack.old 1 × ItemTag 0 m stack.old 8 × Somewhere m stack.old cells.old }
     ensures { DoesHeap (perform (bytes "putinterval")) m stack.old stack.new cells.old cells.new result }
 {
     let start = integer_at(m, stack, 1);
     if elements::is_sealed(m, stack, cells, 2) {
-        return Did::Fail(Error::InvalidAccess);
+        return Err(Error::InvalidAccess);
     }
     if SIGN <= start {
-        return Did::Fail(Error::RangeCheck);
+        return Err(Error::RangeCheck);
     }
     let n = elements::maximum(m, stack, cells, 0);
     if elements::maximum(m, stack, cells, 2) < start + n {
-        return Did::Fail(Error::RangeCheck);
+        return Err(Error::RangeCheck);
     }
     strings::copy_bytes(m, stack, cells, 2, start, 0, 0, n);
-    Did::Ok(drop_operands(m, stack, cells))
+    Ok(drop_operands(m, stack, cells))
 }
 
 // putinterval of an array into an array.
-fn put_elements(m: Machine, stack: &mut [u32], cells: &mut [u32]) -> Did
+fn put_elements(m: Machine, stack: &mut [u32], cells: &mut [u32]) -> Result<Machine, Error>
     requires { (3 ≤ m.depth) × ArrayItem 2 m stack.old × ItemTag 1 m stack.old 1 × ArrayItem 0 m stack.old × Somewhere m stack.old cells.old }
     ensures { DoesHeap (perform (bytes "putinterval")) m stack.old stack.new cells.old cells.new result }
 {
     let start = integer_at(m, stack, 1);
     if elements::is_sealed(m, stack, cells, 2) {
-        return Did::Fail(Error::InvalidAccess);
+        return Err(Error::InvalidAccess);
     }
     if SIGN <= start {
-        return Did::Fail(Error::RangeCheck);
+        return Err(Error::RangeCheck);
     }
     let n = elements::size_of(m, stack, cells, 0);
     if elements::size_of(m, stack, cells, 2) < start + n {
-        return Did::Fail(Error::RangeCheck);
+        return Err(Error::RangeCheck);
     }
     let copied = copy_elements(m, stack, cells, 2, start, 0, 0, n);
-    Did::Ok(drop_operands(copied, stack, cells))
+    Ok(drop_operands(copied, stack, cells))
 }
 
 // n elements of the array that is item `from`, from element start on, go to element `at` and the ones after it of the array that is item `to`, each by way
@@ -172,11 +170,9 @@ fn copy_elements(
     ensures depth_value { result.depth ≡ m.depth }
 {
     let mut r = m;
-    let mut q = 0;
-    while q < n {
+    for q in 0..n {
         r = elements::copy_element(r, stack, cells, from, start + q, 1);
         r = elements::put_element(r, stack, cells, to, at + q, 1);
-        q = q + 1;
     }
     r
 }

@@ -1,12 +1,12 @@
 // The ledger for programs in C and Rust: two exported functions, which include/floor.h declares. A slice is a pointer and a length there.
 #![tactic(auto)]
 
-ghost use Rattle.std.specs.Prelude.{◌≡◌};
-ghost use Rattle.ledger_c.specs.Reply.{written_number, written_bytes, read_number, read_records, of_written, of_reading, WriteReplies, ReadReplies};
+ghost use Rattle.std.specs.Prelude.{◌≡◌, Err};
+ghost use Rattle.ledger_c.specs.Reply.{written_number, read_number, of_written, of_reading, WriteReplies, ReadReplies};
 
 use book::Record;
-use ledger_reader::Reading;
-use ledger_writer::Written;
+use ledger_reader::LedgerError;
+use ledger_writer::WriteError;
 
 // The answer by its number, and how many bytes were written or records read; 0 where it is refused.
 #[repr(C)]
@@ -22,8 +22,7 @@ pub struct Reply {
 pub extern "C" fn floor_write_ledger(book: &[Record], count: usize, text: &mut [u8]) -> Reply
     ensures { WriteReplies book.now count text.old text.new result }
 {
-    let written = ledger_writer::write(book, count, text);
-    reply_written(written)
+    reply_written(ledger_writer::write(book, count, text))
 }
 
 // The book is read from the text.
@@ -32,69 +31,61 @@ pub extern "C" fn floor_write_ledger(book: &[Record], count: usize, text: &mut [
 pub extern "C" fn floor_read_ledger(text: &[u8], book: &mut [Record]) -> Reply
     ensures { ReadReplies text.now book.old book.new result }
 {
-    let reading = ledger_reader::read(text, book);
-    reply_read(reading)
+    reply_read(ledger_reader::read(text, book))
 }
 
-fn reply_written(written: Written) -> Reply
+fn reply_written(written: Result<usize, WriteError>) -> Reply
     ensures { result ≡ of_written written }
 {
-    Reply {
-        answer: written_number(written),
-        count: written_bytes(written),
+    match written {
+        Ok(bytes) => Reply {
+            answer: DONE,
+            count: bytes,
+        },
+        Err(error) => Reply {
+            answer: write_number(error),
+            count: 0,
+        },
     }
 }
 
-fn reply_read(reading: Reading) -> Reply
-    ensures { result ≡ of_reading reading }
+fn reply_read(read: Result<usize, LedgerError>) -> Reply
+    ensures { result ≡ of_reading read }
 {
-    Reply {
-        answer: read_number(reading),
-        count: read_records(reading),
+    match read {
+        Ok(records) => Reply {
+            answer: DONE,
+            count: records,
+        },
+        Err(error) => Reply {
+            answer: read_number(error),
+            count: 0,
+        },
     }
 }
 
 // The answers by their numbers: C has no name for the enums.
-fn written_number(written: Written) -> u32
-    ensures { result ≡ written_number written }
+const DONE: u32 = 10;
+
+fn write_number(error: WriteError) -> u32
+    ensures { result ≡ written_number (Err error) }
 {
-    match written {
-        Written::BookMalformed => 1,
-        Written::TooShort => 9,
-        Written::Wrote(_) => 10,
+    match error {
+        WriteError::BookMalformed => 1,
+        WriteError::TooShort => 9,
     }
 }
 
-fn written_bytes(written: Written) -> usize
-    ensures { result ≡ written_bytes written }
+fn read_number(error: LedgerError) -> u32
+    ensures { result ≡ read_number (Err error) }
 {
-    match written {
-        Written::BookMalformed => 0,
-        Written::TooShort => 0,
-        Written::Wrote(bytes) => bytes,
-    }
-}
-
-fn read_number(reading: Reading) -> u32
-    ensures { result ≡ read_number reading }
-{
-    match reading {
-        Reading::Accepted(_) => 10,
-        Reading::BadHeader => 2,
-        Reading::BadQuoting => 3,
-        Reading::FieldCount => 4,
-        Reading::BadNumber => 5,
-        Reading::BadPlace => 6,
-        Reading::SocketTwice => 7,
-        Reading::TooMany => 8,
-    }
-}
-
-fn read_records(reading: Reading) -> usize
-    ensures { result ≡ read_records reading }
-{
-    match reading {
-        Reading::Accepted(records) => records,
-        _ => 0,
+    match error {
+        LedgerError::BadHeader => 2,
+        LedgerError::BadQuoting => 3,
+        LedgerError::FieldCount => 4,
+        LedgerError::BadNumber => 5,
+        LedgerError::BadPlace => 6,
+        LedgerError::SocketTwice => 7,
+        LedgerError::TooMany => 8,
     }
 }

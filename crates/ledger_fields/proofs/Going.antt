@@ -24,8 +24,9 @@ pub record Going (text : List ℕ) (at : ℕ) (start : Mode) (i : ℕ) (seen : S
   pub places : at + (piece_from (mode_is start) (drop at text)).taken ≡ i + (piece_from (mode_is m) (drop i text)).taken
   pub closes : (piece_from (mode_is start) (drop at text)).close ≡ (piece_from (mode_is m) (drop i text)).close
 
-pub going_starts : (text : List ℕ) (at : ℕ) (start : Mode) → at ≤ length text → Going text at start at unseen start
-going_starts text at start h = record { inside = h; sees = refl; places = refl; closes = refl }
+pub going_starts : (text : List ℕ) (at : ℕ) (start : Mode) {seen : Seen} → at ≤ length text → seen ≡ unseen → Going text at start at seen start
+going_starts text at start h e =
+    record { inside = h; sees = ap (λ (s : Seen). seen_from s (piece_from (mode_is start) (drop at text)).contents) (sym e); places = refl; closes = refl }
 
 module _ {text : List ℕ} {at : ℕ} {start : Mode} {i : ℕ} {seen : Seen} {m : Mode} (g : Going text at start i seen m) where
   -- Nothing is left of the field but what closes it.
@@ -99,7 +100,7 @@ module _ {text : List ℕ} {at : ℕ} {start : Mode} {i : ℕ} {seen : Seen} {m 
     unfolding piece_on
     going_wrong e = finishes i (step Bad e) (omega arith) g.inside
 
-  pub going_ends : length text ≤ i → {c : Close} → close_is c ≡ close_at (mode_is m) → FieldAt text at start (record { seen = seen; next = i; close = c })
+  pub going_ends : length text ≤ i → {c : Close} → close_is c ≡ close_at (mode_is m) → FieldAt text at start (record { seen = seen; next = length text; close = c })
   unfolding piece_from
   going_ends h is =
-      finishes i (ap (piece_from (mode_is m)) (drop_of_length-le text h) ∙ ap (λ d. record { contents = []; taken = 0; close = d }) (sym is)) (omega arith) g.inside
+      finishes (length text) (ap (piece_from (mode_is m)) (drop_of_length-le text h) ∙ ap (λ d. record { contents = []; taken = 0; close = d }) (sym is)) (omega (arith, h, g.inside)) (omega arith)

@@ -1,6 +1,6 @@
 -- What the code's modes, acts and closes stand for, what is kept of a field's bytes, and what a field that was read says of the text (02, W11).
 -- Assumes nothing.
-use Rattle.std.specs.Prelude.{◌≡◌, Bool, true, ◌&&◌, cond, List, [], ◌∷◌, ℕ, ◌+◌, ◌-◌, ◌*◌, ◌≤◌, length, drop, set, replicate, leb, ltb}
+use Rattle.std.specs.Prelude.{◌≡◌, true, ◌&&◌, cond, List, [], ◌∷◌, ℕ, ◌+◌, ◌-◌, ◌*◌, ◌≤◌, length, drop, set, replicate, leb, ltb}
 use Rattle.semantics.specs.Tokens.{is_digit}
 use Rattle.ledger.specs.Reading as reading
 use Rattle.ledger.specs.Pieces as pieces
@@ -62,10 +62,6 @@ unseen = record { size = 0; number = 0; digits = true; place = replicate 31 0 }
 unfoldable pub seen_from : Seen → List ℕ → Seen
 seen_from s [] = s
 seen_from s (b ∷ f) = seen_from (taken_by s b) f
-
--- A field of which this was kept.
-abbrev pub found_as : ℕ → ℕ → Bool → List ℕ → ℕ → Close → Field
-found_as size number digits place next close = record { seen = record { size = size; number = number; digits = digits; place = place }; next = next; close = close }
 
 -- The first field of the text from `at` on: what is kept of its bytes, where it ends, and by what.
 pub record FieldAt (text : List ℕ) (at : ℕ) (mode : Mode) (r : Field) : Type 0 where

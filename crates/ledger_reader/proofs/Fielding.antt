@@ -20,7 +20,10 @@ use Rattle.ledger_fields.specs.declared.Mode.TheVariants.{Fresh, Begins}
 use Rattle.ledger_fields.specs.declared.Field.{Field}
 use Rattle.ledger_fields.specs.Fields.{mode_is, close_is, unseen, seen_from, FieldAt}
 use Rattle.ledger_reader.specs.declared.Line.{Line}
-use Rattle.ledger_reader.specs.Lines.{rank_by, entry_by, over, uneven, line, LineAt}
+use Rattle.std.specs.Prelude.{Option, Some, None, Result, Err}
+use Rattle.ledger_reader.specs.declared.Flaw.{Flaw}
+use Rattle.ledger_reader.specs.declared.Flaw.TheVariants.{FieldCount}
+use Rattle.ledger_reader.specs.Lines.{record_by, rank_is, entry_is, uneven, line, LineAt}
 use Rattle.ledger_reader.proofs.Ranking.{ranked_three, rank_some}
 
 not_both : (c : Close) → is_over c ≡ true → is_comma c ≡ true → ⊥
@@ -115,16 +118,16 @@ a_field s l rest e = by (front begins s (l ∷ rest) e)
 
 module _ (text : List ℕ) (at : ℕ) (inside : at ≤ length text) {a : Field} (first : FieldAt text at Fresh a) where
   -- There is no line.
-  pub line_over : {r : Line} {t : Bool} → t ≡ is_over (close_is a.close) → t ≡ true → (r.over ≡ true) × (r.rank ≡ 0) × (r.next ≡ at) → LineAt text at r
-  line_over k e n = record { inside = let q = n.2 in omega (arith, q, inside); told = λ ls h. over n.0 (field_over text at Fresh first h (sym k ∙ e)) }
+  pub line_over : {t : Bool} → t ≡ is_over (close_is a.close) → t ≡ true → LineAt text at None
+  line_over k e = record { inside = tt; told = λ ls h. field_over text at Fresh first h (sym k ∙ e) }
 
   module _ {t : Bool} (k : t ≡ is_over (close_is a.close)) (here : t ≡ false) where
     there : (ls : Lines) → read_from fresh (drop at text) ≡ some ls → ls ≡ [] → ⊥
     there ls h = field_there text at Fresh first h (sym k ∙ here)
 
-    module _ {r : Line} (n : (r.over ≡ false) × (r.rank ≡ 0) × (r.next ≡ at)) where
+    module _ {r : Option Line} (n : r ≡ Some (record { entry = Err FieldCount; next = at })) where
       short : ((ls : Lines) → read_from fresh (drop at text) ≡ some ls → each row_of ls ≡ none) → LineAt text at r
-      short g = record { inside = let q = n.2 in omega (arith, q, inside); told = λ ls h. uneven n.0 n.1 (g ls h) }
+      short g = subst (LineAt text at) (sym n) (record { inside = inside; told = λ ls h. uneven refl (g ls h) })
 
       -- One field, two fields, and more than three.
       pub line_one : {u : Bool} → u ≡ is_comma (close_is a.close) → u ≡ false → LineAt text at r
@@ -154,9 +157,9 @@ module _ (text : List ℕ) (at : ℕ) (inside : at ≤ length text) {a : Field} 
     pub line_three : {u : Bool} → u ≡ is_comma (close_is a.close) → u ≡ true → {b : Field} (second : FieldAt text a.next Begins b)
         → {v : Bool} → v ≡ is_comma (close_is b.close) → v ≡ true → {y : Field} (third : FieldAt text b.next Begins y)
         → {w : Bool} → w ≡ is_comma (close_is y.close) → w ≡ false
-        → {rank : ℕ} {entry : Record} → rank ≡ rank_by a.seen b.seen y.seen → entry ≡ entry_by a.seen b.seen y.seen
-        → LineAt text at (record { over = false; rank = rank; entry = entry; next = y.next })
-    line_three c on {b} second d on₂ {y} third x e {rank} {entry} q p = record {
+        → {r : Result Record Flaw} → r ≡ record_by a.seen b.seen y.seen
+        → LineAt text at (Some (record { entry = r; next = y.next }))
+    line_three c on {b} second d on₂ {y} third x e {r} q = record {
       inside = third.inside;
       told = λ ls h.
           let g = field_goes text at Fresh first h (sym c ∙ on) in
@@ -166,15 +169,14 @@ module _ (text : List ℕ) (at : ℕ) (inside : at ≤ length text) {a : Field} 
           let B = bytes text a.next Begins second in
           let Y = bytes text b.next Begins third in
           let kept = ranked_three A B Y in
-          let same = ap₂ (λ k l. rank_by k l (seen_from unseen Y)) first.sees second.sees ∙ ap (rank_by a.seen b.seen) third.sees ∙ sym q in
-          let told = ap₂ (λ k l. entry_by k l (seen_from unseen Y)) first.sees second.sees ∙ ap (entry_by a.seen b.seen) third.sees ∙ sym p in
+          let same = ap₂ (λ k l. record_by k l (seen_from unseen Y)) first.sees second.sees ∙ ap (record_by a.seen b.seen) third.sees ∙ sym q in
           let n = field_moves text at Fresh first (sym c ∙ on) in
           let n₂ = field_on text a.next Begins second in
           let n₃ = field_on text b.next Begins third in
-          line {l = A ∷ B ∷ Y ∷ []} {rest = s.rest} refl
+          line {l = A ∷ B ∷ Y ∷ []} {rest = s.rest}
           (g.lines ∙ ap₂ (λ l z. (A ∷ l) ∷ z) ((one_line g₂.lines).0 ∙ ap (λ l. B ∷ l) (one_line s.lines).0) ((one_line g₂.lines).1 ∙ (one_line s.lines).1))
-          (subst (λ k. Ranked (A ∷ B ∷ Y ∷ []) k entry) same (subst (Ranked (A ∷ B ∷ Y ∷ []) (rank_by (seen_from unseen A) (seen_from unseen B) (seen_from unseen Y))) told kept))
-          (λ z. rank_some a.seen b.seen y.seen (sym q ∙ z))
+          (subst (λ (k : Result Record Flaw). Ranked (A ∷ B ∷ Y ∷ []) (rank_is k) (entry_is k)) same kept)
+          (λ z. rank_some a.seen b.seen y.seen (ap rank_is (sym q) ∙ z))
           s.reads
           (omega (arith, n, n₂, n₃));
     }

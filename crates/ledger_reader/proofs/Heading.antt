@@ -1,103 +1,80 @@
 -- The header: bytes compared one by one, then CRLF or the end.
 -- Assumes nothing.
 use mathlib.Core.Path.{◌≡◌, refl, sym, ap, ap₂, ◌∙◌}
-use mathlib.Core.Bool.{Bool, true, false, ◌&&◌, cond}
+use mathlib.Core.Bool.{Bool, true, false, ◌&&◌, cond, true≢false, and-false, and-true}
 use mathlib.Core.List.{List, [], ◌∷◌}
 use mathlib.Core.Option.{none, some}
-use Prim.Native.Nat.{ℕ, suc, ◌+◌, ◌≤◌, ◌<◌}
+use Prim.Native.Nat.{ℕ, ◌+◌, ◌≤◌}
 use native.Mathlib.Omega.{arith}
-use lib.ListN.{length, take, drop, get_or, drop_of_length-le}
-use lib.Seq.{drop-cons, take_all}
+use lib.ListN.{length, take, drop}
+use lib.Seq.{drop-drop}
 use lib.Dec.{eqb}
-use borrow.Author.Tests.{eq-eqb, ne_eqb}
-use Rattle.semantics.specs.Text.{same, textual}
+use lib.Pointwise.{pointwise}
+use Rattle.semantics.specs.Text.{same}
+use Rattle.book.proofs.SoundLaws.{eqb_sym}
 use Rattle.ledger.specs.Ledger.{header}
 use Rattle.ledger.specs.Reading.{after_break, after_header}
-use Rattle.ledger_reader.specs.Judging.{Headed, bad, good}
 
 -- ---- the same bytes
 
-pub record Same (a b : List ℕ) (i : ℕ) : Type 0 where
-  pub inside : i ≤ length a
-  pub rest : same a b ≡ same (drop i a) (drop i b)
-
-module _ (a b : List ℕ) (long : length a ≡ length b) where
-  pub same_starts : Same a b 0
-  same_starts = record { inside = omega arith; rest = refl }
-
-  module _ (i : ℕ) (s : Same a b i) (h : i < length a) where
-    ahead : same a b ≡ elim (eqb (get_or a i 0) (get_or b i 0)) [ true ↦ same (drop (i + 1) a) (drop (i + 1) b) | false ↦ false ]
-    unfolding same
-    ahead =
-        let k : suc i ≡ i + 1 = omega arith in
-        s.rest ∙ ap₂ same (drop-cons a i 0 h ∙ ap (λ n. get_or a i 0 ∷ drop n a) k) (drop-cons b i 0 (omega (arith, h, long)) ∙ ap (λ n. get_or b i 0 ∷ drop n b) k)
-
-    pub same_not : (get_or a i 0 ≡ get_or b i 0 → ⊥) → false ≡ same a b
-    same_not e = sym (ahead ∙ ap (λ t. elim t [ true ↦ same (drop (i + 1) a) (drop (i + 1) b) | false ↦ false ]) (ne_eqb (get_or a i 0) (get_or b i 0) e))
-
-    pub same_next : get_or a i 0 ≡ get_or b i 0 → Same a b (i + 1)
-    same_next e = record { inside = omega (arith, h); rest = ahead ∙ ap (λ t. elim t [ true ↦ same (drop (i + 1) a) (drop (i + 1) b) | false ↦ false ]) (eq-eqb (get_or a i 0) (get_or b i 0) e) }
-
-  pub same_all : (i : ℕ) → Same a b i → length a ≤ i → true ≡ same a b
-  unfolding same
-  same_all i s h = sym (s.rest ∙ ap₂ same (drop_of_length-le a h) (drop_of_length-le b (let k : length b ≤ i = omega (arith, h, long) in k)))
+alike : (s t : List ℕ) → pointwise eqb s t ≡ same s t
+unfolding same
+alike [] [] = refl
+alike [] (b ∷ t) = refl
+alike (a ∷ s) [] = refl
+alike (a ∷ s) (b ∷ t) = by (eqb a b) (alike s t)
+  where
+    by : (u : Bool) → pointwise eqb s t ≡ same s t → (u && pointwise eqb s t) ≡ elim u [ true ↦ same s t | false ↦ false ]
+    by true e = e
+    by false e = refl
 
 -- ---- the header
+
+-- What follows the header begins with CRLF, or is no line.
+break : (s : List ℕ) → (length s ≡ 0 → ⊥) → after_break s ≡ cond (pointwise eqb (13 ∷ 10 ∷ []) (take 2 s)) (some (drop 2 s)) none
+unfolding after_break
+break [] h = absurd (h refl)
+break (x ∷ []) h = ap (λ t. cond t (some []) none) (sym (and-false (eqb 13 x)))
+break (x ∷ y ∷ s) h = ap₂ (λ t u. cond (t && u) (some s) none) (eqb_sym x 13) (eqb_sym y 10 ∙ sym (and-true (eqb 10 y)))
 
 module _ (text : List ℕ) where
   not_same : same (take 17 text) header ≡ false → after_header text ≡ none
   unfolding after_header
   not_same e = ap (λ t. cond t (after_break (drop 17 text)) none) e
 
-  short_not : (s t : List ℕ) → (length s ≡ length t → ⊥) → same s t ≡ false
-  unfolding same
-  short_not [] [] h = absurd (h refl)
-  short_not [] (y ∷ t) h = refl
-  short_not (x ∷ s) [] h = refl
-  short_not (x ∷ s) (y ∷ t) h = by (eqb x y) (short_not s t (λ e. h (ap suc e)))
-    where
-      by : (u : Bool) → same s t ≡ false → elim u [ true ↦ same s t | false ↦ false ] ≡ false
-      by true e = e
-      by false e = refl
+  pub header_none : pointwise eqb (take 17 text) header ≡ false → after_header text ≡ none
+  header_none e = not_same (sym (alike (take 17 text) header) ∙ e)
 
-  pub header_short : length text < 17 → Headed text 0
-  unfolding header textual
-  header_short h =
-      bad refl (not_same (short_not (take 17 text) header (λ e. let k = ap length (take_all 17 text (omega (arith, h))) in omega (arith, e, k, h))))
-
-  pub header_other : {t : Bool} → t ≡ same (take 17 text) header → t ≡ false → Headed text 0
-  header_other is e = bad refl (not_same (sym is ∙ e))
-
-  module _ {t : Bool} (is : t ≡ same (take 17 text) header) (e : t ≡ true) where
-    headed : after_header text ≡ after_break (drop 17 text)
+  -- What follows the header.
+  module _ {rest : List ℕ} (r : (pointwise eqb (take 17 text) header ≡ true) × (rest ≡ drop 17 text) × (length rest + 17 ≡ length text)) where
+    headed : after_header text ≡ after_break rest
     unfolding after_header
-    headed = ap (λ u. cond u (after_break (drop 17 text)) none) (sym is ∙ e)
+    headed = ap (λ u. cond u (after_break (drop 17 text)) none) (sym (alike (take 17 text) header) ∙ r.0) ∙ ap after_break (sym r.1)
 
-    pub header_alone : length text ≡ 17 → Headed text 17
+    pub header_alone : length rest ≡ 0 → (17 ≤ length text) × (after_header text ≡ some (drop 17 text))
     unfolding after_break
-    header_alone n =
-        let m : length text ≤ 17 = omega (arith, n) in
-        let k : drop 17 text ≡ [] = drop_of_length-le text m in
-        good (omega arith) (omega (arith, n)) (headed ∙ ap after_break k ∙ ap some (sym k))
+    header_alone l =
+        let k : rest ≡ [] = nothing rest l in
+        (omega (arith, r.2), headed ∙ ap after_break k ∙ ap some (sym k ∙ r.1))
+      where
+        nothing : (s : List ℕ) → length s ≡ 0 → s ≡ []
+        nothing [] h = refl
+        nothing (x ∷ s) h = absurd (omega (arith, h))
 
-    pub header_cut : length text ≡ 18 → Headed text 0
-    unfolding after_break
-    header_cut n =
-        let m : length text ≤ 18 = omega (arith, n) in
-        let k : drop 18 text ≡ [] = drop_of_length-le text m in
-        bad refl (headed ∙ ap after_break (drop-cons text 17 0 (omega (arith, n)) ∙ ap (λ l. get_or text 17 0 ∷ l) k))
+    module _ (l : length rest ≡ 0 → ⊥) {t : Bool} (is : t ≡ pointwise eqb (13 ∷ 10 ∷ []) (take 2 rest)) where
+      broken : after_header text ≡ cond t (some (drop 2 rest)) none
+      broken = headed ∙ break rest l ∙ ap (λ u. cond u (some (drop 2 rest)) none) (sym is)
 
-    module _ (n : 18 < length text) where
-      broken : after_header text ≡ cond (eqb (get_or text 17 0) 13 && eqb (get_or text 18 0) 10) (some (drop 19 text)) none
-      unfolding after_break
-      broken = headed ∙ ap after_break (drop-cons text 17 0 (omega (arith, n)) ∙ ap (λ l. get_or text 17 0 ∷ l) (drop-cons text 18 0 n))
+      pub header_line : t ≡ true → (19 ≤ length text) × (after_header text ≡ some (drop 19 text))
+      header_line e = (
+        omega (arith, r.2, two rest (sym is ∙ e)),
+        broken ∙ ap (λ u. cond u (some (drop 2 rest)) none) e ∙ ap (λ s. some (drop 2 s)) r.1 ∙ ap some (drop-drop 2 17 text),
+      )
+        where
+          two : (s : List ℕ) → pointwise eqb (13 ∷ 10 ∷ []) (take 2 s) ≡ true → 2 ≤ length s
+          two [] h = absurd (true≢false (sym h))
+          two (x ∷ []) h = absurd (true≢false (sym h ∙ and-false (eqb 13 x)))
+          two (x ∷ y ∷ s) h = omega arith
 
-      pub header_first : (get_or text 17 0 ≡ 13 → ⊥) → Headed text 0
-      header_first h = bad refl (broken ∙ ap (λ u. cond (u && eqb (get_or text 18 0) 10) (some (drop 19 text)) none) (ne_eqb (get_or text 17 0) 13 h))
-
-      module _ (r : get_or text 17 0 ≡ 13) where
-        pub header_second : (get_or text 18 0 ≡ 10 → ⊥) → Headed text 0
-        header_second h = bad refl (broken ∙ ap₂ (λ u v. cond (u && v) (some (drop 19 text)) none) (eq-eqb (get_or text 17 0) 13 r) (ne_eqb (get_or text 18 0) 10 h))
-
-        pub header_line : get_or text 18 0 ≡ 10 → Headed text 19
-        header_line h = good (omega arith) (omega (arith, n)) (broken ∙ ap₂ (λ u v. cond (u && v) (some (drop 19 text)) none) (eq-eqb (get_or text 17 0) 13 r) (eq-eqb (get_or text 18 0) 10 h))
+      pub header_other : t ≡ false → after_header text ≡ none
+      header_other e = broken ∙ ap (λ u. cond u (some (drop 2 rest)) none) e

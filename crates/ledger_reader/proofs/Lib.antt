@@ -1,8 +1,8 @@
 -- The laws that the proofs of the functions cite.
 mod Ranking
 mod Fielding
-mod Tallying
 mod Resting
+mod Tallying
 mod Heading
-mod Deciding
 mod Filling
+mod Deciding

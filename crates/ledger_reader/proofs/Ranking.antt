@@ -4,55 +4,23 @@ use mathlib.Core.Path.{◌≡◌, refl, sym, ap, ap₂, ◌∙◌}
 use mathlib.Core.Bool.{Bool, true, false, ◌&&◌, cond, and-false}
 use mathlib.Core.List.{List, [], ◌∷◌}
 use mathlib.Core.Option.{none, some}
-use Prim.Native.Nat.{ℕ, ◌≤◌, ◌<◌}
+use Prim.Native.Nat.{ℕ, ◌≤◌}
 use native.Mathlib.Omega.{arith}
 use lib.ListN.{length}
 use lib.Dec.{leb}
-use borrow.Author.Tests.{le-leb, lt-leb, leb-true, leb-false}
-use Rattle.book.specs.Books.{Entry, greatest, record_of, is_place_length}
+use borrow.Author.Tests.{le-leb, leb-true, leb-false}
+use Rattle.book.specs.Books.{Entry, blank, greatest, record_of, is_place_length}
 use Rattle.ledger.specs.Reading.{Row, row_of, number_in, with_numbers, entry_in}
 use Rattle.ledger.proofs.SoundLaws.{place_range}
 use Rattle.ledger.specs.Stages.{Ranked, unnumbered, unplaced, good}
 use Rattle.ledger_fields.specs.declared.Seen.{Seen}
 use Rattle.ledger_fields.specs.Fields.{unseen, seen_from}
 use Rattle.ledger_fields.specs.SeenLaws.{seen_few, seen_many, seen_place, numbered, no_number, seen_number}
-use Rattle.ledger_reader.specs.Lines.{is_number, rank_by, entry_by}
-
--- ---- the tests
-
-module _ (s : Seen) where
-  pub number_none : s.size < 1 → false ≡ is_number s
-  unfolding is_number
-  number_none h = sym (ap (λ t. t && (s.digits && leb s.number greatest)) (lt-leb 1 s.size h))
-
-  pub number_digits : 1 ≤ s.size → s.digits ≡ true → leb s.number greatest ≡ is_number s
-  unfolding is_number
-  number_digits h e = sym (ap₂ (λ t d. t && (d && leb s.number greatest)) (le-leb 1 s.size h) e)
-
-  pub number_not : 1 ≤ s.size → s.digits ≡ false → false ≡ is_number s
-  unfolding is_number
-  number_not h e = sym (ap₂ (λ t d. t && (d && leb s.number greatest)) (le-leb 1 s.size h) e)
-
-pub place_none : (n : ℕ) → n < 1 → false ≡ is_place_length n
-unfolding is_place_length
-place_none n h = sym (ap (λ t. t && leb n 31) (lt-leb 1 n h))
-
-pub place_else : (n : ℕ) → 1 ≤ n → leb n 31 ≡ is_place_length n
-unfolding is_place_length
-place_else n h = sym (ap (λ t. t && leb n 31) (le-leb 1 n h))
-
-module _ (n p t : Seen) where
-  pub rank_three : {x y z : Bool} → x ≡ is_number n → y ≡ is_number t → z ≡ is_place_length p.size → cond x (cond y (cond z 3 2) 1) 1 ≡ rank_by n p t
-  unfolding rank_by
-  rank_three {z = z} e f g = ap₂ (λ u v. cond u (cond v (cond z 3 2) 1) 1) e f ∙ ap (λ w. cond (is_number n) (cond (is_number t) (cond w 3 2) 1) 1) g
-
-  pub rank_two : {x y : Bool} → x ≡ is_number n → y ≡ is_number t → cond x (cond y (cond (is_place_length p.size) 3 2) 1) 1 ≡ rank_by n p t
-  unfolding rank_by
-  rank_two e f = ap₂ (λ u v. cond u (cond v (cond (is_place_length p.size) 3 2) 1) 1) e f
-
-  pub rank_one : {x : Bool} → x ≡ is_number n → cond x (cond (is_number t) (cond (is_place_length p.size) 3 2) 1) 1 ≡ rank_by n p t
-  unfolding rank_by
-  rank_one e = ap (λ u. cond u (cond (is_number t) (cond (is_place_length p.size) 3 2) 1) 1) e
+use Rattle.std.specs.Prelude.{Result, Ok, Err}
+use Rattle.ledger_reader.specs.declared.Flaw.{Flaw}
+use Rattle.ledger_reader.specs.declared.Flaw.TheVariants.{BadNumber, BadPlace}
+use Rattle.book.specs.declared.Record.{Record}
+use Rattle.ledger_reader.specs.Lines.{is_number, record_by, entry_by, rank_is, entry_is}
 
 -- ---- what is kept of a field tells its number and whether it is a place
 
@@ -104,26 +72,29 @@ module _ (f g h : List ℕ) where
   unfolding record_of
   same_record few = λ i. record { number = n.number; place = seen_place g few i; length = seen_few g few i; time = t.number }
 
-  three_by : (x y z : Bool) → is_number n ≡ x → is_number t ≡ y → is_place_length p.size ≡ z → Ranked (f ∷ g ∷ h ∷ []) (cond x (cond y (cond z 3 2) 1) 1) (entry_by n p t)
+  abbrev by_tests : Bool → Bool → Bool → Result Record Flaw
+  by_tests x y z = cond x (cond y (cond z (Ok (entry_by n p t)) (Err BadPlace)) (Err BadNumber)) (Err BadNumber)
+
+  three_by : (x y z : Bool) → is_number n ≡ x → is_number t ≡ y → is_place_length p.size ≡ z → Ranked (f ∷ g ∷ h ∷ []) (rank_is (by_tests x y z)) (entry_is (by_tests x y z))
   unfolding with_numbers row_of
   three_by false y z e k m = by y k
     where
-      by : (y : Bool) → is_number t ≡ y → Ranked (f ∷ g ∷ h ∷ []) 1 (entry_by n p t)
+      by : (y : Bool) → is_number t ≡ y → Ranked (f ∷ g ∷ h ∷ []) 1 blank
       by y k = unnumbered refl (kept false y e k)
   three_by true false z e k m = unnumbered refl (kept true false e k)
   three_by true true false e k m = unplaced refl (kept true true e k) (sym (place_kept g) ∙ m)
   three_by true true true e k m = good refl (kept true true e k) (sym (place_kept g) ∙ m) (same_record (place_range (length g) (sym (place_kept g) ∙ m)).1)
 
-  pub ranked_three : Ranked (f ∷ g ∷ h ∷ []) (rank_by n p t) (entry_by n p t)
-  unfolding rank_by
+  pub ranked_three : Ranked (f ∷ g ∷ h ∷ []) (rank_is (record_by n p t)) (entry_is (record_by n p t))
+  unfolding record_by
   ranked_three = three_by (is_number n) (is_number t) (is_place_length p.size) refl refl refl
 
-nonzero : (x y z : Bool) → ◌≡◌ {A = ℕ} (cond x (cond y (cond z 3 2) 1) 1) 0 → ⊥
-nonzero false y z e = omega (arith, e)
-nonzero true false z e = omega (arith, e)
-nonzero true true false e = omega (arith, e)
-nonzero true true true e = omega (arith, e)
-
-pub rank_some : (n p t : Seen) → rank_by n p t ≡ 0 → ⊥
-unfolding rank_by
+pub rank_some : (n p t : Seen) → rank_is (record_by n p t) ≡ 0 → ⊥
+unfolding record_by
 rank_some n p t = nonzero (is_number n) (is_number t) (is_place_length p.size)
+  where
+    nonzero : (x y z : Bool) → rank_is (cond x (cond y (cond z (Ok (entry_by n p t)) (Err BadPlace)) (Err BadNumber)) (Err BadNumber)) ≡ 0 → ⊥
+    nonzero false y z e = omega (arith, e)
+    nonzero true false z e = omega (arith, e)
+    nonzero true true false e = omega (arith, e)
+    nonzero true true true e = omega (arith, e)

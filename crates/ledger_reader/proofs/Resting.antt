@@ -6,19 +6,22 @@ use mathlib.Core.List.{List, [], ◌∷◌, ◌++◌}
 use mathlib.Core.Option.{Option, none, some}
 use Prim.Native.Nat.{ℕ, suc, ◌+◌, ◌-◌, ◌≤◌, ◌<◌}
 use native.Mathlib.Omega.{arith}
-use lib.ListN.{length, get_or, set, take, drop, replicate, length-set, drop_of_length-le}
-use lib.Seq.{drop-cons, take_all, take-suc-set}
+use lib.ListN.{length, set, take, replicate, length-set}
+use lib.Seq.{take_all, take-suc-set}
 use lib.Dec.{eqb}
-use borrow.Author.Tests.{eq-eqb, ne_eqb}
+use Rattle.std.specs.List.{list_any}
 use Rattle.semantics.specs.ListLaws.{none_some, some_one}
 use Rattle.book.specs.Books.{Entry, record_of, is_place_length, is_in, once}
 use Rattle.book.specs.declared.Record.{Record}
 use Rattle.book.proofs.SoundLaws.{in_snoc, eqb_sym}
 use Rattle.ledger.specs.Reading.{mapped, each, Row, row_of, entry_in, places_fit, numbers_of}
 use Rattle.ledger.specs.Stages.{Ranked, uneven, unnumbered, unplaced, good}
+use Rattle.std.specs.Prelude.{Some, None, Result, Ok, Err}
 use Rattle.ledger_reader.specs.declared.Line.{Line}
+use Rattle.ledger_reader.specs.declared.Flaw.{Flaw}
+use Rattle.ledger_reader.specs.declared.Flaw.TheVariants.{FieldCount, BadNumber, BadPlace}
 use Rattle.ledger_reader.specs.Lines as lines
-use Rattle.ledger_reader.specs.Lines.{LineIs, LineAt, RestAt, Rests, shares, MeetsIn, OnceIn}
+use Rattle.ledger_reader.specs.Lines.{rank_of, rank_is, entry_is, LineHas, LineAt, RestAt, Rests, shares, MeetsIn, OnceIn}
 
 -- ---- the next record
 
@@ -31,30 +34,20 @@ each_back {A} {B} f a l {bs} e = by (f a) refl (each f l) refl e
     by (some b) g none h q = absurd (none_some q)
     by (some b) g (some cs) h q = (b, cs, g, h, some_one (sym q))
 
-pub data NextIs (text : List ℕ) (at : ℕ) (es : List Entry) (r : Line) : Type 0 where
-  none_left : r.over ≡ true → es ≡ [] → NextIs text at es r
-  one_left : {e : Entry} {rest : List Entry} → r.over ≡ false → es ≡ e ∷ rest → r.entry ≡ record_of e → RestAt text r.next rest → at < r.next → NextIs text at es r
-
-is_good : {l : List (List ℕ)} {k : ℕ} {r : Record} {row : Row} {e : Entry} → Ranked l k r → row_of l ≡ some row → entry_in row ≡ some e → is_place_length (length e.place) ≡ true → r ≡ record_of e
+is_good : {l : List (List ℕ)} {k : ℕ} {r : Record} {row : Row} {e : Entry} → Ranked l k r → row_of l ≡ some row → entry_in row ≡ some e → is_place_length (length e.place) ≡ true → (k ≡ 3) × (r ≡ record_of e)
 is_good (uneven x) a b c = absurd (none_some (sym x ∙ a))
 is_good (unnumbered x y) a b c = absurd (none_some (sym y ∙ ap entry_in (some_one (sym x ∙ a)) ∙ b))
 is_good (unplaced x y z) a b c = absurd (true≢false (sym c ∙ ap (λ (e : Entry). is_place_length (length e.place)) (some_one (sym b ∙ sym (ap entry_in (some_one (sym x ∙ a))) ∙ y)) ∙ z))
-is_good (good x y z h) a b c = h ∙ ap record_of (some_one (sym y ∙ ap entry_in (some_one (sym x ∙ a)) ∙ b))
+is_good (good x y z h) a b c = (refl, h ∙ ap record_of (some_one (sym y ∙ ap entry_in (some_one (sym x ∙ a)) ∙ b)))
 
-pub next_is : {text : List ℕ} {at : ℕ} {r : Line} → LineAt text at r → {es : List Entry} → RestAt text at es → NextIs text at es r
-unfolding each places_fit
-next_is {text} {at} {r} is {es} t = by (is.told t.lines t.reads)
-  where
-    by : LineIs text at t.lines r → NextIs text at es r
-    by (lines.over o l) =
-        let q : t.rows ≡ [] = some_one (sym t.threes ∙ ap (each row_of) l) in
-        none_left o (some_one (sym t.numbers ∙ ap (each entry_in) q))
-    by (lines.uneven o z l) = absurd (none_some (sym l ∙ t.threes))
-    by (lines.line {l = x} {rest = rest} o l ranked z d m) =
-        let a = each_back row_of x rest (ap (each row_of) (sym l) ∙ t.threes) in
-        let b = each_back entry_in a.0 a.1 (ap (each entry_in) (sym a.4) ∙ t.numbers) in
-        let p = (and-eq-true_iff (is_place_length (length b.0.place)) (places_fit b.1)).0 (ap places_fit (sym b.4) ∙ t.places) in
-        one_left o b.4 (is_good ranked a.2 b.2 p.0) (record { inside = is.inside; lines = rest; rows = a.1; reads = d; threes = a.3; numbers = b.3; places = p.1 }) m
+flawed : (f : Flaw) → rank_of f ≡ 3 → ⊥
+flawed FieldCount e = omega (arith, e)
+flawed BadNumber e = omega (arith, e)
+flawed BadPlace e = omega (arith, e)
+
+good_entry : (x : Result Record Flaw) {e : Record} → (rank_is x ≡ 3) × (entry_is x ≡ e) → x ≡ Ok e
+good_entry (Ok r) h = ap (λ (s : Record). Ok s) h.1
+good_entry (Err f) h = absurd (flawed f h.0)
 
 pub rest_one : {text : List ℕ} {at : ℕ} {es fs : List Entry} → RestAt text at es → RestAt text at fs → es ≡ fs
 rest_one s t =
@@ -62,52 +55,50 @@ rest_one s t =
     let r = some_one (sym s.threes ∙ ap (each row_of) l ∙ t.threes) in
     some_one (sym s.numbers ∙ ap (each entry_in) r ∙ t.numbers)
 
-module _ {text : List ℕ} {at : ℕ} {r : Line} (is : LineAt text at r) {es : List Entry} (t : RestAt text at es) where
-  pub rest_none : r.over ≡ true → es ≡ []
-  rest_none e = by (next_is is t)
-    where
-      by : NextIs text at es r → es ≡ []
-      by (none_left o l) = l
-      by (one_left o l x q m) = absurd (true≢false (sym e ∙ o))
+pub rest_none : {text : List ℕ} {at : ℕ} → LineAt text at None → {es : List Entry} → RestAt text at es → es ≡ []
+unfolding each
+rest_none is t =
+    let q : t.rows ≡ [] = some_one (sym t.threes ∙ ap (each row_of) (is.told t.lines t.reads)) in
+    some_one (sym t.numbers ∙ ap (each entry_in) q)
 
+module _ {text : List ℕ} {at : ℕ} {r : Line} (is : LineAt text at (Some r)) {es : List Entry} (t : RestAt text at es) where
   pub record Next : Type 0 where
     pub entry : Entry
     pub rest : List Entry
     pub records : es ≡ entry ∷ rest
-    pub same : r.entry ≡ record_of entry
+    pub same : r.entry ≡ Ok (record_of entry)
     pub left : RestAt text r.next rest
     pub moves : at < r.next
 
-  pub rest_next : r.over ≡ false → Next
-  rest_next e = by (next_is is t)
+  pub rest_next : Next
+  unfolding each places_fit
+  rest_next = by (is.told t.lines t.reads)
     where
-      by : NextIs text at es r → Next
-      by (none_left o l) = absurd (true≢false (sym o ∙ e))
-      by (one_left {e = x} {rest = rest} o l y q m) = record { entry = x; rest = rest; records = l; same = y; left = q; moves = m }
+      by : LineHas text at t.lines r → Next
+      by (lines.uneven z l) = absurd (none_some (sym l ∙ t.threes))
+      by (lines.line {l = x} {rest = rest} l ranked z d m) =
+          let a = each_back row_of x rest (ap (each row_of) (sym l) ∙ t.threes) in
+          let b = each_back entry_in a.0 a.1 (ap (each entry_in) (sym a.4) ∙ t.numbers) in
+          let p = (and-eq-true_iff (is_place_length (length b.0.place)) (places_fit b.1)).0 (ap places_fit (sym b.4) ∙ t.places) in
+          record {
+            entry = b.0;
+            rest = b.1;
+            records = b.4;
+            same = good_entry r.entry (is_good ranked a.2 b.2 p.0);
+            left = record { inside = is.inside; lines = rest; rows = a.1; reads = d; threes = a.3; numbers = b.3; places = p.1 };
+            moves = m;
+          }
+
+  -- No line of records has a flaw.
+  pub not_flawed : {f : Flaw} → r.entry ≡ Err f → ⊥
+  not_flawed {f} e = flawed f (ap rank_is (sym e ∙ rest_next.same))
 
 -- ---- a number among others
 
-pub record Among (numbers : List ℕ) (number i : ℕ) : Type 0 where
-  pub same : is_in number numbers ≡ is_in number (drop i numbers)
-
-pub among_starts : (numbers : List ℕ) (number : ℕ) → Among numbers number 0
-among_starts numbers number = record { same = refl }
-
-module _ {numbers : List ℕ} {number i : ℕ} (a : Among numbers number i) where
-  module _ (h : i < length numbers) where
-    here : is_in number numbers ≡ (eqb number (get_or numbers i 0) || is_in number (drop (i + 1) numbers))
-    unfolding is_in
-    here = let one : suc i ≡ i + 1 = omega arith in a.same ∙ ap (is_in number) (drop-cons numbers i 0 h ∙ ap (λ k. get_or numbers i 0 ∷ drop k numbers) one)
-
-    pub among_found : get_or numbers i 0 ≡ number → true ≡ is_in number numbers
-    among_found e = sym (here ∙ ap (λ b. b || is_in number (drop (i + 1) numbers)) (eq-eqb number (get_or numbers i 0) (sym e)))
-
-    pub among_next : (get_or numbers i 0 ≡ number → ⊥) → Among numbers number (i + 1)
-    among_next e = record { same = here ∙ ap (λ b. b || is_in number (drop (i + 1) numbers)) (ne_eqb number (get_or numbers i 0) (λ q. e (sym q))) }
-
-  pub among_none : length numbers ≤ i → false ≡ is_in number numbers
-  unfolding is_in
-  among_none h = sym (a.same ∙ ap (is_in number) (drop_of_length-le numbers h))
+pub among : (number : ℕ) (numbers : List ℕ) → list_any (λ x. eqb x number) numbers ≡ is_in number numbers
+unfolding is_in
+among number [] = refl
+among number (k ∷ ks) = ap₂ ◌||◌ (eqb_sym k number) (among number ks)
 
 -- ---- one of the records among others
 
@@ -121,21 +112,24 @@ pub record Meeting (text : List ℕ) (start : ℕ) (numbers : List ℕ) (at : �
 pub meeting_starts : {text : List ℕ} {start : ℕ} (numbers : List ℕ) → Rests text start → Meeting text start numbers start
 meeting_starts numbers s = record { records = s.0; whole = s.1; rest = s.0; left = s.1; same = refl }
 
-module _ {text : List ℕ} {start at : ℕ} {numbers : List ℕ} (s : Meeting text start numbers at) {r : Line} (is : LineAt text at r) where
-  pub meeting_none : r.over ≡ true → MeetsIn text start numbers false
+module _ {text : List ℕ} {start at : ℕ} {numbers : List ℕ} (s : Meeting text start numbers at) where
+  pub meeting_none : LineAt text at None → MeetsIn text start numbers false
   unfolding shares numbers_of
-  meeting_none e = record { records = s.records; rest = s.whole; found = sym (s.same ∙ ap (λ es. shares numbers (numbers_of es)) (rest_none is s.left e)) }
+  meeting_none is = record { records = s.records; rest = s.whole; found = sym (s.same ∙ ap (λ es. shares numbers (numbers_of es)) (rest_none is s.left)) }
 
-  module _ (e : r.over ≡ false) where
+  module _ {r : Line} (is : LineAt text at (Some r)) {e : Record} (has : r.entry ≡ Ok e) where
     one : Next is s.left
-    one = rest_next is s.left e
+    one = rest_next is s.left
 
-    module _ {t : Bool} (k : t ≡ is_in r.entry.number numbers) where
+    its : e ≡ record_of one.entry
+    its = ap entry_is (sym has ∙ one.same)
+
+    module _ {t : Bool} (k : t ≡ is_in e.number numbers) where
       split : shares numbers (numbers_of s.rest) ≡ (t || shares numbers (numbers_of one.rest))
       unfolding shares numbers_of record_of
       split =
           ap (λ es. shares numbers (numbers_of es)) one.records
-          ∙ ap (λ b. b || shares numbers (numbers_of one.rest)) (ap (λ (x : Record). is_in x.number numbers) (sym one.same) ∙ sym k)
+          ∙ ap (λ b. b || shares numbers (numbers_of one.rest)) (ap (λ (x : Record). is_in x.number numbers) (sym its) ∙ sym k)
 
       pub meeting_found : t ≡ true → MeetsIn text start numbers true
       meeting_found h = record { records = s.records; rest = s.whole; found = sym (s.same ∙ split ∙ ap (λ b. b || shares numbers (numbers_of one.rest)) h) }
@@ -203,21 +197,21 @@ pub record Alone (text : List ℕ) (start at : ℕ) (kept : List ℕ) (n : ℕ) 
 pub alone_starts : {text : List ℕ} {start : ℕ} → Rests text start → Alone text start start (replicate 64 0) 0
 alone_starts s = record { few = omega arith; long = refl; records = s.0; whole = s.1; rest = s.0; left = s.1; same = apart_none (numbers_of s.0) }
 
-module _ {text : List ℕ} {start at : ℕ} {kept : List ℕ} {n : ℕ} (s : Alone text start at kept n) {r : Line} (is : LineAt text at r) where
-  pub alone_all : r.over ≡ true → OnceIn text start true
+module _ {text : List ℕ} {start at : ℕ} {kept : List ℕ} {n : ℕ} (s : Alone text start at kept n) where
+  pub alone_all : LineAt text at None → OnceIn text start true
   unfolding apart shares once numbers_of
-  alone_all e = record { records = s.records; rest = s.whole; alone = sym (s.same ∙ ap (λ es. apart (take n kept) (numbers_of es)) (rest_none is s.left e)) }
+  alone_all is = record { records = s.records; rest = s.whole; alone = sym (s.same ∙ ap (λ es. apart (take n kept) (numbers_of es)) (rest_none is s.left)) }
 
-  module _ (e : r.over ≡ false) where
+  module _ {r : Line} (is : LineAt text at (Some r)) {x : Record} (has : r.entry ≡ Ok x) where
     head : Next is s.left
-    head = rest_next is s.left e
+    head = rest_next is s.left
 
     abbrev number : ℕ
     number = head.entry.number
 
-    number_is_lem : r.entry.number ≡ number
+    number_is_lem : x.number ≡ number
     unfolding record_of
-    number_is_lem = ap (λ (x : Record). x.number) head.same
+    number_is_lem = ap (λ (y : Record). y.number) (ap entry_is (sym has ∙ head.same))
 
     parts : numbers_of s.rest ≡ number ∷ numbers_of head.rest
     unfolding numbers_of
@@ -227,17 +221,17 @@ module _ {text : List ℕ} {start at : ℕ} {kept : List ℕ} {n : ℕ} (s : Alo
     alone_less = let m = head.moves in let i = is.inside in omega (arith, m, i)
 
     -- The number is kept as the last of k + 1.
-    kept_more : (k : ℕ) → k < 64 → take (k + 1) (set kept k r.entry.number) ≡ take k kept ++ (number ∷ [])
+    kept_more : (k : ℕ) → k < 64 → take (k + 1) (set kept k x.number) ≡ take k kept ++ (number ∷ [])
     kept_more k h =
         let l = s.long in
         let one : k + 1 ≡ suc k = omega arith in
-        ap (λ m. take m (set kept k r.entry.number)) one ∙ take-suc-set kept k r.entry.number (omega (arith, l, h)) ∙ ap (λ m. take k kept ++ (m ∷ [])) number_is_lem
+        ap (λ m. take m (set kept k x.number)) one ∙ take-suc-set kept k x.number (omega (arith, l, h)) ∙ ap (λ m. take k kept ++ (m ∷ [])) number_is_lem
 
-    moved : (k : ℕ) → k < 64 → once (numbers_of s.records) ≡ apart (take k kept ++ (number ∷ [])) (numbers_of head.rest) → Alone text start r.next (set kept k r.entry.number) (k + 1)
+    moved : (k : ℕ) → k < 64 → once (numbers_of s.records) ≡ apart (take k kept ++ (number ∷ [])) (numbers_of head.rest) → Alone text start r.next (set kept k x.number) (k + 1)
     moved k h p =
         record {
           few = omega (arith, h);
-          long = length-set kept k r.entry.number ∙ s.long;
+          long = length-set kept k x.number ∙ s.long;
           records = s.records;
           whole = s.whole;
           rest = head.rest;
@@ -245,14 +239,14 @@ module _ {text : List ℕ} {start at : ℕ} {kept : List ℕ} {n : ℕ} (s : Alo
           same = p ∙ ap (λ ws. apart ws (numbers_of head.rest)) (sym (kept_more k h));
         }
 
-    module _ {t : Bool} (k : t ≡ is_in r.entry.number (take n kept)) where
+    module _ {t : Bool} (k : t ≡ is_in x.number (take n kept)) where
       sought : t ≡ is_in number (take n kept)
       sought = k ∙ ap (λ m. is_in m (take n kept)) number_is_lem
 
       pub alone_not : t ≡ true → OnceIn text start false
       alone_not h = record { records = s.records; rest = s.whole; alone = sym (s.same ∙ ap (apart (take n kept)) parts ∙ apart_met (take n kept) number (numbers_of head.rest) (sym sought ∙ h)) }
 
-      pub alone_next : t ≡ false → n < 64 → Alone text start r.next (set kept n r.entry.number) (n + 1)
+      pub alone_next : t ≡ false → n < 64 → Alone text start r.next (set kept n x.number) (n + 1)
       alone_next h l = moved n l (s.same ∙ ap (apart (take n kept)) parts ∙ apart_next (take n kept) number (numbers_of head.rest) (sym sought ∙ h))
 
     -- All that are kept have been compared with all that are left.
@@ -267,7 +261,7 @@ module _ {text : List ℕ} {start at : ℕ} {kept : List ℕ} {n : ℕ} (s : Alo
       unfolding apart
       alone_met h = record { records = s.records; rest = s.whole; alone = sym (s.same ∙ ap (λ b. not b && once (numbers_of s.rest)) (sym met ∙ h)) }
 
-      pub alone_again : t ≡ false → Alone text start r.next (set kept 0 r.entry.number) 1
+      pub alone_again : t ≡ false → Alone text start r.next (set kept 0 x.number) 1
       unfolding apart is_in
       alone_again h =
           moved 0 (omega arith)

@@ -8,22 +8,17 @@ use Prim.Native.Nat.{ℕ, ◌+◌, ◌-◌, ◌≤◌, ◌<◌}
 use native.Mathlib.Omega.{arith}
 use lib.ListN.{length, drop}
 use lib.Dec.{ltb}
-use borrow.Author.Tests.{lt-ltb, le-ltb}
 use Rattle.book.specs.declared.Record.{Record}
 use Rattle.ledger.specs.Reading.{fresh, Lines, read_from}
 use Rattle.ledger.specs.Pieces.{is_there}
 use Rattle.ledger.specs.Stages.{Ranked, uneven, unnumbered, unplaced, good, Staged, counted, numbered, placed, passed, ranked_more, none_staged, lesser, lesser_assoc, lesser_least, lesser_most}
 use Rattle.ledger_reader.specs.declared.Line.{Line}
 use Rattle.ledger_reader.specs.Lines as lines
-use Rattle.ledger_reader.specs.Lines.{LineIs, LineAt, Tallied}
-
-pub lesser_first : (a b : ℕ) → a < b → a ≡ lesser a b
-unfolding lesser
-lesser_first a b h = sym (ap (λ t. mathlib.Core.Bool.cond t a b) (lt-ltb a b h))
-
-pub lesser_second : (a b : ℕ) → b ≤ a → b ≡ lesser a b
-unfolding lesser
-lesser_second a b h = sym (ap (λ t. mathlib.Core.Bool.cond t a b) (le-ltb a b h))
+use Rattle.std.specs.Prelude.{Some, None, Result, Ok, Err}
+use Rattle.std.specs.Prelude as std
+use Rattle.ledger_reader.specs.declared.Flaw.{Flaw}
+use Rattle.ledger_reader.specs.declared.Flaw.TheVariants.{FieldCount, BadNumber, BadPlace}
+use Rattle.ledger_reader.specs.Lines.{rank_of, rank_told, rank_is, LineHas, LineAt, Tallied}
 
 either : (P : ℕ → Type 0) (a b : ℕ) → P a → P b → P (lesser a b)
 unfolding lesser
@@ -80,68 +75,79 @@ tallying_starts text start h =
       then = λ m s. record { lines = r.0; reads = r.1; staged = staged_top s; counts = omega arith };
     }
 
-module _ {text : List ℕ} {start at rank count : ℕ} (t : Tallying text start at rank count) {r : Line} (is : LineAt text at r) where
-  here : LineIs text at t.left r
+pub tallying_ends : {text : List ℕ} {start at count : ℕ} (worst : std.Option Flaw) → Tallying text start at (rank_told worst) count → LineAt text at None → Whole text start (rank_told worst) count
+tallying_ends {text} {start} {at} {count} worst t is =
+    let l = is.told t.left t.reads in
+    let w = t.then 3 (subst (λ ls. Staged ls 3) (sym l) none_staged) in
+    let k = ap (λ (ls : Lines). length ls) l in
+    let n = w.counts in
+    record { lines = w.lines; reads = w.reads; staged = subst (Staged w.lines) (lesser_most (rank_told worst) t.most) w.staged; counts = omega (arith, k, n) }
+
+pub tallied_flaw : {text : List ℕ} {start count : ℕ} (worst : std.Option Flaw) {f : Flaw} → Whole text start (rank_told worst) count → worst ≡ Some f → Tallied text start (Err f)
+tallied_flaw worst w e = record { lines = w.lines; reads = w.reads; staged = subst (Staged w.lines) (ap rank_told e) w.staged; counts = tt }
+
+pub tallied_all : {text : List ℕ} {start count : ℕ} (worst : std.Option Flaw) → Whole text start (rank_told worst) count → worst ≡ None → Tallied text start (Ok count)
+tallied_all worst w e = record { lines = w.lines; reads = w.reads; staged = subst (Staged w.lines) (ap rank_told e) w.staged; counts = w.counts }
+
+module _ {text : List ℕ} {start at rank count : ℕ} (t : Tallying text start at rank count) {r : Line} (is : LineAt text at (Some r)) where
+  here : LineHas text at t.left r
   here = is.told t.left t.reads
 
-  pub tallying_ends : r.over ≡ true → Tallied text start (record { rank = rank; count = count })
-  tallying_ends e = by here
+  pub tallying_uneven : r.entry ≡ Err FieldCount → Tallied text start (Err FieldCount)
+  tallying_uneven z = by here
     where
-      by : LineIs text at t.left r → Tallied text start (record { rank = rank; count = count })
-      by (lines.over o l) =
-          let w = t.then 3 (subst (λ ls. Staged ls 3) (sym l) none_staged) in
-          let k = ap (λ (ls : Lines). length ls) l in
-          let n = w.counts in
-          record { lines = w.lines; reads = w.reads; staged = subst (Staged w.lines) (lesser_most rank t.most) w.staged; counts = λ _. omega (arith, k, n) }
-      by (lines.uneven o z l) = absurd (true≢false (sym e ∙ o))
-      by (lines.line o l k z d m) = absurd (true≢false (sym e ∙ o))
+      by : LineHas text at t.left r → Tallied text start (Err FieldCount)
+      by (lines.uneven q l) =
+          let w = t.then 0 (counted l) in
+          record { lines = w.lines; reads = w.reads; staged = subst (Staged w.lines) (lesser_least rank) w.staged; counts = tt }
+      by (lines.line l k q d m) = absurd (q (ap rank_is z))
 
-  module _ (e : r.over ≡ false) where
-    pub tallying_uneven : r.rank ≡ 0 → Tallied text start (record { rank = 0; count = count })
-    tallying_uneven z = by here
+  module _ (n : rank_is r.entry ≡ 0 → ⊥) where
+    pub tallying_less : length text - r.next < length text - at
+    tallying_less = by here
       where
-        by : LineIs text at t.left r → Tallied text start (record { rank = 0; count = count })
-        by (lines.over o l) = absurd (true≢false (sym o ∙ e))
-        by (lines.uneven o q l) =
-            let w = t.then 0 (counted l) in
-            record { lines = w.lines; reads = w.reads; staged = subst (Staged w.lines) (lesser_least rank) w.staged; counts = λ n. absurd (n refl) }
-        by (lines.line o l k q d m) = absurd (q z)
+        by : LineHas text at t.left r → length text - r.next < length text - at
+        by (lines.uneven q l) = absurd (n q)
+        by (lines.line l k q d m) = let i = is.inside in omega (arith, i, m)
 
-    module _ (n : r.rank ≡ 0 → ⊥) where
-      pub tallying_less : length text - r.next < length text - at
-      tallying_less = by here
-        where
-          by : LineIs text at t.left r → length text - r.next < length text - at
-          by (lines.over o l) = absurd (true≢false (sym o ∙ e))
-          by (lines.uneven o q l) = absurd (n q)
-          by (lines.line o l k q d m) = let i = is.inside in omega (arith, i, m)
+    pub tallying_on : count + start < r.next
+    tallying_on = by here
+      where
+        by : LineHas text at t.left r → count + start < r.next
+        by (lines.uneven q l) = absurd (n q)
+        by (lines.line l k q d m) = let i = t.few in omega (arith, i, m)
 
-      pub tallying_on : count + start < r.next
-      tallying_on = by here
-        where
-          by : LineIs text at t.left r → count + start < r.next
-          by (lines.over o l) = absurd (true≢false (sym o ∙ e))
-          by (lines.uneven o q l) = absurd (n q)
-          by (lines.line o l k q d m) = let i = t.few in omega (arith, i, m)
+    pub tallying_next : {k : ℕ} → k ≡ lesser rank (rank_is r.entry) → Tallying text start r.next k (count + 1)
+    tallying_next {k} g = by here
+      where
+        by : LineHas text at t.left r → Tallying text start r.next k (count + 1)
+        by (lines.uneven q l) = absurd (n q)
+        by (lines.line {l = x} {rest = rest} l ranked q d m) =
+            let f = t.few in
+            let c = ap (λ (ls : Lines). length ls) l in
+            record {
+              inside = is.inside;
+              few = omega (arith, f, m);
+              most = subst (λ y. y ≤ 3) (sym g) (either (λ y. y ≤ 3) rank (rank_is r.entry) t.most (ranked_most ranked));
+              some_rank = subst (λ y. y ≡ 0 → ⊥) (sym g) (either (λ y. y ≡ 0 → ⊥) rank (rank_is r.entry) t.some_rank n);
+              left = rest;
+              reads = d;
+              then = λ y s.
+                  let w = t.then (lesser (rank_is r.entry) y) (subst (λ ls. Staged ls (lesser (rank_is r.entry) y)) (sym l) (ranked_more ranked s)) in
+                  let v = w.counts in
+                  record { lines = w.lines; reads = w.reads; staged = subst (Staged w.lines) (lesser_assoc rank (rank_is r.entry) y ∙ ap (λ z. lesser z y) (sym g)) w.staged; counts = omega (arith, v, c) };
+            }
 
-      pub tallying_next : {k : ℕ} → k ≡ lesser rank r.rank → Tallying text start r.next k (count + 1)
-      tallying_next {k} g = by here
-        where
-          by : LineIs text at t.left r → Tallying text start r.next k (count + 1)
-          by (lines.over o l) = absurd (true≢false (sym o ∙ e))
-          by (lines.uneven o q l) = absurd (n q)
-          by (lines.line {l = x} {rest = rest} o l ranked q d m) =
-              let f = t.few in
-              let c = ap (λ (ls : Lines). length ls) l in
-              record {
-                inside = is.inside;
-                few = omega (arith, f, m);
-                most = subst (λ y. y ≤ 3) (sym g) (either (λ y. y ≤ 3) rank r.rank t.most (ranked_most ranked));
-                some_rank = subst (λ y. y ≡ 0 → ⊥) (sym g) (either (λ y. y ≡ 0 → ⊥) rank r.rank t.some_rank n);
-                left = rest;
-                reads = d;
-                then = λ y s.
-                    let w = t.then (lesser r.rank y) (subst (λ ls. Staged ls (lesser r.rank y)) (sym l) (ranked_more ranked s)) in
-                    let v = w.counts in
-                    record { lines = w.lines; reads = w.reads; staged = subst (Staged w.lines) (lesser_assoc rank r.rank y ∙ ap (λ z. lesser z y) (sym g)) w.staged; counts = omega (arith, v, c) };
-              }
+module _ {text : List ℕ} {start at count : ℕ} (worst : std.Option Flaw) (t : Tallying text start at (rank_told worst) count) {r : Line} (is : LineAt text at (Some r)) where
+  pub tallying_good : {e : Record} → r.entry ≡ Ok e → Tallying text start r.next (rank_told worst) (count + 1)
+  tallying_good e =
+      let k = ap rank_is e in
+      tallying_next t is (λ z. omega (arith, z, k)) (sym (lesser_most (rank_told worst) t.most) ∙ ap (lesser (rank_told worst)) (sym k))
+
+  pub tallying_flawed : {f : Flaw} (w : Flaw) → r.entry ≡ Err f → (f ≡ FieldCount → ⊥) → rank_of w ≡ lesser (rank_told worst) (rank_of f) → Tallying text start r.next (rank_of w) (count + 1)
+  tallying_flawed {f} w e n k = tallying_next t is (λ z. n (some_flaw f (sym (ap rank_is e) ∙ z))) (k ∙ ap (lesser (rank_told worst)) (sym (ap rank_is e)))
+    where
+      some_flaw : (f : Flaw) → rank_of f ≡ 0 → f ≡ FieldCount
+      some_flaw FieldCount z = refl
+      some_flaw BadNumber z = absurd (omega (arith, z))
+      some_flaw BadPlace z = absurd (omega (arith, z))

@@ -1,58 +1,46 @@
 -- What `write` tells is the definition's answer: a book that is not sound is not written, nor one whose text is longer than what is lent. By the two tests.
 -- Assumes nothing.
-use mathlib.Core.Path.{◌≡◌, sym, ap, ◌∙◌}
-use mathlib.Core.Bool.{Bool, true, false, ◌&&◌, cond}
+use Rattle.std.specs.Prelude.{Result, Ok, Err}
+use mathlib.Core.Path.{◌≡◌, refl, sym, ap, ◌∙◌}
+use mathlib.Core.Bool.{Bool, true, false, cond}
 use mathlib.Core.List.{List}
-use Prim.Native.Nat.{ℕ, ◌+◌, ◌≤◌}
+use Prim.Native.Nat.{ℕ, ◌≤◌, ◌<◌}
 use native.Mathlib.Omega.{arith}
 use lib.ListN.{length}
 use lib.Dec.{leb}
-use borrow.Author.Tests.{leb-true}
+use borrow.Author.Tests.{le-leb, lt-leb}
 use Rattle.semantics.specs.ObjectOperators.{pasted}
 use Rattle.book.specs.Books.{is_sound}
-use Rattle.book.proofs.SoundLaws.{each_sound}
 use Rattle.book.specs.declared.Record.{Record}
 use Rattle.ledger.specs.Ledger.{ledger_text, entries_of, Writing, malformed, too_short, written, written_in, writing}
-use Rattle.ledger_writer.specs.declared.Written.{Written}
-use Rattle.ledger_writer.specs.Emitting.{Emitted, answer_of, text_after, told, Writes}
+use Rattle.ledger_writer.specs.declared.WriteError.{WriteError}
+use Rattle.ledger_writer.specs.declared.WriteError.TheVariants.{BookMalformed, TooShort}
+use Rattle.ledger_writer.specs.Emitting.{Emitted, answer_of, text_after, Writes}
 
-module _ (ys : List Record) where
-  abbrev T : ℕ → List ℕ
-  T n = ledger_text (entries_of ys n)
+module _ (ys : List Record) (count : ℕ) (old : List ℕ) where
+  abbrev T : List ℕ
+  T = ledger_text (entries_of ys count)
 
-  -- The records that are emitted are sound: all, or none.
-  pub counted_sound : (count n : ℕ) (t : Bool) → t ≡ is_sound ys count → n ≡ cond t count 0 → is_sound ys n ≡ true
-  counted_sound count n true e c = ap (is_sound ys) c ∙ sym e
-  counted_sound count n false e c = ap (is_sound ys) c ∙ each_sound ys 0 (omega arith) (λ j l. absurd (omega (arith, l)))
+  told_writes : {new : List ℕ} {r : Result ℕ WriteError} (w : Writing) → writing ys count (length old) ≡ w → r ≡ answer_of w → new ≡ text_after w old → Writes ys count old new r
+  told_writes w e a t = record { answer = a ∙ ap answer_of (sym e); text = t ∙ ap (λ v. text_after v old) (sym e) }
 
-  pub live_fits : (n bytes lent : ℕ) (t y : Bool) → bytes ≡ 0 + length (T n) → y ≡ (t && leb bytes lent) → y ≡ true → length (T n) ≤ lent
-  live_fits n bytes lent true y b e h = let k = leb-true bytes lent (sym e ∙ h) in omega (arith, b, k)
-  live_fits n bytes lent false true b e h = let z : ◌≡◌ {A = ℕ} 0 1 = cc in absurd (omega arith)
-  live_fits n bytes lent false false b e h = let z : ◌≡◌ {A = ℕ} 0 1 = cc in absurd (omega arith)
+  pub writes_malformed : is_sound ys count ≡ false → Writes ys count old old (Err BookMalformed)
+  unfolding writing
+  writes_malformed s = told_writes malformed (ap (λ t. cond t (written_in (length old) T) malformed) s) refl refl
 
-  module _ (count : ℕ) (old new : List ℕ) (r : Written) where
-    told_writes : (w : Writing) → writing ys count (length old) ≡ w → r ≡ answer_of w → new ≡ text_after w old → Writes ys count old new r
-    told_writes w e a t = record { answer = a ∙ ap answer_of (sym e); text = t ∙ ap (λ v. text_after v old) (sym e) }
-
-    sound_writes : (y : Bool) → is_sound ys count ≡ true → y ≡ leb (length (T count)) (length old) → new ≡ cond y (pasted 0 (T count) old) old → r ≡ told true y (length (T count)) → Writes ys count old new r
+  module _ (sound : is_sound ys count ≡ true) {mid : List ℕ} {bytes : ℕ} (x : Emitted false 0 T old mid bytes) where
+    measured : (t : Bool) → leb (length T) (length old) ≡ t → writing ys count (length old) ≡ cond t (written T) too_short
     unfolding writing written_in
-    sound_writes true s e b a =
-        told_writes (written (T count)) (ap (λ t. cond t (written_in (length old) (T count)) malformed) s ∙ ap (λ l. cond l (written (T count)) too_short) (sym e)) a b
-    sound_writes false s e b a =
-        told_writes too_short (ap (λ t. cond t (written_in (length old) (T count)) malformed) s ∙ ap (λ l. cond l (written (T count)) too_short) (sym e)) a b
+    measured t e = ap (λ s. cond s (written_in (length old) T) malformed) sound ∙ ap (λ l. cond l (written T) too_short) e
 
-    pub writes : (n bytes end : ℕ) (t y : Bool) {mid : List ℕ}
-        → t ≡ is_sound ys count
-        → n ≡ cond t count 0
-        → Emitted false 0 (T n) old mid bytes
-        → y ≡ (t && leb bytes (length old))
-        → Emitted y 0 (T n) old new end
-        → r ≡ told t y bytes
-        → Writes ys count old new r
-    unfolding writing
-    writes n bytes end true y s c x e z a =
-        let m = ap (λ k. length (T k)) c in
-        let b : bytes ≡ length (T count) = omega (arith, x.end, m) in
-        sound_writes y (sym s) (e ∙ ap (λ k. leb k (length old)) b) (z.bytes ∙ ap (λ k. cond y (pasted 0 (T k) old) old) c) (a ∙ ap (told true y) b)
-    writes n bytes end false y s c x e z a =
-        told_writes malformed (ap (λ t. cond t (written_in (length old) (T count)) malformed) (sym s)) a (z.bytes ∙ ap (λ k. cond k (pasted 0 (T n) old) old) e)
+    pub writes_short : length mid < bytes → Writes ys count old mid (Err TooShort)
+    writes_short l =
+        told_writes too_short (measured false (lt-leb (length T) (length old) (omega (arith, l, x.end, ap length x.bytes)))) refl x.bytes
+
+    pub fits : bytes ≤ length mid → length T ≤ length mid
+    fits l = omega (arith, l, x.end)
+
+    pub writes_all : {new : List ℕ} {end : ℕ} → bytes ≤ length mid → Emitted true 0 T mid new end → Writes ys count old new (Ok bytes)
+    writes_all l z =
+        let n : bytes ≡ length T = omega (arith, x.end) in
+        told_writes (written T) (measured true (le-leb (length T) (length old) (omega (arith, l, n, ap length x.bytes)))) (ap (λ (k : ℕ). Ok k) n) (z.bytes ∙ ap (pasted 0 T) x.bytes)

@@ -1,14 +1,15 @@
 -- The text of a place byte by byte, and the text of a line in its parts.
 -- Assumes nothing.
 use mathlib.Core.Path.{◌≡◌, refl, sym, ap, ap₂, ◌∙◌}
-use mathlib.Core.Bool.{Bool, true, false, ◌||◌, cond, true≢false, or-true}
+use mathlib.Core.Bool.{Bool, true, false, ◌||◌, cond, true≢false}
 use mathlib.Core.List.{List, [], ◌∷◌, ◌++◌, append_assoc, append-nil}
 use Prim.Native.Nat.{ℕ, suc, ◌+◌, ◌≤◌, ◌<◌}
 use native.Mathlib.Omega.{arith}
-use lib.ListN.{length, take, drop, get_or, take-append-drop, drop_of_length-le}
-use lib.Seq.{take-suc, drop-cons, take_all}
+use lib.ListN.{length, take, drop, get_or, take-append-drop}
+use lib.Seq.{take-suc, take_all}
 use lib.Dec.{eqb}
 use borrow.Author.Tests.{eq-eqb, ne_eqb}
+use Rattle.std.specs.List.{list_any}
 use Rattle.semantics.specs.Text.{decimal}
 use Rattle.book.specs.Books.{entry_of}
 use Rattle.book.specs.declared.Record.{Record}
@@ -16,50 +17,12 @@ use Rattle.ledger.specs.Ledger.{is_special, needs_quotes, doubled, in_quotes, fi
 use Rattle.ledger_writer.specs.Emitting.{Emitted, Roomy, line_of}
 use Rattle.ledger_writer.proofs.Emits.{emits_nothing, room_first, room_rest, room_of_lem, emits_as, emits_then}
 
--- ---- the tests of a byte
+-- ---- whether a place is quoted
 
-module _ (b : ℕ) where
-  pub special_comma : b ≡ 44 → true ≡ is_special b
-  unfolding is_special
-  special_comma e = rw (eq-eqb b 44 e) refl
-
-  pub special_quote : b ≡ 34 → true ≡ is_special b
-  unfolding is_special
-  special_quote e = rw (eq-eqb b 34 e, or-true (eqb b 44)) refl
-
-  pub special_return : b ≡ 13 → true ≡ is_special b
-  unfolding is_special
-  special_return e = rw (eq-eqb b 13 e, or-true (eqb b 44 || eqb b 34)) refl
-
-  pub special_else : (b ≡ 44 → ⊥) → (b ≡ 34 → ⊥) → (b ≡ 13 → ⊥) → eqb b 10 ≡ is_special b
-  unfolding is_special
-  special_else h k l = rw (ne_eqb b 44 h, ne_eqb b 34 k, ne_eqb b 13 l) refl
-
--- ---- whether a place is quoted: the first i bytes are plain
-
--- No byte of the first i is special.
-pub record Plain (place : List ℕ) (i : ℕ) : Type 0 where
-  pub inside : i ≤ length place
-  pub rest : needs_quotes place ≡ needs_quotes (drop i place)
-
-module _ (place : List ℕ) where
-  pub plain_starts : Plain place 0
-  plain_starts = record { inside = omega arith; rest = refl }
-
-  module _ (i : ℕ) (p : Plain place i) (h : i < length place) {t : Bool} (is : t ≡ is_special (get_or place i 0)) where
-    ahead : needs_quotes place ≡ (is_special (get_or place i 0) || needs_quotes (drop (i + 1) place))
-    unfolding needs_quotes
-    ahead = let k : suc i ≡ i + 1 = omega arith in p.rest ∙ ap needs_quotes (drop-cons place i 0 h ∙ ap (λ n. get_or place i 0 ∷ drop n place) k)
-
-    pub plain_next : t ≡ false → Plain place (i + 1)
-    plain_next e = record { inside = omega (arith, h); rest = ahead ∙ ap (λ s. s || needs_quotes (drop (i + 1) place)) (sym is ∙ e) }
-
-    pub plain_not : t ≡ true → true ≡ needs_quotes place
-    plain_not e = sym (ahead ∙ ap (λ s. s || needs_quotes (drop (i + 1) place)) (sym is ∙ e))
-
-  pub plain_all : (i : ℕ) → Plain place i → length place ≤ i → false ≡ needs_quotes place
-  unfolding needs_quotes
-  plain_all i p h = sym (p.rest ∙ ap needs_quotes (drop_of_length-le place h))
+pub any_special : (place : List ℕ) → list_any is_special place ≡ needs_quotes place
+unfolding needs_quotes
+any_special [] = refl
+any_special (b ∷ place) = ap (λ t. is_special b || t) (any_special place)
 
 -- ---- the bytes of a place, each quote twice
 

@@ -1,12 +1,13 @@
 -- The text record by record: the text of one record more is the text so far and that record's line. So a turn of `emit` goes on from the text so far.
 -- Assumes nothing.
-use mathlib.Core.Path.{◌≡◌, refl, sym, ap, ◌∙◌}
+use mathlib.Core.Path.{◌≡◌, refl, sym, ap, subst, ◌∙◌}
 use mathlib.Core.Bool.{Bool, true, ◌&&◌, and-eq-true_iff}
 use mathlib.Core.List.{List, [], ◌∷◌, ◌++◌, map, map-append, append_assoc}
 use Prim.Native.Nat.{ℕ, zero, suc, ◌+◌, ◌-◌, ◌*◌, ◌≤◌, ◌<◌, ◌^◌}
 use native.Mathlib.Omega.{arith}
 use lib.ListN.{length, get_or, take, length-append}
 use lib.Seq.{take-suc}
+use Rattle.std.proofs.lemmas.List.{get_or_default}
 use lib.Dec.{leb}
 use Rattle.semantics.specs.Text.{textual, decimal}
 use Rattle.book.specs.Books.{Entry, entry_of, blank, greatest, is_place_length, are_in_range, in_range, is_sound}
@@ -136,11 +137,18 @@ module _ (ys : List Record) where
         both : Roomy live 0 (upto i ++ here i) old
         both = room_of_lem (text_next i turn_inside) (room_upto (i + 1) (omega (arith, less)))
 
-        pub turn_room : Roomy live at (here i) new
-        turn_room = room_rest (upto i) (here i) both e.emitted e.same
+        -- the code's read has its own default
+        read : (d : Record) → get_or ys i blank ≡ get_or ys i d
+        read d = get_or_default ys i blank d turn_inside
 
-        pub turn_next : {last : List ℕ} {r : ℕ} → Emitted live at (here i) new last r → length last ≡ length new → Emitting ys count live old (i + 1) r last
-        turn_next x k = record { inside = omega (arith, less); emitted = emits_as (sym (text_next i turn_inside)) (emits_then (upto i) (here i) both e.emitted x); same = k ∙ e.same }
+        pub turn_room : (d : Record) → ((get_or ys i d).length ≤ 31) × Roomy live at (line_of (get_or ys i d)) new
+        turn_room d =
+            subst (λ (r : Record). (r.length ≤ 31) × Roomy live at (line_of r) new) (read d) (place_few i less, room_rest (upto i) (here i) both e.emitted e.same)
+
+        pub turn_next : (d : Record) {last : List ℕ} {r : ℕ} → Emitted live at (line_of (get_or ys i d)) new last r → length last ≡ length new → Emitting ys count live old (i + 1) r last
+        turn_next d {last} {r} y k =
+            let x = subst (λ (s : Record). Emitted live at (line_of s) new last r) (sym (read d)) y in
+            record { inside = omega (arith, less); emitted = emits_as (sym (text_next i turn_inside)) (emits_then (upto i) (here i) both e.emitted x); same = k ∙ e.same }
 
       pub emitting_ends : (i at : ℕ) (new : List ℕ) → Emitting ys count live old i at new → count ≤ i → Emitted live 0 (upto count) old new at
       emitting_ends i at new e h = let k : i ≡ count = omega (arith, h, e.inside) in emits_as (ap upto k) e.emitted

@@ -1,34 +1,38 @@
 // The book written for the buying office, by RFC 4180 (02, W11). The text is measured first; where it is longer than what is lent nothing is written. One set of
-// emitters measures and writes: where it is not live it only counts.
+// emitters measures and writes: where it is not live it only counts. (A sink in place of `live` would be a trait with two impls, or an `Option<&mut [u8]>` that is
+// lent again at each call: no plainer.)
 #![tactic(auto)]
 
-ghost use Rattle.std.specs.Prelude.{◌≡◌, true, ◌&&◌, cond, [], ◌∷◌, ◌+◌, ◌≤◌, ◌<◌, length, get_or, leb};
+ghost use Rattle.std.specs.Prelude.{◌≡◌, true, [], ◌∷◌, ◌≤◌, length};
+ghost use Rattle.std.specs.List.{list_any};
 ghost use Rattle.semantics.specs.Text.{decimal};
-ghost use Rattle.book.specs.Books.{blank, is_sound};
-ghost use Rattle.ledger.specs.Ledger.{is_special, needs_quotes, doubled, field, ledger_text, entries_of};
-ghost use Rattle.ledger_writer.specs.Emitting.{Emitted, Roomy, line_of, told, Writes};
+ghost use Rattle.book.specs.Books.{is_sound};
+ghost use Rattle.ledger.specs.Ledger.{is_special, doubled, field, ledger_text, entries_of};
+ghost use Rattle.ledger_writer.specs.Emitting.{Emitted, Roomy, line_of, Writes};
 
 use book::Record;
 
-// What became of a book that was to be written: `Wrote` has the bytes of its text.
-#[derive(Clone, Copy)]
-pub enum Written {
+// Why a book is not written.
+#[derive(Clone, Copy, PartialEq, Eq, Debug)]
+pub enum WriteError {
     BookMalformed,
     TooShort,
-    Wrote(usize),
 }
 
-// The book written into the lent text.
+// The book written into the lent text; the bytes of its text.
 // Ruled out: a text cut short; bytes past the text changed; a malformed book written.
-pub fn write(book: &[Record], count: usize, text: &mut [u8]) -> Written
+pub fn write(book: &[Record], count: usize, text: &mut [u8]) -> Result<usize, WriteError>
     ensures { Writes book.now count text.old text.new result }
 {
-    let sound = book::is_sound(book, count);
-    let n = counted(sound, count);
-    let bytes = emit(book, n, text, false);
-    let live = fits(sound, bytes, text.len());
-    emit(book, n, text, live);
-    answered(sound, live, bytes)
+    if !book::is_sound(book, count) {
+        return Err(WriteError::BookMalformed);
+    }
+    let bytes = emit(book, count, text, false);
+    if text.len() < bytes {
+        return Err(WriteError::TooShort);
+    }
+    emit(book, count, text, true);
+    Ok(bytes)
 }
 
 // ---- the whole text
@@ -39,21 +43,10 @@ fn emit(book: &[Record], count: usize, text: &mut [u8], live: bool) -> usize
     ensures { Emitted live 0 (ledger_text (entries_of book.now count)) text.old text.new result }
 {
     let mut at = begin(text, live);
-    let mut i = 0;
-    while i < count {
-        at = emit_at(book, i, text, at, live);
-        i = i + 1;
+    for i in 0..count {
+        at = emit_line(book[i], text, at, live);
     }
     at
-}
-
-// The line of the record at a place.
-fn emit_at(book: &[Record], i: usize, text: &mut [u8], at: usize, live: bool) -> usize
-    requires { (i < length book.now) × ((get_or book.now i blank).length ≤ 31) × Roomy live at (line_of (get_or book.now i blank)) text.old }
-    ensures { Emitted live at (line_of (get_or book.now i blank)) text.old text.new result }
-{
-    let entry = book[i];
-    emit_line(entry, text, at, live)
 }
 
 // The header's line.
@@ -67,39 +60,6 @@ fn begin(text: &mut [u8], live: bool) -> usize
     19
 }
 
-// No record counts where the book is not sound.
-fn counted(sound: bool, count: usize) -> usize
-    ensures { result ≡ cond sound count 0 }
-{
-    if sound {
-        return count;
-    }
-    0
-}
-
-// Whether the text is written.
-fn fits(sound: bool, bytes: usize, lent: usize) -> bool
-    ensures { result ≡ (sound && leb bytes lent) }
-{
-    if sound {
-        return bytes <= lent;
-    }
-    false
-}
-
-// The answer.
-fn answered(sound: bool, live: bool, bytes: usize) -> Written
-    ensures { result ≡ told sound live bytes }
-{
-    if sound {
-        if live {
-            return Written::Wrote(bytes);
-        }
-        return Written::TooShort;
-    }
-    Written::BookMalformed
-}
-
 // ---- one record
 
 // A byte.
@@ -109,7 +69,6 @@ fn put(text: &mut [u8], at: usize, b: u8, live: bool) -> usize
 {
     if live {
         text[at] = b;
-        return at + 1;
     }
     at + 1
 }
@@ -126,33 +85,18 @@ fn emit_number(text: &mut [u8], at: usize, n: u32, live: bool) -> usize
 }
 
 // A comma, a quote, CR or LF.
+#[tactic(auto, unfolding(ledger::specs::Ledger::is_special))]
 fn is_special(b: u8) -> bool
     ensures { result ≡ is_special b }
 {
-    if b == b',' {
-        return true;
-    }
-    if b == b'"' {
-        return true;
-    }
-    if b == b'\r' {
-        return true;
-    }
-    b == b'\n'
+    matches!(b, b',' | b'"' | b'\r' | b'\n')
 }
 
 // Whether one of the bytes is such.
 fn needs_quotes(place: &[u8]) -> bool
-    ensures { result ≡ needs_quotes place.now }
+    ensures { result ≡ list_any is_special place.now }
 {
-    let mut i = 0;
-    while i < place.len() {
-        if is_special(place[i]) {
-            return true;
-        }
-        i += 1;
-    }
-    false
+    place.iter().any(|b| is_special(*b))
 }
 
 // A byte of a place, a quote twice.
@@ -173,10 +117,8 @@ fn emit_doubled(text: &mut [u8], at: usize, place: &[u8], live: bool) -> usize
     ensures { Emitted live at (doubled place.now) text.old text.new result }
 {
     let mut next = at;
-    let mut i = 0;
-    while i < place.len() {
-        next = emit_byte(text, next, place[i], live);
-        i += 1;
+    for b in place {
+        next = emit_byte(text, next, *b, live);
     }
     next
 }

@@ -14,7 +14,6 @@ use Rattle.machine.specs.Words.{item_tag, item_payload}
 use Rattle.machine.specs.Places.{from_end, roots}
 use Rattle.machine.specs.Rep.{Rep, IsIn, Items, item}
 use Rattle.machine.specs.Recount.{Placed, Recounts}
-use Rattle.machine.specs.Moves.{copied, copied_over}
 use Rattle.machine.specs.declared.Machine.{Machine}
 use Rattle.machine.proofs.Items.{items_length, items_frame, item_at, items_set}
 use Rattle.machine.proofs.Operands.{two_first, two_second, two_below, two_others, two_length}
@@ -29,6 +28,10 @@ module _ {m : Machine} {st e d c l : List ℕ} {μ : Floo.Machine} (R : Rep m st
   -- Item i from the top, at place k.
   pub word_of : (i k : ℕ) → m.depth ≡ k + suc i → IsIn R.world μ (get_or μ.stack i null) (item_tag st k) (item_payload st k)
   word_of i k h = item_at R.items i k h
+
+  -- The same, by the words that were read.
+  pub words_of : (i k : ℕ) {t p : ℕ} → m.depth ≡ k + suc i → t ≡ item_tag st k → p ≡ item_payload st k → IsIn R.world μ (get_or μ.stack i null) t p
+  words_of i k h x y = rw (x, y) (word_of i k h)
 
   -- ---- a value is pushed
 
@@ -62,17 +65,6 @@ module _ {m : Machine} {st e d c l : List ℕ} {μ : Floo.Machine} (R : Rep m st
         (omega arith)
         items
 
-  -- A copy of item i.
-  module _ (i k : ℕ) (h : m.depth ≡ k + suc i) (room : 2 * m.depth + 2 ≤ length st) where
-    pub copy_placed : Placed m.lists c 0 0 (item_tag st k) (item_payload st k)
-    copy_placed = push_placed (word_of i k h) room
-
-    pub copy_rep : {s' : Lists} {c' : List ℕ}
-        → Recounts m.lists c 0 0 (item_tag st k) (item_payload st k) s' c'
-        → Rep (with_depth (m.depth + 1) s' m) (set (set st (2 * m.depth) (item_tag st k)) (2 * m.depth + 1) (item_payload st k)) e d c' l (copied i μ)
-    unfolding copied push
-    copy_rep = push_rep (word_of i k h) room
-
   -- ---- a value takes an item's place
 
   module _ (i k : ℕ) (h : m.depth ≡ k + suc i) where
@@ -102,14 +94,3 @@ module _ {m : Machine} {st e d c l : List ℕ} {μ : Floo.Machine} (R : Rep m st
           (two_length st k t p room)
           R.rooms.stack_fits
           (items_set R.items i k h words (two_others st k t p room))
-
-  -- A copy of item j.
-  module _ (i k j o : ℕ) (h : m.depth ≡ k + suc i) (g : m.depth ≡ o + suc j) where
-    pub over_placed : Placed m.lists c (item_tag st k) (item_payload st k) (item_tag st o) (item_payload st o)
-    over_placed = value_placed i k h (word_of j o g)
-
-    pub over_rep : {s' : Lists} {c' : List ℕ}
-        → Recounts m.lists c (item_tag st k) (item_payload st k) (item_tag st o) (item_payload st o) s' c'
-        → Rep (with_depth m.depth s' m) (set (set st (2 * k) (item_tag st o)) (2 * k + 1) (item_payload st o)) e d c' l (copied_over i j μ)
-    unfolding copied_over
-    over_rep = value_rep i k h (word_of j o g)

@@ -1,7 +1,8 @@
 -- What an operator's return shows: that the definition's operator fails, or that it gives what the primitives did to the machine and that there is room
 -- or is none; and what primitives do one after another.
 -- Assumes nothing.
-use mathlib.Core.Path.{◌≡◌, refl, ap, ◌∙◌, subst}
+use Rattle.std.specs.Prelude.{Ok, Err}
+use mathlib.Core.Path.{◌≡◌, refl, sym, ap, ◌∙◌, subst}
 use mathlib.Core.List.{List, [], ◌∷◌}
 use Prim.Native.Nat.{ℕ, ◌/◌, ◌≤◌, ◌<◌}
 use native.Mathlib.Omega.{arith}
@@ -15,15 +16,12 @@ use Rattle.semantics.specs.Steps.{room_for}
 use Rattle.semantics.specs.declared.Error.{Error}
 use Rattle.semantics.specs.declared.Error.TheVariants.{StackOverflow}
 use Rattle.machine.specs.Operands.{one_int, two_ints, one_low, two_low}
-use Rattle.machine.specs.Rep.{Rep, Somewhere, MovesStack, MovesHeap}
+pub use Rattle.machine.specs.Operands.{on_one, on_two}
+use Rattle.machine.specs.Rep.{Rep, Answer, Somewhere, MovesStack, MovesHeap}
 use Rattle.machine.specs.Moves.{dropped, copied, copied_over, swapped}
 use Rattle.machine.specs.Room.{lent, fitted, DoesStack, DoesHeap}
 use Rattle.machine.specs.declared.Machine.{Machine}
-use Rattle.machine.specs.declared.OneInt.{OneInt}
-use Rattle.machine.specs.declared.OneInt.TheVariants as One
-use Rattle.machine.specs.declared.TwoInts.{TwoInts}
-use Rattle.machine.specs.declared.TwoInts.TheVariants as Two
-use Rattle.machine.specs.declared.Did.TheVariants.{Ok, Fail}
+use Rattle.machine.specs.Answers.{Did, OneInt, TwoInts}
 use Rattle.machine.proofs.Items.{items_length}
 use Rattle.machine.proofs.Operands.{pop1_some, pop2_some}
 use Rattle.machine.proofs.Rooms.{dictionary_fits, exec_fits, room_stack, rep_passes}
@@ -55,7 +53,7 @@ unfolding swapped with_stack
 swapped_store i j μ = refl
 
 module _ {f : Floo.Machine → Result Floo.Machine} {m : Machine} {s : List ℕ} where
-  pub fails_stack : {x : Error} → ((e d c l : List ℕ) (μ : Floo.Machine) → Rep m s e d c l μ → f μ ≡ fault x) → DoesStack f m s s (Fail x)
+  pub fails_stack : {x : Error} → ((e d c l : List ℕ) (μ : Floo.Machine) → Rep m s e d c l μ → f μ ≡ fault x) → DoesStack f m s s (Err x)
   unfolding fitted ◌>>=◌
   fails_stack h = record { does = λ e d c l μ R. (ap (λ q. q >>= room_for (lent s e d c l) μ) (h e d c l μ R), refl) }
 
@@ -74,7 +72,7 @@ module _ {f : Floo.Machine → Result Floo.Machine} {m : Machine} {s : List ℕ}
       }
 
   module _ {c : List ℕ} where
-    pub fails_heap : {x : Error} → ((e d l : List ℕ) (μ : Floo.Machine) → Rep m s e d c l μ → f μ ≡ fault x) → DoesHeap f m s s c c (Fail x)
+    pub fails_heap : {x : Error} → ((e d l : List ℕ) (μ : Floo.Machine) → Rep m s e d c l μ → f μ ≡ fault x) → DoesHeap f m s s c c (Err x)
     unfolding fitted ◌>>=◌
     fails_heap h = record { does = λ e d l μ R. (ap (λ q. q >>= room_for (lent s e d c l) μ) (h e d l μ R), (refl, refl)) }
 
@@ -94,7 +92,7 @@ module _ {f : Floo.Machine → Result Floo.Machine} {m : Machine} {s : List ℕ}
 
     -- The stack would be too deep.
     pub over_heap : ((e d l : List ℕ) (μ : Floo.Machine) → Rep m s e d c l μ → (t : List Value) × (f μ ≡ ok (with_stack t μ)) × (length s / 2 < length t))
-        → DoesHeap f m s s c c (Fail StackOverflow)
+        → DoesHeap f m s s c c (Err StackOverflow)
     unfolding fitted ◌>>=◌ lent with_stack
     over_heap h =
         record {
@@ -102,6 +100,17 @@ module _ {f : Floo.Machine → Result Floo.Machine} {m : Machine} {s : List ℕ}
               let t = h e d l μ R in
               (ap (λ q. q >>= room_for (lent s e d c l) μ) t.1 ∙ room_stack (lent s e d c l) μ (with_stack t.0 μ) (dictionary_fits R) (exec_fits R) t.2, (refl, refl));
         }
+
+-- An operator of another name that does the same.
+pub named : {f g : Floo.Machine → Result Floo.Machine} {m : Machine} {s s' : List ℕ} {r : Did}
+    → ((μ : Floo.Machine) → f μ ≡ g μ)
+    → DoesStack g m s s' r
+    → DoesStack f m s s' r
+unfolding fitted
+named {s} {s'} {r} is D =
+    record {
+      does = λ e d c l μ R. subst (λ q. Answer (λ m'. Rep m' s' e d c l) (s' ≡ s) r (fitted (lent s e d c l) (λ τ. q) μ)) (sym (is μ)) (D.does e d c l μ R);
+    }
 
 -- ---- one primitive after another
 
@@ -154,18 +163,11 @@ module _ (l : List Value) where
 -- ---- integer operands
 
 -- The fetchers' bound on the depth.
-pub one_low_lem : {r : OneInt} {a n : ℕ} → r ≡ One.Got a → one_low r ≤ n → 1 ≤ n
+pub one_low_lem : {r : OneInt} {a n : ℕ} → r ≡ Ok a → one_low r ≤ n → 1 ≤ n
 one_low_lem {n = n} q h = subst (λ r. one_low r ≤ n) q h
 
-pub two_low_lem : {r : TwoInts} {a b n : ℕ} → r ≡ Two.Got a b → two_low r ≤ n → 2 ≤ n
+pub two_low_lem : {r : TwoInts} {a b n : ℕ} → r ≡ Ok (a, b) → two_low r ≤ n → 2 ≤ n
 two_low_lem {n = n} q h = subst (λ r. two_low r ≤ n) q h
-
--- An operator that takes an integer, and one that takes two.
-abbrev pub on_one : (ℤ → Floo.Machine → Result Floo.Machine) → Floo.Machine → Result Floo.Machine
-on_one k μ = pop1 μ >>= λ p. int p.0 >>= λ a. k a p.1
-
-abbrev pub on_two : (ℤ → ℤ → Floo.Machine → Result Floo.Machine) → Floo.Machine → Result Floo.Machine
-on_two k μ = pop2 μ >>= λ p. int p.0 >>= λ a. int p.1 >>= λ b. k a b p.2
 
 -- Where the steps after it fail with an error, so do others that fail with it there.
 faults : {A B C : Type 0} (r : Result A) {g : A → Result B} {h : A → Result C} {e : Error}

@@ -1,5 +1,6 @@
 -- A result in the place of operands that name no object, with the test of room after it: the stack has not grown, so there is room.
 -- Assumes nothing.
+use Rattle.std.specs.Prelude.{Ok}
 use mathlib.Core.Path.{◌≡◌, ap, ◌∙◌}
 use mathlib.Core.List.{List, ◌∷◌, ◌++◌}
 use Prim.Native.Nat.{ℕ, ◌≤◌}
@@ -15,7 +16,6 @@ use Rattle.machine.specs.Operands.{Scalar, Replaces}
 use Rattle.machine.specs.Rep.{Rep, Answer}
 use Rattle.machine.specs.Room.{lent, fitted}
 use Rattle.machine.specs.declared.Machine.{Machine}
-use Rattle.machine.specs.declared.Did.TheVariants.{Ok}
 use Rattle.machine.proofs.Rooms.{stack_passes}
 
 pub result_fits : (f : Floo.Machine → Result Floo.Machine) {m r : Machine} {st st' : List ℕ} {n t p : ℕ} {v : Value}

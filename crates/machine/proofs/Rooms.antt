@@ -1,6 +1,7 @@
 -- The test of room: it passes where the words stand for the machine after the step and no object was made, and fails with stackoverflow where only
 -- the stack is too deep, with execstackoverflow where the execution stack is.
 -- Assumes nothing.
+use Rattle.std.specs.Prelude.{Ok, Err}
 use mathlib.Core.Path.{◌≡◌, refl, sym, ap, ◌∙◌}
 use mathlib.Core.List.{List}
 use Prim.Native.Nat.{ℕ, suc, ◌/◌, ◌≤◌, ◌<◌}
@@ -21,8 +22,7 @@ use Rattle.machine.specs.Places.{keys}
 use Rattle.machine.specs.Rep.{Rep, OnStack, OnHeap, Frames, frame}
 use Rattle.machine.specs.Room.{lent, fitted, DoesStack, DoesHeap}
 use Rattle.machine.specs.declared.Machine.{Machine}
-use Rattle.machine.specs.declared.Did.{Did}
-use Rattle.machine.specs.declared.Did.TheVariants.{Ok, Fail}
+use Rattle.machine.specs.Answers.{Did}
 use Rattle.machine.proofs.Items.{items_length}
 
 pub frames_length : {A : _} {g : _} {store : List Object} {words : List ℕ} {n : ℕ} {fs : List Floo.Frame} → Frames A g store words n fs → length fs ≡ n
@@ -129,7 +129,7 @@ pub lift_stack : {f : Floo.Machine → Result Floo.Machine} {m : Machine} {s s' 
     → OnStack f m s s' r
     → DoesStack f m s s' r
 unfolding fitted ◌>>=◌
-lift_stack {s = s} (Fail x) none long O =
+lift_stack {s = s} (Err x) none long O =
     record { does = λ e d c l μ R. let a = O.does e d c l μ R in (ap (λ q. q >>= room_for (lent s e d c l) μ) a.0, a.1) }
 lift_stack {s = s} (Ok m') none long O =
     record {
@@ -144,7 +144,7 @@ pub lift_heap : {f : Floo.Machine → Result Floo.Machine} {m : Machine} {s s' c
     → OnHeap f m s s' c c' r
     → DoesHeap f m s s' c c' r
 unfolding fitted ◌>>=◌
-lift_heap {s = s} {c = c} (Fail x) none long O =
+lift_heap {s = s} {c = c} (Err x) none long O =
     record { does = λ e d l μ R. let a = O.does e d l μ R in (ap (λ q. q >>= room_for (lent s e d c l) μ) a.0, a.1) }
 lift_heap {s = s} {c = c} (Ok m') none long O =
     record {

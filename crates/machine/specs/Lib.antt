@@ -1,3 +1,4 @@
+pub mod Answers
 pub mod Words
 pub mod Places
 pub mod Rep
@@ -6,3 +7,4 @@ pub mod Recount
 pub mod Moves
 pub mod Room
 pub mod FrameMoves
+pub mod Copies

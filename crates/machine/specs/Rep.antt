@@ -1,6 +1,6 @@
 -- How the lent words and the small state stand for a machine of the definition.
 -- Assumes nothing.
-use Rattle.std.specs.Prelude.{◌≡◌, Bool, true, false, List, [], ◌∷◌, ℕ, suc, ◌+◌, ◌*◌, ◌/◌, ◌%◌, ◌≤◌, ◌<◌, ℤ, length, get_or, take}
+use Rattle.std.specs.Prelude.{◌≡◌, Bool, true, false, List, [], ◌∷◌, ℕ, suc, ◌+◌, ◌*◌, ◌/◌, ◌%◌, ◌≤◌, ◌<◌, ℤ, length, get_or, take, Ok, Err}
 use Rattle.std.proofs.Math.Option.{Option, none, some}
 use Rattle.std.proofs.Math.ListN.{get_elem?}
 use Rattle.semantics.specs.Sizes.{operator_count, name_most, stack_width, exec_width, dictionary_width, stack_words_most, exec_words_most, dictionary_words_most}
@@ -21,8 +21,7 @@ use Rattle.semantics.specs.NameLaws.{Distinct}
 use Rattle.semantics.specs.SlotLaws.{keys_of}
 use Rattle.machine.specs.Places.{roots, root_count, keys, texts}
 use Rattle.machine.specs.declared.Machine.{Machine}
-use Rattle.machine.specs.declared.Did.{Did}
-use Rattle.machine.specs.declared.Did.TheVariants.{Ok, Fail}
+use Rattle.machine.specs.Answers.{Did}
 
 -- The two words of each stack item, the topmost item first.
 pub data Items (IsValue : Value → ℕ → ℕ → Type 0) (words : List ℕ) : ℕ → List Value → Type 0 where
@@ -156,7 +155,7 @@ pub record Rep (m : Machine) (stack exec dict cs log : List ℕ) (μ : Floo.Mach
 
 -- What an operator's answer means: R says that a machine stands for one of the definition, Same that no word has changed.
 abbrev pub Answer : (Machine → Floo.Machine → Type 0) → Type 0 → Did → Result Floo.Machine → Type 0
-Answer R Same (Fail e) q = (q ≡ fault e) × Same
+Answer R Same (Err e) q = (q ≡ fault e) × Same
 Answer R Same (Ok m) q = (μ : Floo.Machine) × (q ≡ ok μ) × R m μ
 
 -- A primitive that touches the stack's words alone does f.

@@ -7,7 +7,7 @@ use Rattle.semantics.specs.Steps.{Limits, room_for}
 use Rattle.heap.specs.Shape.{cells}
 use Rattle.machine.specs.Rep.{Rep, Answer}
 use Rattle.machine.specs.declared.Machine.{Machine}
-use Rattle.machine.specs.declared.Did.{Did}
+use Rattle.machine.specs.Answers.{Did}
 
 -- What the words of stack, execution stack, dictionary and cells, and the log's bytes have room for.
 unfoldable pub lent : List ℕ → List ℕ → List ℕ → List ℕ → List ℕ → Limits

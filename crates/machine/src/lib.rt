@@ -2,14 +2,17 @@
 // the definition, and the function does to that machine what its contract names.
 #![tactic(auto)]
 
-ghost use Rattle.std.specs.Prelude.{◌≡◌, ◌+◌, ◌*◌, ◌-◌, ◌≤◌, ◌<◌, length};
+ghost use Rattle.std.specs.Prelude.{◌≡◌, ◌≢◌, ◌+◌, ◌*◌, ◌-◌, ◌≤◌, ◌<◌, length, set, MatchResult};
+ghost use Rattle.machine.specs.Words.{item_tag, item_payload, frame_tag, frame_payload};
 ghost use Rattle.machine.specs.Rep.{Somewhere, MovesStack, MovesHeap};
 ghost use Rattle.machine.specs.Moves.{dropped, copied, copied_over, swapped, retagged, tag_as};
 ghost use Rattle.machine.specs.FrameMoves.{Somewhere as SlotsSomewhere, MovesFrames, MovesItems, ForgetsFrame, frame_dropped, returned};
 ghost use Rattle.machine.specs.Recount.{Placed, Recounts};
+ghost use Rattle.machine.specs.Copies.{HeldItems, PushesValue, PutsValue};
 ghost use Rattle.machine.specs.Operands.{FetchesOne, FetchesTwo, one_low, two_low, FetchesOneLogical, FetchesTwoLogical, one_logical_low, two_logical_low, Replaces, Pushes};
+ghost use Rattle.semantics.specs.declared.Error.TheVariants.{StackUnderflow, StackOverflow, ExecStackOverflow, TypeCheck};
 
-use heap::{FIRST_OBJECT, Lists};
+use heap::{FIRST_OBJECT, Lists, Value};
 use semantics::{EXEC_WIDTH, Error, STACK_WIDTH};
 
 // The words of slots, as specs/Words and specs/Rep have them: a stack item's payload after its tag; an execution slot's value after its kind, and the numbers after that, of a
@@ -50,7 +53,7 @@ pub const LATEST_ERROR: usize = 623;
 
 pub const LATEST_COMMAND: usize = 635;
 
-// A value is two words.
+// What a value is.
 pub const TAG_NULL: u32 = 0;
 
 pub const TAG_INTEGER: u32 = 1;
@@ -74,6 +77,12 @@ pub const TAG_ARRAY: u32 = 9;
 
 pub const TAG_PROCEDURE: u32 = 10;
 
+// What a place holds that names nothing.
+pub const NULL: Value = Value {
+    tag: TAG_NULL,
+    pay: 0,
+};
+
 // How much of each lent buffer is in use: stack items, execution slots, names, log bytes; the heap's lists; and whether the run has been stopped.
 #[derive(Clone, Copy)]
 pub struct Machine {
@@ -85,122 +94,143 @@ pub struct Machine {
     pub stopped: bool,
 }
 
-// What an operator came to.
-#[derive(Clone, Copy)]
-pub enum Did {
-    Ok(Machine),
-    Fail(Error),
-}
-
-// An integer operand, or what is wrong with it.
-#[derive(Clone, Copy)]
-pub enum OneInt {
-    Bad(Error),
-    Got(u32),
-}
-
-// Two integer operands, the upper one second, or what is wrong with them.
-#[derive(Clone, Copy)]
-pub enum TwoInts {
-    Bad(Error),
-    Got(u32, u32),
-}
-
-// An operand of not: a word, a truth value (0 or 1), or what is wrong with it.
-#[derive(Clone, Copy)]
-pub enum OneLogical {
-    Bad(Error),
-    Word(u32),
-    Truth(u32),
-}
-
-// Two operands of one kind, words or truth values, the upper one second, or what is wrong with them.
-#[derive(Clone, Copy)]
-pub enum TwoLogical {
-    Bad(Error),
-    Words(u32, u32),
-    Truths(u32, u32),
+// Operands of the logical operators: words, or truth values (0 or 1).
+#[derive(Clone, Copy, PartialEq, Eq)]
+pub enum Logical<T> {
+    Words(T),
+    Truths(T),
 }
 
 impl Machine {
-    pub fn one_int(self, stack: &[u32]) -> OneInt
+    // Whether the stack has n items. Ruled out: the error where there are just n.
+    pub fn needs(self, n: usize) -> Result<(), Error>
+        ensures { MatchResult result (λ u. n ≤ self.depth) (λ e. (self.depth < n) × (e ≡ StackUnderflow)) }
+    {
+        if self.depth < n {
+            return Err(Error::StackUnderflow);
+        }
+        Ok(())
+    }
+
+    // Whether n items more fit onto the stack. Ruled out: the error where they just fit.
+    pub fn has_room(self, stack: &[u32], n: usize) -> Result<(), Error>
+        requires { 2 * self.depth ≤ length stack.now }
+        ensures { MatchResult result (λ u. 2 * (self.depth + n) ≤ length stack.now)
+            (λ e. (length stack.now < 2 * (self.depth + n)) × (e ≡ StackOverflow)) }
+    {
+        if stack.len() / STACK_WIDTH - self.depth < n {
+            return Err(Error::StackOverflow);
+        }
+        Ok(())
+    }
+
+    // Whether one execution slot more fits. Ruled out: the error where it just fits.
+    pub fn has_slot(self, exec: &[u32]) -> Result<(), Error>
+        ensures { MatchResult result (λ u. 8 * self.frames + 8 ≤ length exec.now)
+            (λ e. (length exec.now < 8 * self.frames + 8) × (e ≡ ExecStackOverflow)) }
+    {
+        if exec.len() / EXEC_WIDTH <= self.frames {
+            return Err(Error::ExecStackOverflow);
+        }
+        Ok(())
+    }
+
+    // Item i from the top, where it is an integer.
+    pub fn int_at(self, stack: &[u32], i: usize) -> Result<u32, Error>
+        requires { (i < self.depth) × (2 * self.depth ≤ length stack.now) }
+        ensures { MatchResult result
+            (λ w. (item_tag stack.now (self.depth - 1 - i) ≡ 1) × (w ≡ item_payload stack.now (self.depth - 1 - i)))
+            (λ e. (item_tag stack.now (self.depth - 1 - i) ≢ 1) × (e ≡ TypeCheck)) }
+    {
+        let k = self.depth - 1 - i;
+        if stack[STACK_WIDTH * k] != TAG_INTEGER {
+            return Err(Error::TypeCheck);
+        }
+        Ok(stack[STACK_WIDTH * k + ITEM_PAYLOAD])
+    }
+
+    // An integer operand, or what is wrong with it.
+    pub fn one_int(self, stack: &[u32]) -> Result<u32, Error>
         requires { 2 * self.depth ≤ length stack.now }
         ensures fetches_one { FetchesOne self stack.now result }
         ensures result_bound { one_low result ≤ self.depth }
     {
         let n = self.depth;
         if n < 1 {
-            return OneInt::Bad(Error::StackUnderflow);
+            return Err(Error::StackUnderflow);
         }
         let i = STACK_WIDTH * (n - 1);
         if stack[i] != TAG_INTEGER {
-            return OneInt::Bad(Error::TypeCheck);
+            return Err(Error::TypeCheck);
         }
-        OneInt::Got(stack[i + ITEM_PAYLOAD])
+        Ok(stack[i + ITEM_PAYLOAD])
     }
 
-    pub fn two_ints(self, stack: &[u32]) -> TwoInts
+    // Two integer operands, the upper one second, or what is wrong with them.
+    pub fn two_ints(self, stack: &[u32]) -> Result<(u32, u32), Error>
         requires { 2 * self.depth ≤ length stack.now }
         ensures fetches_two { FetchesTwo self stack.now result }
         ensures result_bound { two_low result ≤ self.depth }
     {
         let n = self.depth;
         if n < 2 {
-            return TwoInts::Bad(Error::StackUnderflow);
+            return Err(Error::StackUnderflow);
         }
         let i = STACK_WIDTH * (n - 2);
         let j = STACK_WIDTH * (n - 1);
         if stack[i] != TAG_INTEGER {
-            return TwoInts::Bad(Error::TypeCheck);
+            return Err(Error::TypeCheck);
         }
         if stack[j] != TAG_INTEGER {
-            return TwoInts::Bad(Error::TypeCheck);
+            return Err(Error::TypeCheck);
         }
-        TwoInts::Got(stack[i + ITEM_PAYLOAD], stack[j + ITEM_PAYLOAD])
+        Ok((stack[i + ITEM_PAYLOAD], stack[j + ITEM_PAYLOAD]))
     }
 
-    pub fn one_logical(self, stack: &[u32]) -> OneLogical
+    // An operand of not, or what is wrong with it.
+    pub fn one_logical(self, stack: &[u32]) -> Result<Logical<u32>, Error>
         requires { 2 * self.depth ≤ length stack.now }
         ensures fetches_one_logical { FetchesOneLogical self stack.now result }
         ensures result_bound { one_logical_low result ≤ self.depth }
     {
         let n = self.depth;
         if n < 1 {
-            return OneLogical::Bad(Error::StackUnderflow);
+            return Err(Error::StackUnderflow);
         }
         let i = STACK_WIDTH * (n - 1);
         let tag = stack[i];
         if tag == TAG_INTEGER {
-            return OneLogical::Word(stack[i + ITEM_PAYLOAD]);
+            return Ok(Logical::Words(stack[i + ITEM_PAYLOAD]));
         }
         if tag == TAG_BOOLEAN {
-            return OneLogical::Truth(stack[i + ITEM_PAYLOAD]);
+            return Ok(Logical::Truths(stack[i + ITEM_PAYLOAD]));
         }
-        OneLogical::Bad(Error::TypeCheck)
+        Err(Error::TypeCheck)
     }
 
-    pub fn two_logical(self, stack: &[u32]) -> TwoLogical
+    // Two operands of one kind, the upper one second, or what is wrong with them.
+    pub fn two_logical(self, stack: &[u32]) -> Result<Logical<(u32, u32)>, Error>
         requires { 2 * self.depth ≤ length stack.now }
         ensures fetches_two_logical { FetchesTwoLogical self stack.now result }
         ensures result_bound { two_logical_low result ≤ self.depth }
     {
         let n = self.depth;
         if n < 2 {
-            return TwoLogical::Bad(Error::StackUnderflow);
+            return Err(Error::StackUnderflow);
         }
         let i = STACK_WIDTH * (n - 2);
         let j = STACK_WIDTH * (n - 1);
         let tag = stack[i];
         if stack[j] != tag {
-            return TwoLogical::Bad(Error::TypeCheck);
+            return Err(Error::TypeCheck);
         }
         if tag == TAG_INTEGER {
-            return TwoLogical::Words(stack[i + ITEM_PAYLOAD], stack[j + ITEM_PAYLOAD]);
+            return Ok(Logical::Words((stack[i + ITEM_PAYLOAD], stack[j + ITEM_PAYLOAD])));
         }
         if tag == TAG_BOOLEAN {
-            return TwoLogical::Truths(stack[i + ITEM_PAYLOAD], stack[j + ITEM_PAYLOAD]);
+            return Ok(Logical::Truths((stack[i + ITEM_PAYLOAD], stack[j + ITEM_PAYLOAD])));
         }
-        TwoLogical::Bad(Error::TypeCheck)
+        Err(Error::TypeCheck)
     }
 
     // Takes n operands that name no object away, and pushes a result.
@@ -208,9 +238,7 @@ impl Machine {
         requires { (2 * self.depth ≤ length stack.old) × (1 ≤ n) × (n ≤ self.depth) }
         ensures { Replaces n tag payload self result stack.old stack.new }
     {
-        let i = STACK_WIDTH * (self.depth - n);
-        stack[i] = tag;
-        stack[i + ITEM_PAYLOAD] = payload;
+        set_item(stack, self.depth - n, Value { tag, pay: payload });
         self.depth = self.depth - n + 1;
         self
     }
@@ -222,8 +250,7 @@ impl Machine {
         ensures depth_value { result.depth ≡ self.depth + 1 }
     {
         let n = self.depth;
-        stack[STACK_WIDTH * n] = tag;
-        stack[STACK_WIDTH * n + ITEM_PAYLOAD] = payload;
+        set_item(stack, n, Value { tag, pay: payload });
         self.depth = n + 1;
         self
     }
@@ -248,50 +275,69 @@ impl Machine {
     {
         let k = self.depth - 1;
         let lists = self.lists;
-        let old = stack[STACK_WIDTH * k];
-        let was = stack[STACK_WIDTH * k + ITEM_PAYLOAD];
-        let left = recount(lists, cells, old, was, TAG_NULL, 0);
+        let old = item(stack, k);
+        let left = recount(lists, cells, old, NULL);
         self.depth = k;
         self.lists = left;
         self
     }
 
     // A copy of item i from the top is pushed.
-    pub fn push_copy(mut self, stack: &mut [u32], cells: &mut [u32], i: usize) -> Machine
+    pub fn push_copy(self, stack: &mut [u32], cells: &mut [u32], i: usize) -> Machine
         requires { (i < self.depth) × (2 * self.depth + 2 ≤ length stack.old) × Somewhere self stack.old cells.old }
         ensures moves_heap { MovesHeap (copied i) self result stack.old stack.new cells.old cells.new }
         ensures depth_value { result.depth ≡ self.depth + 1 }
     {
+        let new = item(stack, self.depth - 1 - i);
+        self.push_value(stack, cells, new)
+    }
+
+    // A copy of the value, which some place holds, is pushed.
+    // Ruled out: a copy whose object is not counted; the topmost item stored over.
+    #[inline(always)]
+    pub fn push_value(mut self, stack: &mut [u32], cells: &mut [u32], value: Value) -> Machine
+        requires { (2 * self.depth + 2 ≤ length stack.old) × HeldItems value.tag value.pay self stack.old cells.old }
+        ensures pushes_value { PushesValue value.tag value.pay self result stack.old stack.new cells.old cells.new }
+        ensures depth_value { (result.depth ≡ self.depth + 1) × (result.frames ≡ self.frames) }
+    {
         let n = self.depth;
-        let k = n - 1 - i;
         let lists = self.lists;
-        let tag = stack[STACK_WIDTH * k];
-        let pay = stack[STACK_WIDTH * k + ITEM_PAYLOAD];
-        let left = recount(lists, cells, TAG_NULL, 0, tag, pay);
-        stack[STACK_WIDTH * n] = tag;
-        stack[STACK_WIDTH * n + ITEM_PAYLOAD] = pay;
+        let left = recount(lists, cells, NULL, value);
+        set_item(stack, n, value);
         self.depth = n + 1;
         self.lists = left;
         self
     }
 
     // Item i gives way to a copy of item j.
-    pub fn copy_over(mut self, stack: &mut [u32], cells: &mut [u32], i: usize, j: usize) -> Machine
+    pub fn copy_over(self, stack: &mut [u32], cells: &mut [u32], i: usize, j: usize) -> Machine
         requires { (i < self.depth) × (j < self.depth) × Somewhere self stack.old cells.old }
         ensures moves_heap { MovesHeap (copied_over i j) self result stack.old stack.new cells.old cells.new }
         ensures depth_value { result.depth ≡ self.depth }
     {
-        let n = self.depth;
-        let k = n - 1 - i;
-        let o = n - 1 - j;
+        let new = item(stack, self.depth - 1 - j);
+        self.put_value(stack, cells, i, new)
+    }
+
+    // Item i gives way to a copy of the value, which some place holds.
+    // Ruled out: the item let go before the value is counted; another item stored over.
+    #[inline(always)]
+    pub fn put_value(
+        mut self,
+        stack: &mut [u32],
+        cells: &mut [u32],
+        i: usize,
+        value: Value,
+    ) -> Machine
+        requires { (i < self.depth) × HeldItems value.tag value.pay self stack.old cells.old }
+        ensures puts_value { PutsValue i value.tag value.pay self result stack.old stack.new cells.old cells.new }
+        ensures depth_value { result.depth ≡ self.depth }
+    {
+        let k = self.depth - 1 - i;
         let lists = self.lists;
-        let old = stack[STACK_WIDTH * k];
-        let was = stack[STACK_WIDTH * k + ITEM_PAYLOAD];
-        let tag = stack[STACK_WIDTH * o];
-        let pay = stack[STACK_WIDTH * o + ITEM_PAYLOAD];
-        let left = recount(lists, cells, old, was, tag, pay);
-        stack[STACK_WIDTH * k] = tag;
-        stack[STACK_WIDTH * k + ITEM_PAYLOAD] = pay;
+        let old = item(stack, k);
+        let left = recount(lists, cells, old, value);
+        set_item(stack, k, value);
         self.lists = left;
         self
     }
@@ -305,14 +351,10 @@ impl Machine {
         let n = self.depth;
         let k = n - 1 - i;
         let o = n - 1 - j;
-        let t = stack[STACK_WIDTH * k];
-        let p = stack[STACK_WIDTH * k + ITEM_PAYLOAD];
-        let u = stack[STACK_WIDTH * o];
-        let q = stack[STACK_WIDTH * o + ITEM_PAYLOAD];
-        stack[STACK_WIDTH * k] = u;
-        stack[STACK_WIDTH * k + ITEM_PAYLOAD] = q;
-        stack[STACK_WIDTH * o] = t;
-        stack[STACK_WIDTH * o + ITEM_PAYLOAD] = p;
+        let a = item(stack, k);
+        let b = item(stack, o);
+        set_item(stack, k, b);
+        set_item(stack, o, a);
         self
     }
 
@@ -324,10 +366,9 @@ impl Machine {
         ensures depth_value { (result.depth ≡ self.depth) × (result.frames ≡ self.frames - 1) }
     {
         let k = self.frames - 1;
-        let old = exec[EXEC_WIDTH * k + FRAME_TAG];
-        let was = exec[EXEC_WIDTH * k + FRAME_PAYLOAD];
+        let old = frame_value(exec, k);
         let lists = self.lists;
-        let left = recount(lists, cells, old, was, TAG_NULL, 0);
+        let left = recount(lists, cells, old, NULL);
         self.frames = k;
         self.lists = left;
         self
@@ -351,8 +392,8 @@ impl Machine {
     {
         let n = self.depth;
         let k = self.frames - 1;
-        stack[STACK_WIDTH * n] = exec[EXEC_WIDTH * k + FRAME_TAG];
-        stack[STACK_WIDTH * n + ITEM_PAYLOAD] = exec[EXEC_WIDTH * k + FRAME_PAYLOAD];
+        let value = frame_value(exec, k);
+        set_item(stack, n, value);
         self.depth = n + 1;
         self.frames = k;
         self
@@ -382,15 +423,62 @@ impl Machine {
     }
 }
 
-// A place that held the words (old, was) holds (tag, pay): the new object is counted before the old one is let go, so that an object that is both
-// stays.
-pub fn recount(s: Lists, cells: &mut [u32], old: u32, was: u32, tag: u32, pay: u32) -> Lists
-    requires { Placed s cells.old old was tag pay }
-    ensures { Recounts s cells.old old was tag pay result cells.new }
+// Item k from the bottom.
+// Ruled out: an item counted from the top; the payload read for the tag.
+#[inline(always)]
+pub fn item(stack: &[u32], k: usize) -> Value
+    requires { 2 * k + 2 ≤ length stack.now }
+    ensures { (result.tag ≡ item_tag stack.now k) × (result.pay ≡ item_payload stack.now k) }
 {
-    heap::increment(cells, tag, pay);
-    if FIRST_OBJECT <= old {
-        return heap::release(s, cells, was);
+    Value {
+        tag: stack[STACK_WIDTH * k],
+        pay: stack[STACK_WIDTH * k + ITEM_PAYLOAD],
+    }
+}
+
+// Item k from the bottom becomes the value; nothing is counted.
+// Ruled out: the tag alone stored; a word of another item changed.
+#[inline(always)]
+pub fn set_item(stack: &mut [u32], k: usize, value: Value)
+    requires { 2 * k + 2 ≤ length stack.old }
+    ensures { stack.new ≡ set (set stack.old (2 * k) value.tag) (2 * k + 1) value.pay }
+{
+    stack[STACK_WIDTH * k] = value.tag;
+    stack[STACK_WIDTH * k + ITEM_PAYLOAD] = value.pay;
+}
+
+// The value of execution slot k from the bottom.
+// Ruled out: the slot's kind read for the tag; the numbers of a loop read for the payload.
+#[inline(always)]
+pub fn frame_value(exec: &[u32], k: usize) -> Value
+    requires { 8 * k + 8 ≤ length exec.now }
+    ensures { (result.tag ≡ frame_tag exec.now k) × (result.pay ≡ frame_payload exec.now k) }
+{
+    Value {
+        tag: exec[EXEC_WIDTH * k + FRAME_TAG],
+        pay: exec[EXEC_WIDTH * k + FRAME_PAYLOAD],
+    }
+}
+
+// The value of execution slot k from the bottom becomes another; nothing is counted.
+// Ruled out: the slot's kind stored over; a word of another slot changed.
+#[inline(always)]
+pub fn set_frame_value(exec: &mut [u32], k: usize, value: Value)
+    requires { 8 * k + 8 ≤ length exec.old }
+    ensures { exec.new ≡ set (set exec.old (8 * k + 1) value.tag) (8 * k + 2) value.pay }
+{
+    exec[EXEC_WIDTH * k + FRAME_TAG] = value.tag;
+    exec[EXEC_WIDTH * k + FRAME_PAYLOAD] = value.pay;
+}
+
+// A place that held the old value holds the new one: the new object is counted before the old one is let go, so that an object that is both stays.
+pub fn recount(s: Lists, cells: &mut [u32], old: Value, new: Value) -> Lists
+    requires { Placed s cells.old old.tag old.pay new.tag new.pay }
+    ensures { Recounts s cells.old old.tag old.pay new.tag new.pay result cells.new }
+{
+    heap::increment(cells, new);
+    if FIRST_OBJECT <= old.tag {
+        return heap::release(s, cells, old.pay);
     }
     s
 }

@@ -1,9 +1,10 @@
 -- The shapes of and, or, xor and not: operands that are neither words nor truth values, two of one kind, and a result in their place.
 -- Assumes nothing.
+use Rattle.std.specs.Prelude.{Ok, Err}
 use mathlib.Core.Path.{◌≡◌, refl, sym, ap, ◌∙◌, subst}
 use mathlib.Core.Bool.{Bool, true, false, not, ◌&&◌, ◌||◌, beq}
 use mathlib.Core.List.{List, [], ◌∷◌}
-use Prim.Native.Nat.{ℕ, ◌-◌, ◌^◌, ◌≤◌}
+use Prim.Native.Nat.{ℕ, ◌-◌, ◌^◌, ◌≤◌, ◌<◌}
 use native.Mathlib.Omega.{arith}
 use lib.Bits.{bit_and, bit_or, bit_xor}
 use Rattle.semantics.specs.Values.{Value, integer, boolean, Result, ok, ◌>>=◌}
@@ -16,11 +17,9 @@ use Rattle.store.specs.Rep.{bit}
 use Rattle.machine.specs.Operands.{Scalar, an_integer, a_boolean, OneLogicalIs, TwoLogicalIs, FetchesOneLogical, FetchesTwoLogical, Replaces}
 use Rattle.machine.specs.Room.{lent, DoesStack}
 use Rattle.machine.specs.declared.Machine.{Machine}
-use Rattle.machine.specs.declared.Did.TheVariants.{Ok, Fail}
-use Rattle.machine.specs.declared.OneLogical.{OneLogical}
-use Rattle.machine.specs.declared.OneLogical.TheVariants as OneL
-use Rattle.machine.specs.declared.TwoLogical.{TwoLogical}
-use Rattle.machine.specs.declared.TwoLogical.TheVariants as TwoL
+use Rattle.machine.specs.declared.Logical.TheVariants.{Words, Truths}
+use Rattle.machine.specs.Answers.{OneLogical, TwoLogical}
+use Rattle.number_operators.specs.Steps.{StepsLogical}
 use Rattle.machine.proofs.Operands.{pop1_some, pop2_some}
 use Rattle.machine.proofs.Rooms.{fitted_fails}
 use Rattle.machine.proofs.Results.{result_fits}
@@ -56,50 +55,52 @@ not_bit false = refl
 
 -- ---- and, or, xor: f on words, g on truth values
 
-module _ (f : ℕ → ℕ → ℕ) (g : Bool → Bool → Bool) where
-  words_give : (μ : Floo.Machine) {a b : ℕ} {rest : List Value}
-      → μ.stack ≡ integer b ∷ integer a ∷ rest
-      → connective f g μ ≡ ok (push (integer (f a b)) (with_stack rest μ))
-  unfolding connective logical logical2 ◌>>=◌
-  words_give μ s = rw (pop2_some μ s)
+words_give : (f : ℕ → ℕ → ℕ) (g : Bool → Bool → Bool) (μ : Floo.Machine) {a b : ℕ} {rest : List Value}
+    → μ.stack ≡ integer b ∷ integer a ∷ rest
+    → connective f g μ ≡ ok (push (integer (f a b)) (with_stack rest μ))
+unfolding connective logical logical2 ◌>>=◌
+words_give f g μ s = rw (pop2_some μ s)
 
-  truths_give : (μ : Floo.Machine) {a b : Bool} {rest : List Value}
-      → μ.stack ≡ boolean b ∷ boolean a ∷ rest
-      → connective f g μ ≡ ok (push (boolean (g a b)) (with_stack rest μ))
-  unfolding connective logical logical2 ◌>>=◌
-  truths_give μ s = rw (pop2_some μ s)
+truths_give : (f : ℕ → ℕ → ℕ) (g : Bool → Bool → Bool) (μ : Floo.Machine) {a b : Bool} {rest : List Value}
+    → μ.stack ≡ boolean b ∷ boolean a ∷ rest
+    → connective f g μ ≡ ok (push (boolean (g a b)) (with_stack rest μ))
+unfolding connective logical logical2 ◌>>=◌
+truths_give f g μ s = rw (pop2_some μ s)
 
-  module _ {m : Machine} {st : List ℕ} {r : TwoLogical} (F : FetchesTwoLogical m st r)
-      (op : Floo.Machine → Result Floo.Machine) (is : (μ : Floo.Machine) → op μ ≡ connective f g μ) where
-    pub connective_bad : {e : Error} → r ≡ TwoL.Bad e → DoesStack op m st st (Fail e)
-    connective_bad q = record {
-      does = λ x d c l μ R. (fitted_fails (lent st x d c l) op μ (is μ ∙ subst (TwoLogicalIs μ) q (F.says x d c l μ R) f g), refl);
+module _ {post : ℕ → ℕ → ℕ → Type 0} {m : Machine} {st : List ℕ} {r : TwoLogical} (F : FetchesTwoLogical m st r) where
+  pub connective_bad : {e : Error} → r ≡ Err e → StepsLogical post m st st (Err e)
+  connective_bad q = record {
+    does = λ f g h agree. record {
+      does = λ x d c l μ R. (fitted_fails (lent st x d c l) (connective f g) μ (subst (TwoLogicalIs μ) q (F.says x d c l μ R) f g), refl);
+    };
+  }
+
+  module _ {a b w : ℕ} (la : a < 2 ^ 32) (lb : b < 2 ^ 32) (p : post a b w) {m' : Machine} {st' : List ℕ} where
+    pub connective_words : r ≡ Ok (Words (a, b)) → Replaces 2 1 w m m' st st' → StepsLogical post m st st' (Ok m')
+    connective_words q P = record {
+      does = λ f g h agree. record {
+        does = λ x d c l μ R.
+            let s = subst (TwoLogicalIs μ) q (F.says x d c l μ R) in
+            result_fits (connective f g) P an_integer (integer b ∷ integer a ∷ []) s.0 refl (omega arith) (cons integer_nameless (cons integer_nameless nil)) x d c l μ s.1
+            (words_give f g μ s.1 ∙ ap (λ z. ok (push (integer z) (with_stack s.0 μ))) (sym (h a b w la lb p)))
+            R;
+      };
     }
 
-    module _ {a b w : ℕ} (e : w ≡ f a b) {m' : Machine} {st' : List ℕ} where
-      pub connective_words : r ≡ TwoL.Words a b → Replaces 2 1 w m m' st st' → DoesStack op m st st' (Ok m')
-      connective_words q P =
-          record {
-            does = λ x d c l μ R.
-                let s = subst (TwoLogicalIs μ) q (F.says x d c l μ R) in
-                result_fits op P an_integer (integer b ∷ integer a ∷ []) s.0 refl (omega arith) (cons integer_nameless (cons integer_nameless nil)) x d c l μ s.1
-                (is μ ∙ words_give μ s.1 ∙ ap (λ z. ok (push (integer z) (with_stack s.0 μ))) (sym e))
-                R;
-          }
-
-      pub connective_truths : ((i j : Bool) → f (bit i) (bit j) ≡ bit (g i j)) → r ≡ TwoL.Truths a b → Replaces 2 2 w m m' st st' → DoesStack op m st st' (Ok m')
-      connective_truths agree q P =
-          record {
-            does = λ x d c l μ R.
-                let s = subst (TwoLogicalIs μ) q (F.says x d c l μ R) in
-                let i = s.0 in
-                let j = s.1 in
-                let word : w ≡ bit (g i j) = e ∙ ap (λ z. f z b) s.4 ∙ ap (f (bit i)) s.5 ∙ agree i j in
-                result_fits op P (subst (λ z. Scalar (boolean (g i j)) 2 z) (sym word) a_boolean) (boolean j ∷ boolean i ∷ []) s.2 refl (omega arith)
-                (cons boolean_nameless (cons boolean_nameless nil)) x d c l μ s.3
-                (is μ ∙ truths_give μ s.3)
-                R;
-          }
+    pub connective_truths : r ≡ Ok (Truths (a, b)) → Replaces 2 2 w m m' st st' → StepsLogical post m st st' (Ok m')
+    connective_truths q P = record {
+      does = λ f g h agree. record {
+        does = λ x d c l μ R.
+            let s = subst (TwoLogicalIs μ) q (F.says x d c l μ R) in
+            let i = s.0 in
+            let j = s.1 in
+            let word : w ≡ bit (g i j) = h a b w la lb p ∙ ap (λ z. f z b) s.4 ∙ ap (f (bit i)) s.5 ∙ agree i j in
+            result_fits (connective f g) P (subst (λ z. Scalar (boolean (g i j)) 2 z) (sym word) a_boolean) (boolean j ∷ boolean i ∷ []) s.2 refl (omega arith)
+            (cons boolean_nameless (cons boolean_nameless nil)) x d c l μ s.3
+            (truths_give f g μ s.3)
+            R;
+      };
+    }
 
 -- ---- not
 
@@ -113,13 +114,13 @@ truth_gives μ s = rw (pop1_some μ s)
 
 module _ {m : Machine} {st : List ℕ} {r : OneLogical} (F : FetchesOneLogical m st r)
     (op : Floo.Machine → Result Floo.Machine) (is : (μ : Floo.Machine) → op μ ≡ negation μ) where
-  pub negation_bad : {e : Error} → r ≡ OneL.Bad e → DoesStack op m st st (Fail e)
+  pub negation_bad : {e : Error} → r ≡ Err e → DoesStack op m st st (Err e)
   negation_bad q = record {
     does = λ x d c l μ R. (fitted_fails (lent st x d c l) op μ (is μ ∙ subst (OneLogicalIs μ) q (F.says x d c l μ R)), refl);
   }
 
   module _ {a w : ℕ} {m' : Machine} {st' : List ℕ} where
-    pub negation_word : w ≡ (2 ^ 32 - 1) - a → r ≡ OneL.Word a → Replaces 1 1 w m m' st st' → DoesStack op m st st' (Ok m')
+    pub negation_word : w ≡ (2 ^ 32 - 1) - a → r ≡ Ok (Words a) → Replaces 1 1 w m m' st st' → DoesStack op m st st' (Ok m')
     negation_word e q P =
         record {
           does = λ x d c l μ R.
@@ -129,7 +130,7 @@ module _ {m : Machine} {st : List ℕ} {r : OneLogical} (F : FetchesOneLogical m
               R;
         }
 
-    pub negation_truth : w ≡ bit_xor a 1 → r ≡ OneL.Truth a → Replaces 1 2 w m m' st st' → DoesStack op m st st' (Ok m')
+    pub negation_truth : w ≡ bit_xor a 1 → r ≡ Ok (Truths a) → Replaces 1 2 w m m' st st' → DoesStack op m st st' (Ok m')
     negation_truth e q P =
         record {
           does = λ x d c l μ R.

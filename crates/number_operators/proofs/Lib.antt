@@ -1,4 +1,3 @@
 pub mod Shapes
 pub mod Named
-pub mod Divisions
 pub mod Connectives

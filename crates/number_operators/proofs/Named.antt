@@ -1,7 +1,7 @@
 -- The definition's operator of each name, in the shape that the laws of `Shapes` speak of.
 -- Assumes nothing.
 use mathlib.Core.Path.{◌≡◌, refl}
-use mathlib.Core.Bool.{Bool, true, false, not, ◌&&◌, ◌||◌, beq}
+use mathlib.Core.Bool.{not, ◌&&◌, ◌||◌, beq}
 use mathlib.Core.Option.{some}
 use lib.IntN.{pos, neg_ℤ, nat_abs, ◌+ℤ◌, ◌-ℤ◌, ◌*ℤ◌}
 use lib.Signed.{lt_z, le_z, quot_z, rem_z}
@@ -11,9 +11,9 @@ use Rattle.semantics.specs.Values.{ok}
 use Rattle.semantics.specs.Machine.{Machine}
 use Rattle.semantics.specs.NumberOperators.{division}
 use Rattle.semantics.specs.Operators.{perform, find, table, ◌is◌}
-use Rattle.semantics.specs.NumberOperators.{arithmetic, arithmetic1, comparison, bitshift, ones_in, pegs, connective, negation}
-use Rattle.number_operators.proofs.Shapes.{on_two, on_one, computing, computing1, comparing, shifting, pegging}
-use Rattle.number_operators.specs.Pegs.{peg_name, peg_in}
+use Rattle.semantics.specs.NumberOperators.{arithmetic, arithmetic1, comparison, bitshift, ones_in, lowest_in, highest_in, pegs, connective, negation}
+use Rattle.machine.specs.Operands.{on_one, on_two}
+use Rattle.number_operators.proofs.Shapes.{computing, computing1, comparing, shifting, pegging}
 
 pub add_is : (μ : Machine) → perform (bytes "add") μ ≡ on_two (computing (λ x y. ok (x +ℤ y))) μ
 unfolding textual perform find table ◌is◌ arithmetic
@@ -59,10 +59,13 @@ pub ones_is : (μ : Machine) → perform (bytes "ones") μ ≡ on_one (pegging (
 unfolding textual perform find table ◌is◌ pegs
 ones_is μ = refl
 
-pub peg_is : (highest : Bool) (μ : Machine) → perform (peg_name highest) μ ≡ on_one (pegging (peg_in highest)) μ
+pub lowpeg_is : (μ : Machine) → perform (bytes "lowpeg") μ ≡ on_one (pegging (lowest_in 32)) μ
 unfolding textual perform find table ◌is◌ pegs
-peg_is true μ = refl
-peg_is false μ = refl
+lowpeg_is μ = refl
+
+pub highpeg_is : (μ : Machine) → perform (bytes "highpeg") μ ≡ on_one (pegging (highest_in 32)) μ
+unfolding textual perform find table ◌is◌ pegs
+highpeg_is μ = refl
 
 pub idiv_is : (μ : Machine) → perform (bytes "idiv") μ ≡ on_two (computing (division quot_z)) μ
 unfolding textual perform find table ◌is◌ arithmetic

@@ -1,1 +1,2 @@
 pub mod Pegs
+pub mod Steps

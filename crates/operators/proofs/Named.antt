@@ -1,5 +1,6 @@
 -- The operator of a number is that of its name.
 -- Assumes nothing.
+use Rattle.std.specs.Prelude.{Ok, Err}
 use mathlib.Core.Path.{◌≡◌, refl, subst, sym, ap, ◌∙◌}
 use mathlib.Core.Bool.{Bool, true, false}
 use mathlib.Core.List.{List, []}
@@ -16,8 +17,7 @@ use Rattle.heap.proofs.Upds.{same?}
 use Rattle.store.specs.Rep.{titles}
 use Rattle.machine.specs.Room.{DoesStack, DoesHeap}
 use Rattle.machine.specs.declared.Machine.{Machine}
-use Rattle.machine.specs.declared.Did.{Did}
-use Rattle.machine.specs.declared.Did.TheVariants.{Ok, Fail}
+use Rattle.machine.specs.Answers.{Did}
 use Rattle.control_operators.specs.Promises.{DoesState, DoesCells, DoesFrames}
 use Rattle.dictionary_operators.specs.Promises.{DoesDictionary}
 use Rattle.equality.specs.Comparing.{name_of}
@@ -46,22 +46,22 @@ cells_named {m} {r} {k} j n q t {e} {c} {c'} D = subst (λ f. DoesCells f m e c 
 
 -- A promise that leaves words out is one for all such words.
 pub stack_does : {f : Floo.Machine → Result Floo.Machine} {m : Machine} {s s' : List ℕ} (r : Did) → DoesStack f m s s' r → (c : List ℕ) → DoesHeap f m s s' c c r
-stack_does (Fail x) D c = record { does = λ e d l μ R. let a = D.does e d c l μ R in (a.0, (a.1, refl)) }
+stack_does (Err x) D c = record { does = λ e d l μ R. let a = D.does e d c l μ R in (a.0, (a.1, refl)) }
 stack_does (Ok m') D c = record { does = λ e d l μ R. D.does e d c l μ R }
 
 pub state_cells : {f : Floo.Machine → Result Floo.Machine} {m : Machine} (r : Did) → DoesState f m r → (e c : List ℕ) → DoesCells f m e c c r
-state_cells (Fail x) D e c = record { does = λ s d l μ R. ((D.does s e d c l μ R).0, refl) }
+state_cells (Err x) D e c = record { does = λ s d l μ R. ((D.does s e d c l μ R).0, refl) }
 state_cells (Ok m') D e c = record { does = λ s d l μ R. D.does s e d c l μ R }
 
 pub heap_dictionary : {f : Floo.Machine → Result Floo.Machine} {m : Machine} {s s' c c' : List ℕ} (r : Did) → DoesHeap f m s s' c c' r → (d : List ℕ) → DoesDictionary f m s s' d d c c' r
-heap_dictionary (Fail x) D d = record { does = λ e l μ R. let a = D.does e d l μ R in (a.0, (a.1.0, refl, a.1.1)) }
+heap_dictionary (Err x) D d = record { does = λ e l μ R. let a = D.does e d l μ R in (a.0, (a.1.0, refl, a.1.1)) }
 heap_dictionary (Ok m') D d = record { does = λ e l μ R. D.does e d l μ R }
 
 pub stack_dictionary : {f : Floo.Machine → Result Floo.Machine} {m : Machine} {s s' : List ℕ} (r : Did) → DoesStack f m s s' r → (d c : List ℕ) → DoesDictionary f m s s' d d c c r
 stack_dictionary r D d c = heap_dictionary r (stack_does r D c) d
 
 pub named_dictionary : {f : Floo.Machine → Result Floo.Machine} {m : Machine} {s s' d c c' : List ℕ} (r : Did) → DoesNamedHeap f m s s' d c c' r → DoesDictionary f m s s' d d c c' r
-named_dictionary (Fail x) D = record { does = λ e l μ R. let a = D.does e l μ R in (a.0, (a.1.0, refl, a.1.1)) }
+named_dictionary (Err x) D = record { does = λ e l μ R. let a = D.does e l μ R in (a.0, (a.1.0, refl, a.1.1)) }
 named_dictionary (Ok m') D = record { does = λ e l μ R. D.does e l μ R }
 
 pub dictionary_named : {m : Machine} {s s' d d' c c' : List ℕ} {r : Did} {k : ℕ} (j : ℕ) (n : List ℕ)
@@ -72,7 +72,7 @@ pub dictionary_named : {m : Machine} {s s' d d' c c' : List ℕ} {r : Did} {k : 
 dictionary_named {m} {s} {s'} {d} {d'} {c} {c'} {r} {k} j n e t D = subst (λ f. DoesDictionary f m s s' d d' c c' r) (named k j n e t) D
 
 pub heap_frames : {f : Floo.Machine → Result Floo.Machine} {m : Machine} {s s' c c' : List ℕ} (r : Did) → DoesHeap f m s s' c c' r → (e : List ℕ) → DoesFrames f m s s' e e c c' r
-heap_frames (Fail x) D e = record { does = λ d l μ R. let a = D.does e d l μ R in (a.0, (a.1.0, refl, a.1.1)) }
+heap_frames (Err x) D e = record { does = λ d l μ R. let a = D.does e d l μ R in (a.0, (a.1.0, refl, a.1.1)) }
 heap_frames (Ok m') D e = record { does = λ d l μ R. D.does e d l μ R }
 
 -- The same of an answer that was made anew.
@@ -106,13 +106,13 @@ peg_name_lem = paired_name 58 peg_name refl refl
 -- A log that is not lent.
 pub log_same : (l : List ℕ) (r : Did) → LogRest l l r
 log_same l (Ok m) = refl
-log_same l (Fail x) = tt
+log_same l (Err x) = tt
 
 pub dictionary_all : {f : Floo.Machine → Result Floo.Machine} {m : Machine} {s s' d d' c c' : List ℕ} (r : Did)
     → DoesDictionary f m s s' d d' c c' r
     → (e l : List ℕ)
     → DoesAll f m s s' e e d d' c c' l l r
-dictionary_all (Fail x) D e l = record { does = λ μ R. let a = D.does e l μ R in (a.0, (a.1.0, refl, a.1.1, a.1.2, refl)); rest = log_same l (Fail x) }
+dictionary_all (Err x) D e l = record { does = λ μ R. let a = D.does e l μ R in (a.0, (a.1.0, refl, a.1.1, a.1.2, refl)); rest = log_same l (Err x) }
 dictionary_all (Ok m') D e l = record { does = λ μ R. D.does e l μ R; rest = log_same l (Ok m') }
 
 pub heap_all : {f : Floo.Machine → Result Floo.Machine} {m : Machine} {s s' c c' : List ℕ} (r : Did)
@@ -131,7 +131,7 @@ pub frames_all : {f : Floo.Machine → Result Floo.Machine} {m : Machine} {s s' 
     → DoesFrames f m s s' e e' c c' r
     → (d l : List ℕ)
     → DoesAll f m s s' e e' d d c c' l l r
-frames_all (Fail x) D d l = record { does = λ μ R. let a = D.does d l μ R in (a.0, (a.1.0, a.1.1, refl, a.1.2, refl)); rest = log_same l (Fail x) }
+frames_all (Err x) D d l = record { does = λ μ R. let a = D.does d l μ R in (a.0, (a.1.0, a.1.1, refl, a.1.2, refl)); rest = log_same l (Err x) }
 frames_all (Ok m') D d l = record { does = λ μ R. D.does d l μ R; rest = log_same l (Ok m') }
 
 pub log_named : {m : Machine} {s d c c' l l' : List ℕ} {r : Did} {k : ℕ} (j : ℕ) (n : List ℕ)
@@ -145,5 +145,5 @@ pub log_all : {f : Floo.Machine → Result Floo.Machine} {m : Machine} {s d c c'
     → DoesLog f m s d c c' l l' r
     → (e : List ℕ)
     → DoesAll f m s s e e d d c c' l l' r
-log_all (Fail x) D e = record { does = λ μ R. let a = D.does e μ R in (a.0, (refl, refl, refl, a.1.0, a.1.1)); rest = D.rest }
+log_all (Err x) D e = record { does = λ μ R. let a = D.does e μ R in (a.0, (refl, refl, refl, a.1.0, a.1.1)); rest = D.rest }
 log_all (Ok m') D e = record { does = λ μ R. D.does e μ R; rest = D.rest }

@@ -8,7 +8,7 @@ use Rattle.store.specs.Rep.{titles}
 use Rattle.machine.specs.Rep.{Rep, Answer}
 use Rattle.machine.specs.Room.{lent, fitted}
 use Rattle.machine.specs.declared.Machine.{Machine}
-use Rattle.machine.specs.declared.Did.{Did}
+use Rattle.machine.specs.Answers.{Did}
 use Rattle.output_operators.specs.Output.{LogRest}
 
 -- The operator of number k.

@@ -13,13 +13,14 @@ ghost use Rattle.dictionary_operators.specs.Promises.{Represented, DoesDictionar
 ghost use Rattle.output_operators.specs.Output.{SomewhereLog, DoesLog};
 ghost use Rattle.operators.specs.Titles.{perform_at, Everywhere, DoesAll, EverywhereButLog, DoesButLog};
 
-use machine::{Did, Machine};
+use machine::Machine;
+use semantics::Error;
 
 // The number of getinterval, the first of the operators that a run meets seldom.
 pub const RARE: u32 = 42;
 
 // add, sub, mul, idiv, mod and abs.
-fn arithmetic(k: u32, m: Machine, stack: &mut [u32]) -> Did
+fn arithmetic(k: u32, m: Machine, stack: &mut [u32]) -> Result<Machine, Error>
     requires { (6 ≤ k) × (k < 12) × (2 * m.depth ≤ length stack.old) }
     ensures { DoesStack (perform_at k) m stack.old stack.new result }
 {
@@ -34,7 +35,7 @@ fn arithmetic(k: u32, m: Machine, stack: &mut [u32]) -> Did
 }
 
 // neg, bitshift, not, and, or and xor.
-fn bits(k: u32, m: Machine, stack: &mut [u32]) -> Did
+fn bits(k: u32, m: Machine, stack: &mut [u32]) -> Result<Machine, Error>
     requires { (12 ≤ k) × (k < 18) × (2 * m.depth ≤ length stack.old) }
     ensures { DoesStack (perform_at k) m stack.old stack.new result }
 {
@@ -49,7 +50,7 @@ fn bits(k: u32, m: Machine, stack: &mut [u32]) -> Did
 }
 
 // lt, le, gt and ge.
-fn comparisons(k: u32, m: Machine, stack: &mut [u32]) -> Did
+fn comparisons(k: u32, m: Machine, stack: &mut [u32]) -> Result<Machine, Error>
     requires { (20 ≤ k) × (k < 24) × (2 * m.depth ≤ length stack.old) }
     ensures { DoesStack (perform_at k) m stack.old stack.new result }
 {
@@ -62,7 +63,12 @@ fn comparisons(k: u32, m: Machine, stack: &mut [u32]) -> Did
 }
 
 // dup, exch, pop, index, copy and roll.
-fn rearrangements(k: u32, m: Machine, stack: &mut [u32], cells: &mut [u32]) -> Did
+fn rearrangements(
+    k: u32,
+    m: Machine,
+    stack: &mut [u32],
+    cells: &mut [u32],
+) -> Result<Machine, Error>
     requires { (k < 6) × StackSomewhere m stack.old cells.old }
     ensures { DoesHeap (perform_at k) m stack.old stack.new cells.old cells.new result }
 {
@@ -77,7 +83,13 @@ fn rearrangements(k: u32, m: Machine, stack: &mut [u32], cells: &mut [u32]) -> D
 }
 
 // exec, if, ifelse, loop, repeat and for.
-fn bodies(k: u32, m: Machine, stack: &[u32], exec: &mut [u32], cells: &mut [u32]) -> Did
+fn bodies(
+    k: u32,
+    m: Machine,
+    stack: &[u32],
+    exec: &mut [u32],
+    cells: &mut [u32],
+) -> Result<Machine, Error>
     requires { (27 ≤ k) × (k < 33) × SomewhereAll m stack.now exec.old cells.old }
     ensures { DoesFrames (perform_at k) m stack.now stack.now exec.old exec.new cells.old cells.new result }
 {
@@ -92,7 +104,7 @@ fn bodies(k: u32, m: Machine, stack: &[u32], exec: &mut [u32], cells: &mut [u32]
 }
 
 // exit, continue and stop.
-fn endings(k: u32, m: Machine, exec: &[u32], cells: &mut [u32]) -> Did
+fn endings(k: u32, m: Machine, exec: &[u32], cells: &mut [u32]) -> Result<Machine, Error>
     requires { (33 ≤ k) × (k < 36) × Somewhere m exec.now cells.old }
     ensures { DoesCells (perform_at k) m exec.now cells.old cells.new result }
 {
@@ -104,7 +116,7 @@ fn endings(k: u32, m: Machine, exec: &[u32], cells: &mut [u32]) -> Did
 }
 
 // eq and ne.
-fn equalities(k: u32, m: Machine, stack: &mut [u32], cells: &mut [u32]) -> Did
+fn equalities(k: u32, m: Machine, stack: &mut [u32], cells: &mut [u32]) -> Result<Machine, Error>
     requires { (18 ≤ k) × (k < 20) × StackSomewhere m stack.old cells.old }
     ensures { DoesHeap (perform_at k) m stack.old stack.new cells.old cells.new result }
 {
@@ -112,7 +124,7 @@ fn equalities(k: u32, m: Machine, stack: &mut [u32], cells: &mut [u32]) -> Did
 }
 
 // array, mark, ], length, get and put.
-fn arrays(k: u32, m: Machine, stack: &mut [u32], cells: &mut [u32]) -> Did
+fn arrays(k: u32, m: Machine, stack: &mut [u32], cells: &mut [u32]) -> Result<Machine, Error>
     requires { (36 ≤ k) × (k < 42) × StackSomewhere m stack.old cells.old }
     ensures { DoesHeap (perform_at k) m stack.old stack.new cells.old cells.new result }
 {
@@ -127,7 +139,7 @@ fn arrays(k: u32, m: Machine, stack: &mut [u32], cells: &mut [u32]) -> Did
 }
 
 // getinterval, putinterval, aload, astore and string.
-fn intervals(k: u32, m: Machine, stack: &mut [u32], cells: &mut [u32]) -> Did
+fn intervals(k: u32, m: Machine, stack: &mut [u32], cells: &mut [u32]) -> Result<Machine, Error>
     requires { (42 ≤ k) × (k < 47) × StackSomewhere m stack.old cells.old }
     ensures { DoesHeap (perform_at k) m stack.old stack.new cells.old cells.new result }
 {
@@ -141,7 +153,13 @@ fn intervals(k: u32, m: Machine, stack: &mut [u32], cells: &mut [u32]) -> Did
 }
 
 // def, load and bind.
-fn bindings(k: u32, m: Machine, stack: &mut [u32], dict: &mut [u32], cells: &mut [u32]) -> Did
+fn bindings(
+    k: u32,
+    m: Machine,
+    stack: &mut [u32],
+    dict: &mut [u32],
+    cells: &mut [u32],
+) -> Result<Machine, Error>
     requires { (24 ≤ k) × (k < 27) × Represented m stack.old dict.old cells.old }
     ensures { DoesDictionary (perform_at k) m stack.old stack.new dict.old dict.new cells.old cells.new result }
 {
@@ -153,7 +171,13 @@ fn bindings(k: u32, m: Machine, stack: &mut [u32], dict: &mut [u32], cells: &mut
 }
 
 // The operators below exec: those that touch stack, dictionary and cells alone.
-fn lower(k: u32, m: Machine, stack: &mut [u32], dict: &mut [u32], cells: &mut [u32]) -> Did
+fn lower(
+    k: u32,
+    m: Machine,
+    stack: &mut [u32],
+    dict: &mut [u32],
+    cells: &mut [u32],
+) -> Result<Machine, Error>
     requires { (k < 27) × Represented m stack.old dict.old cells.old }
     ensures { DoesDictionary (perform_at k) m stack.old stack.new dict.old dict.new cells.old cells.new result }
 {
@@ -183,7 +207,7 @@ fn outputs(
     dict: &[u32],
     cells: &mut [u32],
     log: &mut [u8],
-) -> Did
+) -> Result<Machine, Error>
     requires { (51 ≤ k) × (k < 54) × SomewhereLog m stack.now dict.now cells.old log.old }
     ensures { DoesLog (perform_at k) m stack.now dict.now cells.old cells.new log.old log.new result }
 {
@@ -195,7 +219,13 @@ fn outputs(
 }
 
 // cvs, cvx, cvlit and cvn.
-fn converters(k: u32, m: Machine, stack: &mut [u32], dict: &mut [u32], cells: &mut [u32]) -> Did
+fn converters(
+    k: u32,
+    m: Machine,
+    stack: &mut [u32],
+    dict: &mut [u32],
+    cells: &mut [u32],
+) -> Result<Machine, Error>
     requires { (47 ≤ k) × (k < 51) × Represented m stack.old dict.old cells.old }
     ensures { DoesDictionary (perform_at k) m stack.old stack.new dict.old dict.new cells.old cells.new result }
 {
@@ -208,7 +238,13 @@ fn converters(k: u32, m: Machine, stack: &mut [u32], dict: &mut [u32], cells: &m
 }
 
 // onerror, errorname and command.
-fn errors(k: u32, m: Machine, stack: &mut [u32], dict: &mut [u32], cells: &mut [u32]) -> Did
+fn errors(
+    k: u32,
+    m: Machine,
+    stack: &mut [u32],
+    dict: &mut [u32],
+    cells: &mut [u32],
+) -> Result<Machine, Error>
     requires { (54 ≤ k) × (k < 57) × Represented m stack.old dict.old cells.old }
     ensures { DoesDictionary (perform_at k) m stack.old stack.new dict.old dict.new cells.old cells.new result }
 {
@@ -220,7 +256,7 @@ fn errors(k: u32, m: Machine, stack: &mut [u32], dict: &mut [u32], cells: &mut [
 }
 
 // ones, lowpeg and highpeg.
-fn pegs(k: u32, m: Machine, stack: &mut [u32]) -> Did
+fn pegs(k: u32, m: Machine, stack: &mut [u32]) -> Result<Machine, Error>
     requires { (57 ≤ k) × (k < 60) × (2 * m.depth ≤ length stack.old) }
     ensures { DoesStack (perform_at k) m stack.old stack.new result }
 {
@@ -231,7 +267,13 @@ fn pegs(k: u32, m: Machine, stack: &mut [u32]) -> Did
 }
 
 // The operators from exec to put.
-fn upper(k: u32, m: Machine, stack: &mut [u32], exec: &mut [u32], cells: &mut [u32]) -> Did
+fn upper(
+    k: u32,
+    m: Machine,
+    stack: &mut [u32],
+    exec: &mut [u32],
+    cells: &mut [u32],
+) -> Result<Machine, Error>
     requires { (27 ≤ k) × (k < 42) × SomewhereAll m stack.old exec.old cells.old }
     ensures { DoesFrames (perform_at k) m stack.old stack.new exec.old exec.new cells.old cells.new result }
 {
@@ -253,7 +295,7 @@ pub fn frequent(
     exec: &mut [u32],
     dict: &mut [u32],
     cells: &mut [u32],
-) -> Did
+) -> Result<Machine, Error>
     requires { (k < 42) × EverywhereButLog m stack.old exec.old dict.old cells.old }
     ensures { DoesButLog (perform_at k) m stack.old stack.new exec.old exec.new dict.old dict.new cells.old cells.new result }
 {
@@ -273,7 +315,7 @@ pub fn rare(
     dict: &mut [u32],
     cells: &mut [u32],
     log: &mut [u8],
-) -> Did
+) -> Result<Machine, Error>
     requires { (42 ≤ k) × (k < operator_count) × Everywhere m stack.old exec.old dict.old cells.old log.old }
     ensures { DoesAll (perform_at k) m stack.old stack.new exec.old exec.new dict.old dict.new cells.old cells.new log.old log.new result }
 {
@@ -296,11 +338,11 @@ pub fn rare(
 }
 
 // The same answer, made anew field by field: the compiler then keeps the fields of the state apart.
-pub fn settled(did: Did) -> Did
+pub fn settled(did: Result<Machine, Error>) -> Result<Machine, Error>
     ensures { result ≡ did }
 {
     match did {
-        Did::Ok(m) => Did::Ok(m.fields()),
-        Did::Fail(e) => Did::Fail(e),
+        Ok(m) => Ok(m.fields()),
+        Err(e) => Err(e),
     }
 }

@@ -6,7 +6,6 @@ use mathlib.Core.List.{List, [], ◌∷◌, ◌++◌, map, append_assoc}
 use mathlib.Core.Option.{some}
 use Prim.Native.Nat.{ℕ, zero, suc, ◌<◌}
 use native.Mathlib.Omega.{arith}
-use borrow.Author.Tests.{ne_eqb}
 use lib.ListN.{length, get_elem?}
 use Rattle.semantics.specs.Text.{bytes, decimal}
 use Rattle.semantics.specs.Values.{Value, integer, boolean, null, mark, operator, name, string, array}
@@ -15,22 +14,8 @@ use Rattle.semantics.specs.Machine.{object, elements_of}
 use Rattle.semantics.specs.Printing.{item, shown, echoed_to, name_text, escaped, name_byte}
 use Rattle.semantics.specs.Operators.{table, ◌is◌}
 use Rattle.store.specs.Rep.{titles}
-use Rattle.text.specs.Writing.{Written}
-use Rattle.text.proofs.Pasting.{nothing, respelt}
 use Rattle.elements.specs.Elements.{tag_of}
 use Rattle.outcome.specs.Reports.{kind_text, sizes_text}
-
--- ---- by the tag
-
--- Null has nothing before it.
-pub kind_none : (t : ℕ) → (t ≡ 1 → ⊥) → (t ≡ 2 → ⊥) → (t ≡ 3 → ⊥) → (t ≡ 4 → ⊥) → (t ≡ 5 → ⊥) → (t ≡ 6 → ⊥) → (t ≡ 8 → ⊥) → (t ≡ 9 → ⊥) → (t ≡ 10 → ⊥)
-    → kind_text t ≡ []
-unfolding kind_text
-kind_none t a b c d e f g h i =
-    rw (ne_eqb t 1 a, ne_eqb t 2 b, ne_eqb t 3 c, ne_eqb t 4 d, ne_eqb t 5 e, ne_eqb t 6 f, ne_eqb t 8 g, ne_eqb t 9 h, ne_eqb t 10 i) refl
-
-pub none_written : (t : ℕ) {at : ℕ} {out : List ℕ} → kind_text t ≡ [] → Written at (kind_text t) out out at
-none_written t {at} {out} e = respelt e (nothing at out)
 
 -- ---- the operators' names have no byte to escape
 

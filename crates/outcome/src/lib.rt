@@ -2,7 +2,7 @@
 // the stack's items, the bottom first. What is written are the definition's bytes, in every machine that the words stand for.
 #![tactic(auto)]
 
-ghost use Rattle.std.specs.Prelude.{◌+◌, ◌*◌, ◌≤◌, ◌<◌, length};
+ghost use Rattle.std.specs.Prelude.{◌≡◌, ◌+◌, ◌*◌, ◌≤◌, ◌<◌, length};
 ghost use Rattle.semantics.specs.Sizes.{item_room};
 ghost use Rattle.semantics.specs.Text.{bytes};
 ghost use Rattle.semantics.specs.Errors.{error_text, fault_text, where_text};
@@ -87,39 +87,53 @@ fn write_misread(fault: Fault, out: &mut [u8]) -> usize
     text::copy(out, after, b"\ncommand=\n")
 }
 
-// The paper's name of a fault.
 fn write_fault(out: &mut [u8], at: usize, fault: Fault) -> usize
     requires { at + 10 ≤ length out.old }
     ensures { Written at (fault_text fault) out.old out.new result }
 {
+    text::copy(out, at, fault_name(fault))
+}
+
+// The same as bytes.
+#[tactic(auto, unfolding(semantics::specs::Errors::fault_text, semantics::specs::Text::bytes))]
+fn fault_name(fault: Fault) -> &'static [u8]
+    ensures { result.now ≡ fault_text fault }
+{
     match fault {
-        Fault::BadNumber(_) => text::copy(out, at, b"badnumber"),
-        Fault::BadEscape(_) => text::copy(out, at, b"badescape"),
-        Fault::OpenString(_) => text::copy(out, at, b"openstring"),
-        Fault::BadBrace(_) => text::copy(out, at, b"badbrace"),
-        Fault::BadByte(_) => text::copy(out, at, b"badbyte"),
-        Fault::OverLimit => text::copy(out, at, b"limitcheck"),
+        Fault::BadNumber(_) => b"badnumber",
+        Fault::BadEscape(_) => b"badescape",
+        Fault::OpenString(_) => b"openstring",
+        Fault::BadBrace(_) => b"badbrace",
+        Fault::BadByte(_) => b"badbyte",
+        Fault::OverLimit => b"limitcheck",
     }
 }
 
-// The paper's name of an error.
 fn write_error(out: &mut [u8], at: usize, error: Error) -> usize
     requires { at + 17 ≤ length out.old }
     ensures { Written at (error_text error) out.old out.new result }
 {
+    text::copy(out, at, error_name(error))
+}
+
+// The same as bytes.
+#[tactic(auto, unfolding(semantics::specs::Errors::error_text, semantics::specs::Text::bytes))]
+fn error_name(error: Error) -> &'static [u8]
+    ensures { result.now ≡ error_text error }
+{
     match error {
-        Error::LimitCheck => text::copy(out, at, b"limitcheck"),
-        Error::Undefined => text::copy(out, at, b"undefined"),
-        Error::StackUnderflow => text::copy(out, at, b"stackunderflow"),
-        Error::TypeCheck => text::copy(out, at, b"typecheck"),
-        Error::InvalidAccess => text::copy(out, at, b"invalidaccess"),
-        Error::RangeCheck => text::copy(out, at, b"rangecheck"),
-        Error::UndefinedResult => text::copy(out, at, b"undefinedresult"),
-        Error::UnmatchedMark => text::copy(out, at, b"unmatchedmark"),
-        Error::ExecStackOverflow => text::copy(out, at, b"execstackoverflow"),
-        Error::StackOverflow => text::copy(out, at, b"stackoverflow"),
-        Error::VmError => text::copy(out, at, b"VMerror"),
-        Error::IoError => text::copy(out, at, b"ioerror"),
+        Error::LimitCheck => b"limitcheck",
+        Error::Undefined => b"undefined",
+        Error::StackUnderflow => b"stackunderflow",
+        Error::TypeCheck => b"typecheck",
+        Error::InvalidAccess => b"invalidaccess",
+        Error::RangeCheck => b"rangecheck",
+        Error::UndefinedResult => b"undefinedresult",
+        Error::UnmatchedMark => b"unmatchedmark",
+        Error::ExecStackOverflow => b"execstackoverflow",
+        Error::StackOverflow => b"stackoverflow",
+        Error::VmError => b"VMerror",
+        Error::IoError => b"ioerror",
     }
 }
 
@@ -167,11 +181,11 @@ fn write_place(out: &mut [u8], at: usize, fault: Fault) -> usize
     ensures { Written at (line (bytes "where") (where_text fault)) out.old out.new result }
 {
     match fault {
-        Fault::BadNumber(place) => text::write_number(out, at, b"where", place),
-        Fault::BadEscape(place) => text::write_number(out, at, b"where", place),
-        Fault::OpenString(place) => text::write_number(out, at, b"where", place),
-        Fault::BadBrace(place) => text::write_number(out, at, b"where", place),
-        Fault::BadByte(place) => text::write_number(out, at, b"where", place),
+        Fault::BadNumber(place)
+        | Fault::BadEscape(place)
+        | Fault::OpenString(place)
+        | Fault::BadBrace(place)
+        | Fault::BadByte(place) => text::write_number(out, at, b"where", place),
         Fault::OverLimit => text::copy(out, at, b"where=\n"),
     }
 }
@@ -203,9 +217,7 @@ fn write_items(
     ensures { WritesItems m stack.now dict.now cells.now at out.old out.new result }
 {
     let mut next = at;
-    let mut i = m.depth;
-    while 0 < i {
-        i = i - 1;
+    for i in (0..m.depth).rev() {
         next = write_item(m, stack, dict, cells, out, next, i);
     }
     next
@@ -263,39 +275,32 @@ fn write_value(
     printing::write(dict, cells, out, next, tag, pay, 0)
 }
 
-// What an item begins with, by its tag. Null is a word by itself.
+// What an item begins with, by its tag.
 fn write_kind(out: &mut [u8], at: usize, tag: u32) -> usize
     requires { at + 10 ≤ length out.old }
     ensures { Written at (kind_text tag) out.old out.new result }
 {
-    if tag == TAG_INTEGER {
-        return text::copy(out, at, b"integer:");
+    text::copy(out, at, kind_name(tag))
+}
+
+// The same as bytes. Null is a word by itself.
+#[tactic(auto, unfolding(crate::specs::Reports::kind_text, semantics::specs::Text::bytes))]
+fn kind_name(tag: u32) -> &'static [u8]
+    ensures is_text { result.now ≡ kind_text tag }
+    ensures short { length result.now ≤ 10 }
+{
+    match tag {
+        TAG_INTEGER => b"integer:",
+        TAG_BOOLEAN => b"boolean:",
+        TAG_MARK => b"mark",
+        TAG_OPERATOR => b"operator:",
+        TAG_LITERAL => b"name:",
+        TAG_EXECUTABLE => b"name:",
+        TAG_STRING => b"string:",
+        TAG_ARRAY => b"array:",
+        TAG_PROCEDURE => b"procedure:",
+        _ => b"",
     }
-    if tag == TAG_BOOLEAN {
-        return text::copy(out, at, b"boolean:");
-    }
-    if tag == TAG_MARK {
-        return text::copy(out, at, b"mark");
-    }
-    if tag == TAG_OPERATOR {
-        return text::copy(out, at, b"operator:");
-    }
-    if tag == TAG_LITERAL {
-        return text::copy(out, at, b"name:");
-    }
-    if tag == TAG_EXECUTABLE {
-        return text::copy(out, at, b"name:");
-    }
-    if tag == TAG_STRING {
-        return text::copy(out, at, b"string:");
-    }
-    if tag == TAG_ARRAY {
-        return text::copy(out, at, b"array:");
-    }
-    if tag == TAG_PROCEDURE {
-        return text::copy(out, at, b"procedure:");
-    }
-    at
 }
 
 // The current length and the maximum of the string that is item i.

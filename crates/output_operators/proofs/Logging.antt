@@ -1,6 +1,7 @@
 -- A text is written after what the log holds: the words and the longer log stand for the machine that has written it. And what an operator that writes shows
 -- at its returns: that the definition's operator fails, that there is no room for the text, or that the text has been written.
 -- Assumes nothing.
+use Rattle.std.specs.Prelude.{Ok, Err}
 use mathlib.Core.Path.{◌≡◌, refl, sym, ap, ◌∙◌, subst}
 use mathlib.Core.List.{List, ◌++◌}
 use Prim.Native.Nat.{ℕ, ◌+◌, ◌/◌, ◌≤◌, ◌<◌}
@@ -23,7 +24,6 @@ use Rattle.machine.specs.Places.{roots}
 use Rattle.machine.specs.Rep.{Rep, MovesHeap}
 use Rattle.machine.specs.Room.{lent, fitted}
 use Rattle.machine.specs.declared.Machine.{Machine}
-use Rattle.machine.specs.declared.Did.TheVariants.{Ok, Fail}
 use Rattle.machine.proofs.Rooms.{dictionary_fits, exec_fits, stack_fits, room_passes, logged_length, no_new_cells}
 use Rattle.machine.specs.Moves.{dropped}
 use Rattle.machine.proofs.Roots.{roots_alike}
@@ -99,7 +99,7 @@ room_log limits before after dictionary exec stack store log =
 -- ---- returns
 
 module _ {f : Floo.Machine → Result Floo.Machine} {m : Machine} {s d c l : List ℕ} where
-  pub fails_log : {x : Error} → ((e : List ℕ) (μ : Floo.Machine) → Rep m s e d c l μ → f μ ≡ fault x) → DoesLog f m s d c c l l (Fail x)
+  pub fails_log : {x : Error} → ((e : List ℕ) (μ : Floo.Machine) → Rep m s e d c l μ → f μ ≡ fault x) → DoesLog f m s d c c l l (Err x)
   unfolding fitted ◌>>=◌
   fails_log h = record { does = λ e μ R. (ap (λ q. q >>= room_for (lent s e d c l) μ) (h e μ R), (refl, refl)); rest = tt }
 
@@ -128,7 +128,7 @@ itself_keeps = record { dictionary = λ μ. refl; exec = λ μ. refl; stack = λ
 module _ {f : Floo.Machine → Result Floo.Machine} (g : Floo.Machine → Floo.Machine) (G : Keeps g) {m : Machine} {s d c l : List ℕ} where
   -- There is no room for the text.
   pub over_log : ((e : List ℕ) (μ : Floo.Machine) → Rep m s e d c l μ → (t : List ℕ) × (f μ ≡ ok (write t (g μ))) × (length l < m.written + length t))
-      → DoesLog f m s d c c l l (Fail IoError)
+      → DoesLog f m s d c c l l (Err IoError)
   unfolding fitted ◌>>=◌ lent write
   over_log h =
       record {

@@ -1,5 +1,6 @@
 -- What print and echo come to at each of their returns.
 -- Assumes nothing.
+use Rattle.std.specs.Prelude.{Ok, Err}
 use mathlib.Core.Path.{◌≡◌, sym, ◌∙◌}
 use mathlib.Core.List.{List, ◌∷◌, ◌++◌}
 use Prim.Native.Nat.{ℕ, ◌+◌, ◌-◌, ◌*◌, ◌≤◌, ◌<◌}
@@ -19,7 +20,6 @@ use Rattle.machine.specs.Words.{item_tag, item_payload}
 use Rattle.machine.specs.Rep.{Rep, IsIn, MovesHeap, Somewhere}
 use Rattle.machine.specs.Moves.{dropped}
 use Rattle.machine.specs.declared.Machine.{Machine}
-use Rattle.machine.specs.declared.Did.TheVariants.{Ok, Fail}
 use Rattle.machine.proofs.Copying.{word_of}
 use Rattle.machine.proofs.Outcomes.{stack_depth}
 use Rattle.elements.specs.Elements.{ItemTag, HasString, SomewhereThat}
@@ -40,10 +40,10 @@ pub stack_room : {m : Machine} {s d c l : List ℕ} → SomewhereLog m s d c l �
 stack_room w = w.2.rooms.stack_fits
 
 module _ {m : Machine} {s c l : List ℕ} (d : List ℕ) where
-  pub print_short : m.depth < 1 → DoesLog (perform (bytes "print")) m s d c c l l (Fail StackUnderflow)
+  pub print_short : m.depth < 1 → DoesLog (perform (bytes "print")) m s d c c l l (Err StackUnderflow)
   print_short h = fails_log (λ e μ R. print_under μ (omega (arith, h, stack_depth R)))
 
-  pub echo_short : m.depth < 1 → DoesLog (perform (bytes "echo")) m s d c c l l (Fail StackUnderflow)
+  pub echo_short : m.depth < 1 → DoesLog (perform (bytes "echo")) m s d c c l l (Err StackUnderflow)
   echo_short h = fails_log (λ e μ R. echo_under μ (omega (arith, h, stack_depth R)))
 
 module _ {m : Machine} {s : List ℕ} (some : 1 ≤ m.depth) where
@@ -53,7 +53,7 @@ module _ {m : Machine} {s : List ℕ} (some : 1 ≤ m.depth) where
   -- ---- print
 
   module _ {t : ℕ} (T : ItemTag 0 m s t) where
-    pub print_type : {c l : List ℕ} (d : List ℕ) → (t ≡ 8 → ⊥) → DoesLog (perform (bytes "print")) m s d c c l l (Fail TypeCheck)
+    pub print_type : {c l : List ℕ} (d : List ℕ) → (t ≡ 8 → ⊥) → DoesLog (perform (bytes "print")) m s d c c l l (Err TypeCheck)
     print_type {c} {l} d h =
         fails_log (λ e μ R. print_wrong μ (split R) (tag_no_string (get_or μ.stack 0 null) (λ q. h (T.says e d c l μ R ∙ q))))
 
@@ -67,7 +67,7 @@ module _ {m : Machine} {s : List ℕ} (some : 1 ≤ m.depth) where
           (w.0, d, l, w.1, w.2, record { id = i.0; item = i.1 })
 
       module _ {c l : List ℕ} (d : List ℕ) {n : ℕ} (Z : CurrentSize 0 m s c n) where
-        pub print_over : length l < m.written + n → DoesLog (perform (bytes "print")) m s d c c l l (Fail IoError)
+        pub print_over : length l < m.written + n → DoesLog (perform (bytes "print")) m s d c c l l (Err IoError)
         print_over h =
             over_log dropped dropped_keeps
             (λ e μ R.
@@ -110,7 +110,7 @@ module _ {m : Machine} {s : List ℕ} (some : 1 ≤ m.depth) where
       unfolding bytes
       longer {μ = μ} R = length-append (echoed μ (get_or μ.stack 0 null)) (bytes "\n")
 
-      pub echo_over : length l - m.written ≤ size → DoesLog (perform (bytes "echo")) m s d c c l l (Fail IoError)
+      pub echo_over : length l - m.written ≤ size → DoesLog (perform (bytes "echo")) m s d c c l l (Err IoError)
       echo_over h =
           over_log dropped dropped_keeps
           (λ e μ R.

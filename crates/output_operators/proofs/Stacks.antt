@@ -1,5 +1,6 @@
 -- What echostack comes to at each of its returns.
 -- Assumes nothing.
+use Rattle.std.specs.Prelude.{Ok, Err}
 use mathlib.Core.Path.{◌≡◌, refl, sym, ap, ◌∙◌}
 use mathlib.Core.Bool.{Bool, true, false}
 use mathlib.Core.List.{List, [], ◌∷◌, ◌++◌, map, reverse}
@@ -18,7 +19,6 @@ use Rattle.semantics.specs.declared.Error.TheVariants.{IoError}
 use Rattle.text.proofs.Pasting.{respelt, one}
 use Rattle.machine.specs.Rep.{Rep, MovesHeap}
 use Rattle.machine.specs.declared.Machine.{Machine}
-use Rattle.machine.specs.declared.Did.TheVariants.{Ok, Fail}
 use Rattle.machine.proofs.Outcomes.{stack_depth}
 use Rattle.output_operators.specs.Output.{DoesLog, SomewhereLog, line_of, FitsLine, LineRoom, WritesLine}
 use Rattle.output_operators.proofs.Logging.{with_written, past, over_log, writes_log, itself_keeps}
@@ -42,7 +42,7 @@ stays = record { moves = λ e d l μ R. R }
 
 module _ {m : Machine} {s d c l : List ℕ} where
   module _ (none : m.depth ≡ 0) where
-    pub none_over : length l - m.written < 1 → DoesLog (perform (bytes "echostack")) m s d c c l l (Fail IoError)
+    pub none_over : length l - m.written < 1 → DoesLog (perform (bytes "echostack")) m s d c c l l (Err IoError)
     none_over h =
         over_log (λ μ. μ) itself_keeps
         (λ e μ R. (line_of μ, line_done μ, omega (arith, h, R.logging.fits, ap length (line_none μ (stack_depth R ∙ none)))))
@@ -57,7 +57,7 @@ module _ {m : Machine} {s d c l : List ℕ} where
         past {at = m.written} (omega (arith, low)) (one {v = 10} low))
 
   module _ {r : Bool} (F : FitsLine m s d c (length l - m.written) r) where
-    pub line_over : r ≡ false → DoesLog (perform (bytes "echostack")) m s d c c l l (Fail IoError)
+    pub line_over : r ≡ false → DoesLog (perform (bytes "echostack")) m s d c c l l (Err IoError)
     line_over q =
         over_log (λ μ. μ) itself_keeps
         (λ e μ R.

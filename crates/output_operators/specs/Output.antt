@@ -1,6 +1,6 @@
 -- What an operator that writes to the log does.
 -- Assumes nothing.
-use Rattle.std.specs.Prelude.{◌≡◌, Bool, List, ◌++◌, map, reverse, ℕ, zero, suc, ◌+◌, ◌≤◌, length, get_or, drop, leb}
+use Rattle.std.specs.Prelude.{◌≡◌, Bool, List, ◌++◌, map, reverse, ℕ, zero, suc, ◌+◌, ◌≤◌, length, get_or, drop, leb, Ok, Err}
 use Rattle.semantics.specs.Text.{bytes}
 use Rattle.semantics.specs.Printing.{joined, echoed}
 use Rattle.semantics.specs.Values.{Result, null, string, current}
@@ -10,8 +10,7 @@ use Rattle.text.specs.Writing.{Written}
 use Rattle.machine.specs.Rep.{Rep, Answer}
 use Rattle.machine.specs.Room.{lent, fitted}
 use Rattle.machine.specs.declared.Machine.{Machine}
-use Rattle.machine.specs.declared.Did.{Did}
-use Rattle.machine.specs.declared.Did.TheVariants.{Ok, Fail}
+use Rattle.machine.specs.Answers.{Did}
 
 -- The words stand for some machine.
 abbrev pub SomewhereLog : Machine → List ℕ → List ℕ → List ℕ → List ℕ → Type 0
@@ -20,7 +19,7 @@ SomewhereLog m s d c l = (e : List ℕ) × (μ : Floo.Machine) × Rep m s e d c 
 -- The log past what is written is as before.
 abbrev pub LogRest : List ℕ → List ℕ → Did → Type 0
 LogRest l l' (Ok r) = drop r.written l' ≡ drop r.written l
-LogRest l l' (Fail e) = Unit {0}
+LogRest l l' (Err e) = Unit {0}
 
 -- An operator that reads the words of stack and dictionary, and touches the cells' words and the log's bytes, does f where there is room, or fails as f and
 -- the test of room do.

@@ -9,42 +9,48 @@ ghost use Rattle.elements.specs.Elements.{HasString, SomewhereThat};
 ghost use Rattle.strings.specs.Strings.{CurrentSize};
 ghost use Rattle.output_operators.specs.Output.{DoesLog, SomewhereLog, CopiesCurrent, FitsLine, LineRoom, WritesLine, feed_of};
 
-use machine::{Did, ITEM_PAYLOAD, Machine, TAG_STRING};
+use machine::{ITEM_PAYLOAD, Machine, TAG_STRING};
 use semantics::{Error, STACK_WIDTH};
 
 // Levels of arrays that are written out.
 const LEVELS: u32 = 4;
 
 // Ruled out: the bytes after the first zero written; ioerror where the text fills the log exactly.
-pub fn print(m: Machine, stack: &[u32], cells: &mut [u32], log: &mut [u8]) -> Did
+pub fn print(m: Machine, stack: &[u32], cells: &mut [u32], log: &mut [u8]) -> Result<Machine, Error>
     requires { (d : List ℕ) × SomewhereLog m stack.now d cells.old log.old }
     ensures { (d : List ℕ) → DoesLog (perform (bytes "print")) m stack.now d cells.old cells.new log.old log.new result }
 {
     if m.depth < 1 {
-        return Did::Fail(Error::StackUnderflow);
+        return Err(Error::StackUnderflow);
     }
     if elements::tag_of(m, stack, 0) != TAG_STRING {
-        return Did::Fail(Error::TypeCheck);
+        return Err(Error::TypeCheck);
     }
     let n = strings::current_length(m, stack, cells, 0);
     let room = log.len() - m.written;
     if room < (n as usize) {
-        return Did::Fail(Error::IoError);
+        return Err(Error::IoError);
     }
     copy_current(m, stack, cells, log, n);
     let after = m.written + (n as usize);
     let mut r = m.drop(stack, cells);
     r.written = after;
-    Did::Ok(r)
+    Ok(r)
 }
 
 // Ruled out: the line feed left out of the room; a text cut off where the log ends.
-pub fn echo(m: Machine, stack: &[u32], dict: &[u32], cells: &mut [u32], log: &mut [u8]) -> Did
+pub fn echo(
+    m: Machine,
+    stack: &[u32],
+    dict: &[u32],
+    cells: &mut [u32],
+    log: &mut [u8],
+) -> Result<Machine, Error>
     requires { SomewhereLog m stack.now dict.now cells.old log.old }
     ensures { DoesLog (perform (bytes "echo")) m stack.now dict.now cells.old cells.new log.old log.new result }
 {
     if m.depth < 1 {
-        return Did::Fail(Error::StackUnderflow);
+        return Err(Error::StackUnderflow);
     }
     let k = m.depth - 1;
     let tag = stack[STACK_WIDTH * k];
@@ -52,17 +58,23 @@ pub fn echo(m: Machine, stack: &[u32], dict: &[u32], cells: &mut [u32], log: &mu
     let room = log.len() - m.written;
     let size = printing::measure(dict, cells, tag, pay, LEVELS, room);
     if room <= size {
-        return Did::Fail(Error::IoError);
+        return Err(Error::IoError);
     }
     let after = printing::write(dict, cells, log, m.written, tag, pay, LEVELS);
     log[after] = b'\n';
     let mut r = m.drop(stack, cells);
     r.written = after + 1;
-    Did::Ok(r)
+    Ok(r)
 }
 
 // The items, the bottom first. Ruled out: the topmost item first; nothing written of an empty stack.
-pub fn echostack(mut m: Machine, stack: &[u32], dict: &[u32], cells: &[u32], log: &mut [u8]) -> Did
+pub fn echostack(
+    mut m: Machine,
+    stack: &[u32],
+    dict: &[u32],
+    cells: &[u32],
+    log: &mut [u8],
+) -> Result<Machine, Error>
     requires { SomewhereLog m stack.now dict.now cells.now log.old }
     ensures { DoesLog (perform (bytes "echostack")) m stack.now dict.now cells.now cells.now log.old log.new result }
 {
@@ -70,18 +82,18 @@ pub fn echostack(mut m: Machine, stack: &[u32], dict: &[u32], cells: &[u32], log
     let room = log.len() - at;
     if m.depth == 0 {
         if room < 1 {
-            return Did::Fail(Error::IoError);
+            return Err(Error::IoError);
         }
         log[at] = b'\n';
         m.written = at + 1;
-        return Did::Ok(m);
+        return Ok(m);
     }
     if stack_fits(m, stack, dict, cells, room) {
         let after = write_stack(m, stack, dict, cells, log);
         m.written = after;
-        return Did::Ok(m);
+        return Ok(m);
     }
-    Did::Fail(Error::IoError)
+    Err(Error::IoError)
 }
 
 // Whether there is room for the text of all items. Each is followed by a byte, a blank or the line feed.
@@ -90,8 +102,7 @@ fn stack_fits(m: Machine, stack: &[u32], dict: &[u32], cells: &[u32], room: usiz
     ensures { FitsLine m stack.now dict.now cells.now room result }
 {
     let mut sum = 0;
-    let mut i = 0;
-    while i < m.depth {
+    for i in 0..m.depth {
         let tag = stack[STACK_WIDTH * i];
         let pay = stack[STACK_WIDTH * i + ITEM_PAYLOAD];
         let left = room - sum;
@@ -100,7 +111,6 @@ fn stack_fits(m: Machine, stack: &[u32], dict: &[u32], cells: &[u32], room: usiz
             return false;
         }
         sum = sum + k + 1;
-        i = i + 1;
     }
     true
 }
@@ -111,13 +121,11 @@ fn write_stack(m: Machine, stack: &[u32], dict: &[u32], cells: &[u32], log: &mut
     ensures { WritesLine m stack.now dict.now cells.now log.old log.new result }
 {
     let mut next = m.written;
-    let mut i = 0;
-    while i < m.depth {
+    for i in 0..m.depth {
         let tag = stack[STACK_WIDTH * i];
         let pay = stack[STACK_WIDTH * i + ITEM_PAYLOAD];
         next = printing::write(dict, cells, log, next, tag, pay, LEVELS);
-        i = i + 1;
-        log[next] = feed(m.depth - i);
+        log[next] = feed(m.depth - (i + 1));
         next = next + 1;
     }
     next
@@ -139,10 +147,8 @@ fn copy_current(m: Machine, stack: &[u32], cells: &[u32], log: &mut [u8], n: u32
     ensures { CopiesCurrent m stack.now cells.now log.old log.new n }
 {
     let at = m.written;
-    let mut q = 0;
-    while q < n {
+    for q in 0..n {
         let b = elements::get_byte(m, stack, cells, 0, q);
         log[at + (q as usize)] = b;
-        q = q + 1;
     }
 }

@@ -36,8 +36,7 @@ pub fn measure(dict: &[u32], cells: &[u32], tag: u32, pay: u32, depth: u32, limi
     }
     let mut sum = 1;
     let mut c = heap::seek(cells, pay, 0);
-    let mut i = 0;
-    while i < n {
+    for i in 0..n {
         let t = heap::get(cells, c, 0);
         let p = heap::get(cells, c, 1);
         let left = limit - sum;
@@ -47,7 +46,6 @@ pub fn measure(dict: &[u32], cells: &[u32], tag: u32, pay: u32, depth: u32, limi
         }
         sum = sum + k + 1;
         c = heap::next(cells, c);
-        i = i + 1;
     }
     sum
 }
@@ -79,13 +77,11 @@ pub fn write(
     log[at] = opening(tag);
     let mut next = at + 1;
     let mut c = heap::seek(cells, pay, 0);
-    let mut i = 0;
-    while i < n {
+    for i in 0..n {
         let t = heap::get(cells, c, 0);
         let p = heap::get(cells, c, 1);
         next = write(dict, cells, log, next, t, p, depth - 1);
-        i = i + 1;
-        log[next] = byte_after(tag, n - i);
+        log[next] = byte_after(tag, n - (i + 1));
         next = next + 1;
         c = heap::next(cells, c);
     }
@@ -228,14 +224,12 @@ fn current_size(cells: &[u32], h: u32) -> u32
     ensures upper_bound { result < word cells.now h 0 }
 {
     let most = heap::kind(cells, h) - 1;
-    let mut q = 0;
-    while q < most {
+    for q in 0..most {
         if string_byte(cells, h, q) == 0 {
             return q;
         }
-        q = q + 1;
     }
-    q
+    most
 }
 
 // Its current bytes between quotes. A byte takes 4 at most, so the sum fits.
@@ -245,11 +239,9 @@ fn measure_string(cells: &[u32], h: u32) -> usize
 {
     let n = current_size(cells, h);
     let mut sum = 2;
-    let mut q = 0;
-    while q < n {
+    for q in 0..n {
         let b = string_byte(cells, h, q);
         sum = sum + text::string_byte_length(b);
-        q = q + 1;
     }
     sum
 }
@@ -261,11 +253,9 @@ fn write_string(cells: &[u32], log: &mut [u8], at: usize, h: u32) -> usize
     let n = current_size(cells, h);
     log[at] = b'"';
     let mut next = at + 1;
-    let mut q = 0;
-    while q < n {
+    for q in 0..n {
         let b = string_byte(cells, h, q);
         next = text::write_string_byte(log, next, b);
-        q = q + 1;
     }
     log[next] = b'"';
     next + 1
@@ -279,11 +269,9 @@ fn measure_name(dict: &[u32], slot: usize) -> usize
 {
     let n = names::name_size(dict, slot);
     let mut sum = 0;
-    let mut j = 0;
-    while j < n {
+    for j in 0..n {
         let b = names::name_byte(dict, slot, j);
         sum = sum + text::name_byte_length(b);
-        j = j + 1;
     }
     sum
 }
@@ -294,11 +282,9 @@ fn write_name(dict: &[u32], log: &mut [u8], at: usize, slot: usize) -> usize
 {
     let n = names::name_size(dict, slot);
     let mut next = at;
-    let mut j = 0;
-    while j < n {
+    for j in 0..n {
         let b = names::name_byte(dict, slot, j);
         next = text::write_name_byte(log, next, b);
-        j = j + 1;
     }
     next
 }
@@ -310,11 +296,9 @@ fn write_operator(dict: &[u32], log: &mut [u8], at: usize, slot: usize) -> usize
 {
     let n = names::name_size(dict, slot);
     let start = text::copy(log, at, b"<operator:");
-    let mut j = 0;
-    while j < n {
+    for j in 0..n {
         let b = names::name_byte(dict, slot, j);
         log[start + j] = b;
-        j = j + 1;
     }
     log[start + n] = b'>';
     start + n + 1

@@ -2,14 +2,15 @@
 // bytes, the lowest first (fuel; the words of stack, execution stack, dictionary and cells; the bytes of log, outcome and script), and then the script.
 #![tactic(auto)]
 
-ghost use Rattle.std.specs.Prelude.{◌≤◌, ◌<◌, IfOk};
+ghost use Rattle.std.specs.Prelude.{◌≤◌, ◌<◌, IfOk, IfSome};
 ghost use Rattle.run_list.specs.Heads.{Fits, Within};
 
-use runner::Answer;
+use runner::Report;
 use semantics::{
     CELL_WIDTH, CELLS_MOST, DICTIONARY_MOST, DICTIONARY_WIDTH, EXEC_MOST, EXEC_WIDTH, HEAD_ROOM,
     ITEM_ROOM, LOG_MOST, SCRIPT_MOST, STACK_MOST, STACK_WIDTH,
 };
+use setup::Refusal;
 use std::io;
 use std::io::{Read, Write};
 
@@ -28,21 +29,12 @@ const LOG: usize = LOG_MOST + 1;
 
 const OUTCOME: usize = HEAD_ROOM + ITEM_ROOM * STACK_MOST;
 
-fn wide(b: u8) -> u32
-    ensures { result ≤ 255 }
-{
-    b as u32
-}
-
 // Number i of a case's head.
 fn number(head: &[u8; 32], i: usize) -> u32
     requires { i < 8 }
 {
     let at = 4 * i;
-    wide(head[at])
-        + 256 * wide(head[at + 1])
-        + 65_536 * wide(head[at + 2])
-        + 16_777_216 * wide(head[at + 3])
+    u32::from_le_bytes([head[at], head[at + 1], head[at + 2], head[at + 3]])
 }
 
 // Number i as a length, no longer than there is room for.
@@ -50,17 +42,12 @@ fn size(head: &[u8; 32], i: usize, most: usize) -> usize
     requires { i < 8 }
     ensures { result ≤ most }
 {
-    let n = number(head, i) as usize;
-    if most < n {
-        return most;
-    }
-    n
+    most.min(number(head, i) as usize)
 }
 
-// A case's head, where there is one more.
+// A case's head.
 #[derive(Clone, Copy)]
 struct Head {
-    more: bool,
     fuel: u32,
     stack: usize,
     exec: usize,
@@ -71,20 +58,22 @@ struct Head {
     script: usize,
 }
 
-fn read_head<R: Read>(from: &mut R) -> io::Result<Head>
-    ensures { IfOk result Fits }
+// The next case's head, if there is one more.
+fn read_head<R: Read>(from: &mut R) -> io::Result<Option<Head>>
+    ensures { IfOk result (λ head. IfSome head Fits) }
 {
     let mut head = [0u8; 32];
-    let got = input::read_full(from, &mut head)?;
-    Ok(head_of(&head, got))
+    if input::read_full(from, &mut head)? < head.len() {
+        return Ok(None);
+    }
+    Ok(Some(head_of(&head)))
 }
 
-// What the bytes say, of which so many were there.
-fn head_of(head: &[u8; 32], got: usize) -> Head
+// What the bytes say.
+fn head_of(head: &[u8; 32]) -> Head
     ensures { Fits result }
 {
     Head {
-        more: 32 <= got,
         fuel: number(head, 0),
         stack: size(head, 1, STACK),
         exec: size(head, 2, EXECUTION),
@@ -109,10 +98,15 @@ fn say_start<W: Write>(to: &mut W, text: &[u8], n: usize) -> io::Result<()> {
     Ok(())
 }
 
-fn say_answer<W: Write>(to: &mut W, answer: Answer, log: &[u8], outcome: &[u8]) -> io::Result<()> {
+fn say_answer<W: Write>(
+    to: &mut W,
+    answer: Result<Report, Refusal>,
+    log: &[u8],
+    outcome: &[u8],
+) -> io::Result<()> {
     match answer {
-        Answer::Refused(refusal) => say_refusal(to, refusal)?,
-        Answer::Ran(report) => {
+        Err(refusal) => say_refusal(to, refusal.number())?,
+        Ok(report) => {
             say_start(to, log, report.log)?;
             say_start(to, outcome, report.outcome)?;
         }
@@ -193,11 +187,10 @@ fn run_read<R: Read, W: Write>(
 
 // The next case, if there is one.
 fn run_next<R: Read, W: Write>(from: &mut R, to: &mut W, script: &mut [u8]) -> io::Result<bool> {
-    let head = read_head(from)?;
-    let n = head.script;
-    if !head.more {
+    let Some(head) = read_head(from)? else {
         return Ok(false);
-    }
+    };
+    let n = head.script;
     if script.len() < n {
         return Ok(false);
     }
@@ -206,9 +199,10 @@ fn run_next<R: Read, W: Write>(from: &mut R, to: &mut W, script: &mut [u8]) -> i
 
 // Nothing says that the input ends, so the turns are counted.
 fn run_all<R: Read, W: Write>(from: &mut R, to: &mut W, script: &mut [u8]) -> io::Result<()> {
-    let mut left: u32 = 100_000;
-    while 0 < left && run_next(from, to, script)? {
-        left -= 1;
+    for _ in 0..100_000 {
+        if !run_next(from, to, script)? {
+            break;
+        }
     }
     Ok(())
 }

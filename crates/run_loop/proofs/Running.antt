@@ -1,5 +1,6 @@
 -- The loop's invariant, and each way on or out of a turn: what has been run so far is a beginning of the definition's run, and the moments so far are exact.
 -- Assumes nothing.
+use Rattle.std.specs.Prelude.{Some, None, Ok, Err}
 use mathlib.Core.Path.{◌≡◌, refl, sym, ap, ◌∙◌, subst}
 use mathlib.Core.Bool.{Bool, true, false}
 use mathlib.Core.List.{List, [], ◌∷◌, ◌++◌}
@@ -29,9 +30,7 @@ use Rattle.exactness.proofs.Lists.{along_snoc}
 use Rattle.exactness.proofs.Reaching.{Reached, reached_start, reached_goes, over_finished, over_spent, over_fails, over_misreads, over_stops, Over}
 use Rattle.growth.proofs.Logs.{rest_on}
 use Rattle.growth.proofs.StepGrowth.{step_log_length}
-use Rattle.handover.specs.Handover.{MayHand, HandsOver}
-use Rattle.handover.specs.declared.Handed.{Handed}
-use Rattle.handover.specs.declared.Handed.TheVariants as handed
+use Rattle.handover.specs.Handover.{Handed, MayHand, HandsOver}
 use Rattle.machine.specs.declared.Machine.{Machine}
 use Rattle.step.specs.Stepping.{state_of, SteppedAs, LogLeft, Steps, Tries, Ready, Finished, handed_by}
 use Rattle.step.proofs.Moving.{settled, may_hand}
@@ -485,6 +484,17 @@ pub halts_as : {script : List ℕ} {limit fuel : ℕ} {first : Moment} {st τ : 
 halts_as {script} {fuel = fuel} {first = first} {st = st} {τ = τ} {s' = s'} {e' = e'} {d' = d'} {c' = c'} {l' = l'} H q R g =
     subst (HaltsAs script fuel st.steps first s' e' d' c' l' τ) g (H.halts fuel first q R)
 
+-- An ending that is no error is the run's.
+pub halted : {script : List ℕ} {fuel : ℕ} (from : ℕ) {first : Moment} {s' e' d' c' l' : List ℕ} {τ : State} (x : Ending)
+    → ((y : Error) (command : Command) → x ≡ ending.Failed y command → ⊥)
+    → HaltsAs script fuel from first s' e' d' c' l' τ x
+    → Ends script fuel first.state first.stack s' first.exec e' first.dict d' first.cells c' first.log l' τ x
+halted from ending.Finished n H = H
+halted from ending.Stopped n H = H
+halted from ending.OutOfFuel n H = H
+halted from (ending.Failed y command) n H = absurd (n y command refl)
+halted from (ending.Misread f) n H = H
+
 -- ---- an error is handed over
 
 module _ {script : List ℕ} {fuel from : ℕ} {first : Moment} {s e d c l : List ℕ} {τ : State} {x : Error} {command : Command} (L : Fell script fuel from first s e d c l τ x command) where
@@ -515,10 +525,10 @@ module _ {script : List ℕ} {fuel from : ℕ} {first : Moment} {s e d c l : Lis
           ll = L.ll;
         }
 
-    pub ends_unhandled : h ≡ handed.Not → Ends script fuel first.state first.stack s first.exec e' first.dict d' first.cells c' first.log l τ (ending.Failed x command)
+    pub ends_unhandled : h ≡ None → Ends script fuel first.state first.stack s first.exec e' first.dict d' first.cells c' first.log l τ (ending.Failed x command)
     ends_unhandled g = end_failed L.running L.more refl L.some_left (went_settled g) refl
 
-    module _ {q : Machine} {n : ℕ} (g : h ≡ handed.Over q) (next_is : n ≡ after_of τ.next command) where
+    module _ {q : Machine} {n : ℕ} (g : h ≡ Some q) (next_is : n ≡ after_of τ.next command) where
       abbrev left_at : ℕ → State
       left_at k = record { machine = q; next = k; at = τ.at; steps = τ.steps }
 

@@ -9,7 +9,6 @@ ghost use Rattle.run_loop.specs.History.{Begun, Ends};
 ghost use Rattle.run_loop.specs.Halting.{MayHalt, Halts};
 
 use ending::{Command, Ending};
-use handover::Handed;
 use step::{State, Stepped};
 
 // The state after the last step, and how the run ended.
@@ -39,57 +38,26 @@ pub fn advance(
     let mut st = start;
     loop {
         let ended = until_error(st, script, limit, stack, exec, dict, cells, log);
+        let Ending::Failed(e, command) = ended.ending else {
+            return ended;
+        };
         let left = ended.state;
-        let ending = ended.ending;
-        match ending {
-            Ending::Finished => {
-                return Ended {
-                    state: left,
-                    ending: Ending::Finished,
-                };
-            }
-            Ending::Stopped => {
-                return Ended {
-                    state: left,
-                    ending: Ending::Stopped,
-                };
-            }
-            Ending::OutOfFuel => {
-                return Ended {
-                    state: left,
-                    ending: Ending::OutOfFuel,
-                };
-            }
-            Ending::Failed(e, command) => {
-                let m = left.machine;
-                let handed = handover::hand_over(m, script, exec, dict, cells, e, command);
-                let Handed::Over(r) = handed else {
-                    return Ended {
-                        state: left,
-                        ending: Ending::Failed(e, command),
-                    };
-                };
-                let next = State {
-                    machine: r,
-                    next: after(left.next, command),
-                    at: left.at,
-                    steps: left.steps,
-                };
-                if r.stopped {
-                    return Ended {
-                        state: next,
-                        ending: Ending::Stopped,
-                    };
-                }
-                st = next;
-            }
-            Ending::Misread(f) => {
-                return Ended {
-                    state: left,
-                    ending: Ending::Misread(f),
-                };
-            }
+        let handed = handover::hand_over(left.machine, script, exec, dict, cells, e, command);
+        let Some(r) = handed else {
+            return ended;
+        };
+        let next = State {
+            machine: r,
+            next: after(left.next, command),
+            ..left
+        };
+        if r.stopped {
+            return Ended {
+                state: next,
+                ending: Ending::Stopped,
+            };
         }
+        st = next;
     }
 }
 
@@ -162,8 +130,6 @@ fn after(next: usize, command: Command) -> usize
     match command {
         Command::Token(at, size) => at + size,
         Command::Taken(n) => n,
-        Command::Nothing => next,
-        Command::Operator(_) => next,
-        Command::Name(_) => next,
+        Command::Nothing | Command::Operator(_) | Command::Name(_) => next,
     }
 }

@@ -2,7 +2,7 @@
 -- Assumes nothing.
 use mathlib.Core.Path.{◌≡◌, refl, sym, ap, ◌∙◌, subst}
 use mathlib.Core.List.{List, ◌++◌}
-use Prim.Native.Nat.{ℕ, ◌+◌, ◌*◌, ◌/◌, ◌≤◌, ◌<◌}
+use Prim.Native.Nat.{ℕ, ◌+◌, ◌*◌, ◌/◌, ◌≤◌}
 use native.Mathlib.Omega.{arith}
 use lib.ListN.{length, take, drop}
 use lib.Seq.{length-take-le, length_front, take_at, drop_at}
@@ -13,16 +13,24 @@ use Rattle.semantics.specs.AsciiLaws.{Ascii}
 use Rattle.semantics.specs.Setup.{limits, refusal}
 use Rattle.semantics.proofs.RunLaws.{run_steps}
 use Rattle.text.specs.Writing.{Written}
-use Rattle.setup.proofs.Accepting.{accepted}
+use Rattle.std.specs.Prelude.{Result, Ok, Err, IsErrAnd}
+use Rattle.setup.specs.declared.Refusal.{Refusal}
+use Rattle.setup.specs.Lending.{number_of}
+use Rattle.setup.proofs.Accepting.{accepted, number_some}
 use Rattle.exactness.proofs.Lists.{along_length}
 use Rattle.exactness.proofs.Tracing.{trace_length}
 use Rattle.run_loop.specs.History.{limits_of}
 use Rattle.runner.specs.Promise.{lent_of, the_run, whole, past, RunIs, Runs, Ready, CarriesOut}
-use Rattle.runner.specs.declared.Answer.TheVariants.{Refused, Ran}
 use Rattle.runner.specs.declared.Report.{Report}
 
-pub refused : {script : List ℕ} {fuel : ℕ} {s e d c l o : List ℕ} {n : ℕ} → n ≡ refusal script fuel (lent_of s e d c l o) → 0 < n → Runs script fuel s s e e d d c c l l o o (Refused n)
-refused q some = record { answers = (sym q, some, refl, refl, refl, refl, refl, refl) }
+refused : {script : List ℕ} {fuel : ℕ} {s e d c l o : List ℕ} (x : Refusal) → number_of x ≡ refusal script fuel (lent_of s e d c l o) → Runs script fuel s s e e d d c c l l o o (Err x)
+refused x q = record { answers = (sym q, number_some x, refl, refl, refl, refl, refl, refl) }
+
+-- The refusal is passed on.
+pub passed_on : {script : List ℕ} {fuel : ℕ} {s e d c l o : List ℕ} (r : Result Report Refusal) (x : Refusal)
+    → number_of x ≡ refusal script fuel (lent_of s e d c l o) → IsErrAnd r (λ y. y ≡ x) → Runs script fuel s s e e d d c c l l o o r
+passed_on (Ok k) x q h = absurd h
+passed_on {script} {fuel} {s} {e} {d} {c} {l} {o} (Err y) x q h = subst (λ (z : Refusal). Runs script fuel s s e e d d c c l l o o (Err z)) (sym h) (refused x q)
 
 -- ---- whole slots
 
@@ -59,10 +67,9 @@ module _ (script : List ℕ) (fuel : ℕ) (s e d c l o : List ℕ) where
   long_c : length (whole 4 c) ≡ length c / 4 * 4
   long_c = length-take-le (length c / 4 * 4) c (omega arith)
 
-  pub ready : {n : ℕ} → n ≡ refusal script fuel (lent_of s e d c l o) → (0 < n → ⊥) → Ready script fuel (whole 2 s) (whole 8 e) (whole 12 d) (whole 4 c) l o
-  ready {n} q none =
-      let zero : n ≡ 0 = omega (arith, none) in
-      let A = accepted script fuel (lent_of s e d c l o) (sym q ∙ zero) in
+  pub ready : 0 ≡ refusal script fuel (lent_of s e d c l o) → Ready script fuel (whole 2 s) (whole 8 e) (whole 12 d) (whole 4 c) l o
+  ready q =
+      let A = accepted script fuel (lent_of s e d c l o) (sym q) in
       record {
         short = A.short;
         fueled = A.fueled;
@@ -126,7 +133,7 @@ module _ (script : List ℕ) (fuel : ℕ) (s e d c l o : List ℕ) where
           state = C.state;
         }
 
-  pub answered : {n : ℕ} → n ≡ refusal script fuel (lent_of s e d c l o) → (0 < n → ⊥)
+  pub answered : 0 ≡ refusal script fuel (lent_of s e d c l o)
       → {ys ye yd yc l' o' : List ℕ}
       → length ys ≡ length (whole 2 s)
       → length ye ≡ length (whole 8 e)
@@ -134,7 +141,5 @@ module _ (script : List ℕ) (fuel : ℕ) (s e d c l o : List ℕ) where
       → length yc ≡ length (whole 4 c)
       → {r : Report}
       → CarriesOut script fuel initial 0 0 (whole 2 s) ys (whole 8 e) ye (whole 12 d) yd (whole 4 c) yc l l' o o' r
-      → Runs script fuel s (ys ++ past 2 s) e (ye ++ past 8 e) d (yd ++ past 12 d) c (yc ++ past 4 c) l l' o o' (Ran r)
-  answered {n} q none ks ke kd kc C =
-      let zero : n ≡ 0 = omega (arith, none) in
-      record { answers = (sym q ∙ zero, whole_run initial 0 0 ks ke kd kc C) }
+      → Runs script fuel s (ys ++ past 2 s) e (ye ++ past 8 e) d (yd ++ past 12 d) c (yc ++ past 4 c) l l' o o' (Ok r)
+  answered q ks ke kd kc C = record { answers = (sym q, whole_run initial 0 0 ks ke kd kc C) }

@@ -27,7 +27,7 @@ use Rattle.echo_laws.proofs.RunEchoes.{echoes_alike, integer_echoes_alike, lines
 use Rattle.echo_laws.proofs.LogLines.{next_machine, line_stands}
 use Rattle.setup.proofs.Accepting.{accepted}
 use Rattle.runner.specs.Promise.{lent_of, the_run, RunIs, Runs}
-use Rattle.runner.specs.declared.Answer.TheVariants.{Ran}
+use Rattle.std.specs.Prelude.{Ok}
 use Rattle.runner.specs.declared.Report.{Report}
 
 -- ---- runs that are promised
@@ -88,7 +88,7 @@ promised {script} {fuel} {start} {touched} {worked} {s} {s'} {e} {e'} {d} {d'} {
 
 -- Each call of `run` that answers with a run is such: its script's bytes are bytes, as every lent script's are.
 pub called : {script : List ℕ} {fuel : ℕ} {s s' e e' d d' c c' l l' o o' : List ℕ} {r : Report}
-    → Runs script fuel s s' e e' d d' c c' l l' o o' (Ran r)
+    → Runs script fuel s s' e e' d d' c c' l l' o o' (Ok r)
     → Bytes script
     → Call
 unfolding limits

@@ -1,6 +1,6 @@
 -- What the runner promises of every script, fuel and room (demands 1, 2 and 3).
 -- Assumes nothing.
-use Rattle.std.specs.Prelude.{◌≡◌, List, ℕ, ◌+◌, ◌*◌, ◌/◌, ◌≤◌, ◌<◌, length, take, drop}
+use Rattle.std.specs.Prelude.{◌≡◌, Result, Ok, Err, List, ℕ, ◌+◌, ◌*◌, ◌/◌, ◌≤◌, ◌<◌, length, take, drop}
 use Rattle.semantics.specs.Sizes.{script_most, fuel_most, cells_most, log_most, head_room, item_room, stack_words_most, exec_words_most, name_words, dictionary_words_most}
 use Rattle.semantics.specs.Machine as Floo
 use Rattle.semantics.specs.Steps as steps
@@ -12,11 +12,11 @@ use Rattle.ending.specs.Endings.{ending_of}
 use Rattle.text.specs.Writing.{Written}
 use Rattle.machine.specs.Places.{keys}
 use Rattle.machine.specs.Rep.{Rep}
+use Rattle.setup.specs.Lending.{number_of}
+use Rattle.setup.specs.declared.Refusal.{Refusal}
 use Rattle.step.specs.Stepping.{state_of}
 use Rattle.step.specs.declared.State.{State}
 use Rattle.run_loop.specs.History.{Moment, limits_of, History, Begun, EndsFrom}
-use Rattle.runner.specs.declared.Answer.{Answer}
-use Rattle.runner.specs.declared.Answer.TheVariants.{Refused, Ran}
 use Rattle.runner.specs.declared.Proceeded.{Proceeded}
 use Rattle.runner.specs.declared.Report.{Report}
 
@@ -70,11 +70,14 @@ pub record RunIs (script : List ℕ) (fuel : ℕ) (σ₀ : steps.State) (touched
   -- its last moment has the small state that is reported
   pub state : (recorded.last.state.machine ≡ r.machine) × (recorded.last.state.steps ≡ r.steps)
 
+abbrev pub Answer : Type 0
+Answer = Result Report Refusal
+
 -- The whole answer: a refusal, where no lent word or byte has changed, or the run.
 abbrev pub AnswerIs : List ℕ → ℕ → List ℕ → List ℕ → List ℕ → List ℕ → List ℕ → List ℕ → List ℕ → List ℕ → List ℕ → List ℕ → List ℕ → List ℕ → Answer → Type 0
-AnswerIs script fuel s s' e e' d d' c c' l l' o o' (Refused n) =
-    (refusal script fuel (lent_of s e d c l o) ≡ n) × (0 < n) × (s' ≡ s) × (e' ≡ e) × (d' ≡ d) × (c' ≡ c) × (l' ≡ l) × (o' ≡ o)
-AnswerIs script fuel s s' e e' d d' c c' l l' o o' (Ran r) =
+AnswerIs script fuel s s' e e' d d' c c' l l' o o' (Err r) =
+    (refusal script fuel (lent_of s e d c l o) ≡ number_of r) × (0 < number_of r) × (s' ≡ s) × (e' ≡ e) × (d' ≡ d) × (c' ≡ c) × (l' ≡ l) × (o' ≡ o)
+AnswerIs script fuel s s' e e' d d' c c' l l' o o' (Ok r) =
     (refusal script fuel (lent_of s e d c l o) ≡ 0) × RunIs script fuel initial 0 0 s s' e e' d d' c c' l l' o o' r
 
 pub record Runs (script : List ℕ) (fuel : ℕ) (s s' e e' d d' c c' l l' o o' : List ℕ) (r : Answer) : Type 0 where

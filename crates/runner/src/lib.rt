@@ -7,15 +7,8 @@ ghost use Rattle.semantics.specs.Steps.{initial};
 use ending::Ending;
 use machine::Machine;
 use semantics::{CELL_WIDTH, DICTIONARY_WIDTH, EXEC_WIDTH, STACK_WIDTH};
-use setup::Lent;
+use setup::{Lent, Refusal};
 use step::State;
-
-// The number of the refusal, or what a run came to.
-#[derive(Clone, Copy)]
-pub enum Answer {
-    Refused(u32),
-    Ran(Report),
-}
 
 // The steps made, how many bytes of the log are written, and how many of the outcome; and the small state at the end, by which the lent words are read.
 #[derive(Clone, Copy)]
@@ -37,7 +30,7 @@ pub fn run(
     cells: &mut [u32],
     log: &mut [u8],
     outcome: &mut [u8],
-) -> Answer
+) -> Result<Report, Refusal>
     ensures { Runs script.now fuel stack.old stack.new exec.old exec.new dict.old dict.new cells.old cells.new log.old log.new outcome.old outcome.new result }
 {
     let lent = Lent {
@@ -48,10 +41,7 @@ pub fn run(
         log: log.len(),
         outcome: outcome.len(),
     };
-    let number = setup::refusal(script, fuel, lent);
-    if 0 < number {
-        return Answer::Refused(number);
-    }
+    setup::check(script, fuel, lent)?;
     // words past whole slots are not lent on
     let a = stack.len() / STACK_WIDTH * STACK_WIDTH;
     let b = exec.len() / EXEC_WIDTH * EXEC_WIDTH;
@@ -67,7 +57,7 @@ pub fn run(
         log,
         outcome,
     );
-    Answer::Ran(report)
+    Ok(report)
 }
 
 // The run, where setup accepts.
@@ -126,15 +116,14 @@ pub fn proceed(
     let n = outcome::write(
         last, ending, st.at, st.steps, script, stack, dict, cells, outcome,
     );
-    let report = Report {
-        steps: st.steps,
-        log: last.written,
-        outcome: n,
-        machine: last,
-    };
     Proceeded {
-        report: report,
+        report: Report {
+            steps: st.steps,
+            log: last.written,
+            outcome: n,
+            machine: last,
+        },
         state: st,
-        ending: ending,
+        ending,
     }
 }

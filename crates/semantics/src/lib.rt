@@ -46,7 +46,7 @@ pub const HEAD_ROOM: usize = 256;
 pub const ITEM_ROOM: usize = 136;
 
 // The errors of a step whose token, if it takes one, could be read. `error_text` of specs/Errors gives each its name in the paper.
-#[derive(Clone, Copy)]
+#[derive(Clone, Copy, PartialEq, Eq, Debug)]
 pub enum Error {
     LimitCheck,
     Undefined,
@@ -64,7 +64,7 @@ pub enum Error {
 
 // What is wrong with a token, with the offset of the first byte that could not be accepted. A limit that is passed has no such byte.
 // `fault_text` of specs/Errors gives each its name in the paper.
-#[derive(Clone, Copy)]
+#[derive(Clone, Copy, PartialEq, Eq, Debug)]
 pub enum Fault {
     BadNumber(u32),
     BadEscape(u32),
@@ -75,7 +75,7 @@ pub enum Fault {
 }
 
 // The kinds of tokens. `kind_text` of specs/Setup gives each its words in the paper.
-#[derive(Clone, Copy)]
+#[derive(Clone, Copy, PartialEq, Eq, Debug)]
 pub enum Kind {
     Integer,
     String,

@@ -3,13 +3,27 @@
 use mathlib.Core.Path.{◌≡◌, refl}
 use mathlib.Core.Bool.{Bool, true, false}
 use mathlib.Core.List.{List, ◌∷◌}
-use Prim.Native.Nat.{ℕ, suc}
+use Prim.Native.Nat.{ℕ, suc, ◌<◌}
 use native.Mathlib.Omega.{arith}
 use borrow.Author.Tests.{ltb-false, not-false}
 use Rattle.semantics.specs.Sizes.{name_count, stack_least, stack_most, exec_least, exec_most, dictionary_most, cells_least, cells_most}
 use Rattle.semantics.specs.Setup.{Lent, refusal}
-use Rattle.setup.specs.Lending.{Accepted}
+use Rattle.setup.specs.declared.Refusal.{Refusal}
+use Rattle.setup.specs.declared.Refusal.TheVariants.{ScriptTooLong, NotAScript, TooMuchFuel, StackSlots, ExecutionSlots, DictionarySlots, Cells, LogTooLong, OutcomeTooShort}
+use Rattle.setup.specs.Lending.{Accepted, number_of}
 use Rattle.setup.proofs.Refusing.{Decides, untested, fails, holds, from_to}
+
+-- No refusal has the number 0.
+pub number_some : (r : Refusal) → 0 < number_of r
+number_some ScriptTooLong = omega arith
+number_some NotAScript = omega arith
+number_some TooMuchFuel = omega arith
+number_some StackSlots = omega arith
+number_some ExecutionSlots = omega arith
+number_some DictionarySlots = omega arith
+number_some Cells = omega arith
+number_some LogTooLong = omega arith
+number_some OutcomeTooShort = omega arith
 
 -- The first test fails, and the others decide.
 zero_fails : {r n : ℕ} {t : Bool} {ts : List Bool} → r ≡ 0 → Decides r (suc n) (t ∷ ts) → (t ≡ false) × Decides r (suc (suc n)) ts

@@ -1,5 +1,3 @@
--- `Refusing` has the laws of the tests in their order, `Beginning` those of the bytes that a script begins with, and `Accepting` says what
--- a run that is made may rely on, for the crates that link this one.
+-- `Refusing` has the laws of the tests in their order, and `Accepting` says what a run that is made may rely on, for the crates that link this one.
 pub mod Refusing
-pub mod Beginning
 pub mod Accepting

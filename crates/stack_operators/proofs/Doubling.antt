@@ -1,6 +1,6 @@
 -- The loop of `double`: after i turns the i lowest of the n topmost items stand once more above them.
 -- Assumes nothing.
-use mathlib.Core.Path.{◌≡◌, refl, sym, ap, ◌∙◌, subst}
+use mathlib.Core.Path.{◌≡◌, sym, ap, ◌∙◌, subst}
 use mathlib.Core.List.{List, ◌∷◌, ◌++◌}
 use Prim.Native.Nat.{ℕ, suc, ◌+◌, ◌-◌, ◌≤◌, ◌<◌}
 use native.Mathlib.Omega.{arith}
@@ -64,21 +64,11 @@ doubling_all n i μ h =
 -- ---- the loop
 
 pub record Doubling (n : ℕ) (m₀ : Machine) (s₀ c₀ : List ℕ) (m : Machine) (s c : List ℕ) (i : ℕ) : Type 0 where
-  pub few : i ≤ n
   pub deep : m.depth ≡ m₀.depth + i
-  pub long : length s ≡ length s₀
-  pub cells_long : length c ≡ length c₀
   pub moves : MovesHeap (doubling n i) m₀ m s₀ s c₀ c
 
 pub begin : (n : ℕ) (m : Machine) (s c : List ℕ) → Doubling n m s c m s c 0
-begin n m s c =
-    record {
-      few = omega arith;
-      deep = omega arith;
-      long = refl;
-      cells_long = refl;
-      moves = record { moves = λ e d l μ R. subst (Rep m s e d c l) (sym (doubling_none n μ)) R };
-    }
+begin n m s c = record { deep = omega arith; moves = record { moves = λ e d l μ R. subst (Rep m s e d c l) (sym (doubling_none n μ)) R } }
 
 module _ {n : ℕ} {m₀ : Machine} {s₀ c₀ : List ℕ} {m : Machine} {s c : List ℕ} {i : ℕ} (D : Doubling n m₀ s₀ c₀ m s c i) where
   pub again : {r : Machine} {s' c' : List ℕ}
@@ -86,15 +76,10 @@ module _ {n : ℕ} {m₀ : Machine} {s₀ c₀ : List ℕ} {m : Machine} {s c : 
       → i < n
       → MovesHeap (copied (n - 1)) m r s s' c c'
       → r.depth ≡ m.depth + 1
-      → length s' ≡ length s
-      → length c' ≡ length c
       → Doubling n m₀ s₀ c₀ r s' c' (i + 1)
-  again deep h P more long cells_long =
+  again deep h P more =
       record {
-        few = omega arith;
         deep = omega (arith, D.deep);
-        long = long ∙ D.long;
-        cells_long = cells_long ∙ D.cells_long;
         moves = same_heap (then_heap D.moves P) (λ μ q. doubling_more n i μ (omega arith) h);
       }
 

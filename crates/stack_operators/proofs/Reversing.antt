@@ -1,6 +1,6 @@
 -- Reversal by exchanges, and roll by three reversals: on lists, and the loop of `reverse`.
 -- Assumes nothing.
-use Prim.Native.Nat.{ℕ, suc, ◌+◌, ◌-◌, ◌<◌, ◌≤◌}
+use Prim.Native.Nat.{ℕ, suc, ◌+◌, ◌-◌, ◌<◌, ◌≤◌, ◌/◌}
 use native.Mathlib.Omega.{arith}
 use mathlib.Core.Path.{◌≡◌, refl, sym, ap, ap₂, ◌∙◌, subst}
 use mathlib.Core.List.{List, [], ◌∷◌, ◌++◌, append_assoc, reverse, reverse-cons, reverse-append, reverse-reverse}
@@ -141,51 +141,52 @@ roll_law l n k a b =
 
 -- ---- the loop
 
--- What is left to reverse, of the items that now stand, gives what was asked.
-pub record Turning (s₀ : List ℕ) (lo hi : ℕ) (m₀ : Machine) (s : List ℕ) (m : Machine) (i j : ℕ) : Type 0 where
-  pub low : i ≤ j
-  pub high : j ≤ hi
+-- What is left to reverse after k exchanges, of the items that now stand, gives what was asked.
+pub record Turning (s₀ : List ℕ) (lo hi : ℕ) (m₀ : Machine) (s : List ℕ) (m : Machine) (k : ℕ) : Type 0 where
   pub deep : m.depth ≡ m₀.depth
-  pub long : length s ≡ length s₀
   pub turns : (e d c l : List ℕ) (μ : Floo.Machine)
       → Rep m₀ s₀ e d c l μ
-      → (t : List Value) × Rep m s e d c l (with_stack t μ) × (rev_at lo hi μ.stack ≡ rev_at i j t)
+      → (t : List Value) × Rep m s e d c l (with_stack t μ) × (rev_at lo hi μ.stack ≡ rev_at (lo + k) (hi - k) t)
 
-pub begin : (s : List ℕ) (lo hi : ℕ) (m : Machine) → lo ≤ hi → Turning s lo hi m s m lo hi
+pub begin : (s : List ℕ) (lo hi : ℕ) (m : Machine) → Turning s lo hi m s m 0
 unfolding with_stack
-begin s lo hi m h = record { low = h; high = omega arith; deep = refl; long = refl; turns = λ e d c l μ R. (μ.stack, R, refl) }
+begin s lo hi m =
+    let low : lo ≡ lo + 0 = omega arith in
+    let high : hi ≡ hi - 0 = omega arith in
+    record { deep = refl; turns = λ e d c l μ R. (μ.stack, R, λ i. rev_at (low i) (high i) μ.stack) }
 
-module _ {s₀ : List ℕ} {lo hi : ℕ} {m₀ : Machine} {s : List ℕ} {m : Machine} {i j : ℕ} (T : Turning s₀ lo hi m₀ s m i j) where
+module _ {s₀ : List ℕ} {lo hi : ℕ} {m₀ : Machine} {s : List ℕ} {m : Machine} {k : ℕ} (T : Turning s₀ lo hi m₀ s m k) (h : lo ≤ hi) where
   pub again : {s' : List ℕ} {r : Machine}
       → hi ≤ m₀.depth
-      → 1 < j - i
-      → MovesStack (swapped i (j - 1)) m r s s'
+      → k < (hi - lo) / 2
+      → MovesStack (swapped (lo + k) (hi - 1 - k)) m r s s'
       → r.depth ≡ m.depth
-      → length s' ≡ length s
-      → Turning s₀ lo hi m₀ s' r (i + 1) (j - 1)
+      → Turning s₀ lo hi m₀ s' r (k + 1)
   unfolding swapped swap_at with_stack
-  again deep h S same long =
+  again deep few S same =
       record {
-        low = omega arith;
-        high = omega (arith, T.high);
         deep = same ∙ T.deep;
-        long = long ∙ T.long;
         turns = λ e d c l μ R.
             let t = T.turns e d c l μ R in
-            let n : length t.0 ≡ m.depth = stack_depth t.1 in (
-              swap_at i (j - 1) t.0,
+            let n : length t.0 ≡ m.depth = stack_depth t.1 in
+            let high : hi - 1 - k ≡ hi - k - 1 = omega arith in
+            let low : lo + k + 1 ≡ lo + (k + 1) = omega arith in
+            let less : hi - k - 1 ≡ hi - (k + 1) = omega arith in (
+              swap_at (lo + k) (hi - 1 - k) t.0,
               S.moves e d c l (with_stack t.0 μ) t.1,
-              t.2 ∙ rev_swap t.0 i j (omega arith) (omega (arith, T.high, T.deep)),
+              t.2
+                  ∙ rev_swap t.0 (lo + k) (hi - k) (omega arith) (omega (arith, T.deep))
+                  ∙ (λ i. rev_at (low i) (less i) (swap_at (lo + k) (sym high i) t.0)),
             );
       }
 
-  pub finish : j - i ≤ 1 → MovesStack (reversed lo hi) m₀ m s₀ s
+  pub finish : (hi - lo) / 2 ≤ k → k ≤ (hi - lo) / 2 → MovesStack (reversed lo hi) m₀ m s₀ s
   unfolding reversed
-  finish h =
+  finish all few =
       record {
         moves = λ e d c l μ R.
             let t = T.turns e d c l μ R in
-            subst (λ x. Rep m s e d c l (with_stack x μ)) (sym (t.2 ∙ rev_done t.0 i j T.low h)) t.1;
+            subst (λ x. Rep m s e d c l (with_stack x μ)) (sym (t.2 ∙ rev_done t.0 (lo + k) (hi - k) (omega arith) (omega arith))) t.1;
       }
 
 -- ---- three reversals

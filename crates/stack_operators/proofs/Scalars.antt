@@ -1,5 +1,6 @@
 -- mark, cvx and cvlit by the primitives that push a value without heap and change a tag.
 -- Assumes nothing.
+use Rattle.std.specs.Prelude.{Ok, Err}
 use mathlib.Core.Path.{◌≡◌, refl, sym, ap, ◌∙◌}
 use mathlib.Core.Bool.{Bool, true, false}
 use mathlib.Core.List.{List, ◌∷◌}
@@ -7,7 +8,7 @@ use Prim.Native.Nat.{ℕ, suc, ◌-◌, ◌+◌, ◌*◌, ◌/◌, ◌≤◌, �
 use native.Mathlib.Omega.{arith}
 use lib.ListN.{length, get_or, set, length-set}
 use Rattle.semantics.specs.Text.{bytes, textual}
-use Rattle.semantics.specs.Values.{Value, mark, null, Result, ok, ◌>>=◌}
+use Rattle.semantics.specs.Values.{Value, mark, null, ok, ◌>>=◌}
 use Rattle.semantics.specs.Machine as Floo
 use Rattle.semantics.specs.Machine.{with_stack, push}
 use Rattle.semantics.specs.Steps.{room_for}
@@ -20,7 +21,6 @@ use Rattle.machine.specs.Moves.{retagged}
 use Rattle.machine.specs.Rep.{MovesStack}
 use Rattle.machine.specs.Room.{lent, fitted, DoesStack}
 use Rattle.machine.specs.declared.Machine.{Machine}
-use Rattle.machine.specs.declared.Did.TheVariants.{Ok, Fail}
 use Rattle.machine.proofs.Items.{items_length}
 use Rattle.machine.proofs.Operands.{top, no_items, pop1_none, pop1_some}
 use Rattle.machine.proofs.Rooms.{room_stack, room_passes, stack_passes, fitted_fails, dictionary_fits, exec_fits, log_fits}
@@ -37,7 +37,7 @@ pub cvlit_is : (μ : Floo.Machine) → perform (bytes "cvlit") μ ≡ convert fa
 unfolding textual perform find table ◌is◌
 cvlit_is μ = refl
 
-pub mark_over : {m : Machine} {st : List ℕ} → 2 * m.depth ≤ length st → length st - 2 * m.depth < 2 → DoesStack (perform (bytes "mark")) m st st (Fail StackOverflow)
+pub mark_over : {m : Machine} {st : List ℕ} → 2 * m.depth ≤ length st → length st - 2 * m.depth < 2 → DoesStack (perform (bytes "mark")) m st st (Err StackOverflow)
 unfolding fitted lent push with_stack ◌>>=◌
 mark_over {m} {st} fits over = record {
   does = λ e d c l μ R.
@@ -59,19 +59,19 @@ converted x μ s =
     ap (λ r. r >>= λ p. ok (push (as_executable x p.0) p.1)) (pop1_some μ s)
     ∙ ap (λ t. ok (with_stack (set t 0 (as_executable x (get_or t 0 null))) μ)) (sym s)
 
-module _ (x : Bool) {m : Machine} {st : List ℕ} (op : Floo.Machine → Result Floo.Machine) (named : (μ : Floo.Machine) → op μ ≡ convert x μ) where
-  pub convert_under : m.depth < 1 → DoesStack op m st st (Fail StackUnderflow)
+module _ (x : Bool) {m : Machine} {st : List ℕ} where
+  pub convert_under : m.depth < 1 → DoesStack (convert x) m st st (Err StackUnderflow)
   unfolding convert ◌>>=◌
   convert_under h = record {
-    does = λ e d c l μ R. (fitted_fails (lent st e d c l) op μ (named μ ∙ ap (λ r. r >>= λ p. ok (push (as_executable x p.0) p.1)) (pop1_none μ (no_items R.items h))), refl);
+    does = λ e d c l μ R. (fitted_fails (lent st e d c l) (convert x) μ (ap (λ r. r >>= λ p. ok (push (as_executable x p.0) p.1)) (pop1_none μ (no_items R.items h))), refl);
   }
 
-  pub convert_done : {r : Machine} {st' : List ℕ} (k : ℕ) → m.depth ≡ suc k → MovesStack (retagged x) m r st st' → DoesStack op m st st' (Ok r)
+  pub convert_done : {r : Machine} {st' : List ℕ} (k : ℕ) → m.depth ≡ suc k → MovesStack (retagged x) m r st st' → DoesStack (convert x) m st st' (Ok r)
   unfolding fitted retagged ◌>>=◌
   convert_done k h P = record {
     does = λ e d c l μ R.
         let t = top R.items k h in
         let new = as_executable x (get_or μ.stack 0 null) in
         let few : length (set μ.stack 0 new) ≤ length μ.stack = omega (arith, length-set μ.stack 0 new) in
-        (retagged x μ, ap (λ q. q >>= room_for (lent st e d c l) μ) (named μ ∙ converted x μ t.split) ∙ stack_passes R (set μ.stack 0 new) few, P.moves e d c l μ R);
+        (retagged x μ, ap (λ q. q >>= room_for (lent st e d c l) μ) (converted x μ t.split) ∙ stack_passes R (set μ.stack 0 new) few, P.moves e d c l μ R);
   }

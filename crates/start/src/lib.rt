@@ -47,14 +47,12 @@ fn write_names(dict: &mut [u32], list: &[u8])
     ensures { Filled dict.old dict.new }
 {
     let mut at = 0;
-    let mut k = 0;
-    while k < NAME_COUNT {
+    for k in 0..NAME_COUNT {
         let end = dictionary::blank_from(list, at);
         dictionary::spell(dict, k, &list[at..end]);
         dict[DICTIONARY_WIDTH * k + BINDING_TAG] = binding_tag(k);
         dict[DICTIONARY_WIDTH * k + BINDING_PAYLOAD] = binding_payload(k);
         at = end + 1;
-        k = k + 1;
     }
 }
 
@@ -64,10 +62,8 @@ fn forget_handlers(dict: &mut [u32])
     requires { (name_words ≤ length dict.old) × (length dict.old ≤ dictionary_words_most) }
     ensures { Unhandled dict.old dict.new }
 {
-    let mut j = 0;
-    while j < ERROR_COUNT {
+    for j in 0..ERROR_COUNT {
         dict[HANDLER_WIDTH * j + HANDLER_TAG] = TAG_UNBOUND;
-        j = j + 1;
     }
     dict[LATEST_ERROR] = 0;
     dict[LATEST_COMMAND] = 0;

@@ -1,5 +1,6 @@
 -- Steps on the topmost execution slot, and every step's promise.
 -- Assumes nothing.
+use Rattle.std.specs.Prelude.{Ok, Err}
 use mathlib.Core.Path.{◌≡◌, refl, sym, subst}
 use mathlib.Core.List.{List}
 use Prim.Native.Nat.{ℕ, ◌≤◌}
@@ -14,8 +15,7 @@ use Rattle.ending.specs.declared.Command.TheVariants as command
 use Rattle.machine.specs.Rep.{Rep}
 use Rattle.machine.specs.Room.{lent, fitted}
 use Rattle.machine.specs.declared.Machine.{Machine}
-use Rattle.machine.specs.declared.Did.{Did}
-use Rattle.machine.specs.declared.Did.TheVariants.{Ok, Fail}
+use Rattle.machine.specs.Answers.{Did}
 use Rattle.machine.specs.FrameMoves.{top_frame, frame_dropped, Somewhere}
 use Rattle.machine.proofs.Rooms.{frames_length}
 use Rattle.operators.specs.Titles.{DoesAll}
@@ -46,7 +46,7 @@ token_tries l r T = record { tries = λ μ R. T.tries l μ R; left = same_left l
 
 module _ {m : Machine} {s s' e e' d d' c c' l l' : List ℕ} where
   -- Where it failed, no word has changed.
-  same_rep : {x : Error} → DoesAll resumed m s s' e e' d d' c c' l l' (Fail x) → {μ : Floo.Machine} → Rep m s e d c l μ → Rep m s' e' d' c' l' μ
+  same_rep : {x : Error} → DoesAll resumed m s s' e e' d d' c c' l l' (Err x) → {μ : Floo.Machine} → Rep m s e d c l μ → Rep m s' e' d' c' l' μ
   same_rep D {μ} R = stays (D.does μ R).1
     where
       stays : (s' ≡ s) × (e' ≡ e) × (d' ≡ d) × (c' ≡ c) × (l' ≡ l) → Rep m s' e' d' c' l' μ
@@ -57,7 +57,7 @@ module _ {m : Machine} {s s' e e' d d' c c' l l' : List ℕ} where
           (subst (λ x. Rep m s e d x l' μ) (sym g)
           (subst (λ x. Rep m s e d c x μ) (sym h) R))))
 
-  pub command_there : {x : Error} {did : Did} → did ≡ Fail x → DoesAll resumed m s s' e e' d d' c c' l l' did → (μ : Floo.Machine) → Rep m s e d c l μ → Somewhere m e' c'
+  pub command_there : {x : Error} {did : Did} → did ≡ Err x → DoesAll resumed m s s' e e' d d' c c' l l' did → (μ : Floo.Machine) → Rep m s e d c l μ → Somewhere m e' c'
   command_there q D μ R = (s', d', l', μ, same_rep (subst (DoesAll resumed m s s' e e' d d' c c' l l') q D) R)
 
 acts : (script : List ℕ) (σ : State) {s e d c l : List ℕ} {μ : Floo.Machine}
@@ -85,8 +85,8 @@ module _ {script : List ℕ} {σ : State} {s s' e e' d d' c c' l l' : List ℕ} 
         left = D'.rest;
       })
 
-  pub failing : {x : Error} → did ≡ Fail x → (μ : Floo.Machine) → Rep σ.machine s e d c l μ → {name : Command} → Commands σ.machine e' c' name → {r : Stepped}
-      → r ≡ ended_by σ σ.at σ.next name (Fail x)
+  pub failing : {x : Error} → did ≡ Err x → (μ : Floo.Machine) → Rep σ.machine s e d c l μ → {name : Command} → Commands σ.machine e' c' name → {r : Stepped}
+      → r ≡ ended_by σ σ.at σ.next name (Err x)
       → Tries script σ s s' e e' d d' c c' l l' r
   unfolding fitted resumed
   failing {x} g μ₀ R₀ {name} C is =
@@ -96,7 +96,7 @@ module _ {script : List ℕ} {σ : State} {s s' e e' d d' c c' l l' : List ℕ} 
         tries = λ μ R.
             let there = same_rep D' R in
             let N = C.says script s' d' l' μ there in
-            tries_step (Fail x) (λ y u. (C.stays σ.next, subst (Passable σ.machine) (sym (D'.does μ R).1.1) (passable R (D'.does μ R).0))) (record {
+            tries_step (Err x) (λ y u. (C.stays σ.next, subst (Passable σ.machine) (sym (D'.does μ R).1.1) (passable R (D'.does μ R).0))) (record {
               move = resume (top_frame μ) (frame_dropped μ);
               is = acts script σ some R;
               inside = inside;

@@ -1,5 +1,6 @@
 -- The definition's step, by what the runner did: from the promise of a token's function or of the topmost slot to the step's end.
 -- Assumes nothing.
+use Rattle.std.specs.Prelude.{Result as Answered, Some, None, Ok, Err}
 use mathlib.Core.Path.{◌≡◌, refl, sym, ap, ◌∙◌, subst}
 use mathlib.Core.Bool.{Bool, true, false}
 use mathlib.Core.List.{List, [], ◌∷◌}
@@ -29,16 +30,14 @@ use Rattle.machine.specs.Places.{keys}
 use Rattle.machine.specs.Rep.{Rep, Answer}
 use Rattle.machine.specs.Room.{lent}
 use Rattle.machine.specs.declared.Machine.{Machine}
-use Rattle.machine.specs.declared.Did.{Did}
-use Rattle.machine.specs.declared.Did.TheVariants.{Ok, Fail}
+use Rattle.machine.specs.Answers.{Did}
 use Rattle.machine.specs.FrameMoves.{top_frame, frame_dropped}
 use Rattle.token.specs.Lexing.{Lexes}
-use Rattle.handover.specs.Handover.{left_of, Passable, handed_over, HandedAs, MayHand, HandsOver}
-use Rattle.handover.specs.declared.Handed.{Handed}
-use Rattle.handover.specs.declared.Handed.TheVariants as handed
+use Rattle.handover.specs.Handover.{left_of, Passable, handed_over, Handed, HandedAs, MayHand, HandsOver}
 use Rattle.step.specs.Stepping.{state_of, SteppedAs, TriedAs, LogLeft, Steps, Tries, ended_by, handed_by}
-use Rattle.step.specs.declared.Stepped.TheVariants.{Fails}
+use Rattle.step.specs.declared.Stepped.TheVariants.{Goes, Fails, Misreads}
 use Rattle.step.specs.declared.State.{State}
+use Rattle.step.specs.declared.Stepped.{Stepped}
 
 -- What is left of a token that could not be read.
 pub unmoved_is : (σ : steps.State) (at : ℕ) → unmoved σ at ≡ record { machine = σ.machine; next = σ.next; at = at; steps = σ.steps + 1 }
@@ -118,19 +117,19 @@ pub record Ends (script : List ℕ) (σ : State) (s s' e e' d d' c c' l l' : Lis
   pub is : steps.step (lent s e d c l) script (state_of σ μ) ≡ moved (lent s e d c l) (state_of σ μ) at next (left_of μ.exec) move
   pub inside : next ≤ length script
   pub within : at ≤ length script
-  pub named : (x : Error) → did ≡ Fail x → (move.command ≡ command_text script (keys μ) command) × IsCommand script (keys μ) command
+  pub named : (x : Error) → did ≡ Err x → (move.command ≡ command_text script (keys μ) command) × IsCommand script (keys μ) command
   pub answer : Answer (λ r. Rep r s' e' d' c' l') (Rep σ.machine s' e' d' c' l' μ) did (move.result >>= room_for (lent s e d c l) μ)
 
 -- So what was tried is the definition's step, up to the error that is still to be handed over.
 pub tries_step : {script : List ℕ} {σ : State} {s s' e e' d d' c c' l l' : List ℕ} {μ : Floo.Machine} {at next : ℕ} {command : Command} (did : Did)
-    → ((x : Error) → did ≡ Fail x → (after_of σ.next command ≡ next) × Passable σ.machine e')
+    → ((x : Error) → did ≡ Err x → (after_of σ.next command ≡ next) × Passable σ.machine e')
     → Ends script σ s s' e e' d d' c c' l l' μ at next command did
     → TriedAs script σ s s' e e' d d' c c' l l' μ (ended_by σ at next command did)
 unfolding moved
 tries_step {σ = σ} {s = s} {e = e} {d = d} {c = c} {l = l} {μ = μ} {at = at} {next = next} (Ok r) P E =
     let A = E.answer in
     (A.0, E.is ∙ ended_ok (lent s e d c l) (state_of σ μ) at next (left_of μ.exec) E.move.command A.1, A.2, E.inside, E.within)
-tries_step {script} {σ} {s} {e = e} {d = d} {c = c} {l = l} {μ = μ} {at = at} {next = next} {command = command} (Fail x) P E =
+tries_step {script} {σ} {s} {e = e} {d = d} {c = c} {l = l} {μ = μ} {at = at} {next = next} {command = command} (Err x) P E =
     let A = E.answer in
     let after = (P x refl).0 in (
       E.is
@@ -164,7 +163,7 @@ module _ {script : List ℕ} {σ τ : State} {s s' e e' d d' c c' l l' : List �
     settled_as : (e'' d'' c'' : List ℕ) (h : Handed)
         → HandedAs (λ m. Rep m s' e'' d'' c'' l') ((e'' ≡ e') × (d'' ≡ d') × (c'' ≡ c')) h (handed_over (lent s e d c l) x text μ)
         → SteppedAs script σ s s' e e'' d d'' c c'' l l' μ (handed_by τ x command h)
-    settled_as e'' d'' c'' (handed.Over q) H = (
+    settled_as e'' d'' c'' (Some q) H = (
       H.0,
       A.0 ∙ handed_goes (lent s e d c l) (state_of σ μ) τ.at (after_of σ.next command) x text H.1
           ∙ ap (λ n. steps.goes (record { machine = H.0; next = after_of σ.next command; at = τ.at; steps = n })) (sym same_steps)
@@ -173,7 +172,7 @@ module _ {script : List ℕ} {σ τ : State} {s s' e e' d d' c c' l l' : List �
       subst (λ n. after_of n command ≤ length script) (sym same_next) A.4,
       A.5,
     )
-    settled_as e'' d'' c'' handed.Not H = (
+    settled_as e'' d'' c'' None H = (
       A.0 ∙ handed_fails (lent s e d c l) (state_of σ μ) τ.at (after_of σ.next command) x text H.0
           ∙ ap (λ n. steps.fails x text (record { machine = μ; next = σ.next; at = τ.at; steps = n })) (sym same_steps)
           ∙ ap (λ n. steps.fails x text (record { machine = μ; next = n; at = τ.at; steps = τ.steps })) (sym same_next),
@@ -184,8 +183,8 @@ module _ {script : List ℕ} {σ τ : State} {s s' e e' d d' c c' l l' : List �
     )
 
   log_left : (h : Handed) → LogLeft l l' (handed_by τ x command h)
-  log_left (handed.Over r) = ap (drop r.written) T.left
-  log_left handed.Not = T.left
+  log_left (Some r) = ap (drop r.written) T.left
+  log_left None = T.left
 
   pub settled : {e'' d'' c'' : List ℕ} (h : Handed)
       → HandsOver script x command τ.machine e' e'' d' d'' c' c'' h
@@ -212,18 +211,13 @@ module _ {script : List ℕ} {σ τ : State} {s s' e e' d d' c c' l l' : List �
         is = A.2;
       }
 
--- Whether it failed.
-abbrev failed : Did → ℕ
-failed (Ok r) = 0
-failed (Fail x) = 1
-
-pub never : {q : Machine} {x : Error} {A : Type 0} → Ok q ≡ Fail x → A
-never u = let z : ◌≡◌ {A = ℕ} 0 1 = ap failed u in absurd (omega arith)
+pub never : {q : Machine} {x : Error} {A : Type 0} → ◌≡◌ {A = Did} (Ok q) (Err x) → A
+never u = absurd (cc)
 
 -- The answer of what kept the words where it failed.
 pub kept_answer : (R : Machine → Floo.Machine → Type 0) (S T : Type 0) (did : Did) (q : Result Floo.Machine) → (S → T) → Answer R S did q → Answer R T did q
 kept_answer R S T (Ok r) q f A = A
-kept_answer R S T (Fail x) q f A = (A.0, f A.1)
+kept_answer R S T (Err x) q f A = (A.0, f A.1)
 
 -- ---- which step it is
 

@@ -1,5 +1,6 @@
 -- Steps that take a token: what the token's function promises is the definition's step.
 -- Assumes nothing.
+use Rattle.std.specs.Prelude.{Ok, Err}
 use mathlib.Core.Path.{◌≡◌, refl, sym, ap, ◌∙◌, subst}
 use mathlib.Core.Bool.{true, false}
 use mathlib.Core.List.{List, []}
@@ -21,18 +22,14 @@ use Rattle.ending.specs.declared.Command.TheVariants as command
 use Rattle.machine.specs.Places.{keys}
 use Rattle.machine.specs.Rep.{Rep, Answer}
 use Rattle.machine.specs.Room.{lent, fitted, DoesStack}
-use Rattle.machine.specs.declared.Did.{Did}
-use Rattle.machine.specs.declared.Did.TheVariants as did
+use Rattle.machine.specs.Answers.{Did}
 use Rattle.token.specs.declared.Token as scanned
-use Rattle.token.specs.Lexing.{TokenAt, Lexes, NameToken, StringToken, BraceToken, EndToken, LexedAt, fault_of}
-use Rattle.token.specs.declared.Lexed.{Lexed}
-use Rattle.token.specs.declared.Lexed.TheVariants as lexed
+use Rattle.token.specs.Lexing.{TokenAt, Lexes, NameToken, StringToken, BraceToken, EndToken, LexedAt}
 use Rattle.taking.specs.Effects.{integer_taken, string_taken, literal_taken, executable_taken}
 use Rattle.taking.specs.Promises.{DoesBinding, DoesNames, DoesString}
 use Rattle.taking.proofs.Moves.{taken_of, integer_move, string_move, literal_move, executable_move}
-use Rattle.group_taking.specs.Taking.{group_read, GroupedAs, TakesGroup}
-use Rattle.group_taking.specs.declared.Grouped.{Grouped}
-use Rattle.group_taking.specs.declared.Grouped.TheVariants as grouped
+use Rattle.group_taking.specs.Taking.{group_read, Grouped, GroupedAs, TakesGroup}
+use Rattle.group_taking.specs.declared.GroupError.TheVariants as group
 use Rattle.handover.specs.Handover.{left_of}
 use Rattle.handover.proofs.Passing.{exec_empty, no_slot}
 use Rattle.step.specs.Stepping.{state_of, TriedAs, TriesToken, ended_by, grouped_by, misread_by}
@@ -42,13 +39,8 @@ use Rattle.step.proofs.Moving.{Ends, tries_step, kept_answer, token_step_lem, en
 
 -- ---- the token that was read
 
-pub token_is : (script : List ℕ) (start : ℕ) {answer : Lexed} → LexedAt script start answer
-    → {t : scanned.Token} {next : ℕ}
-    → answer ≡ lexed.Token t next
-    → {u : scanned.Token}
-    → t ≡ u
-    → TokenAt script start next u
-token_is script start k {t} {next} g h = subst (TokenAt script start next) h (subst (LexedAt script start) g k)
+pub token_is : (script : List ℕ) (start next : ℕ) {t u : scanned.Token} → TokenAt script start next t → t ≡ u → TokenAt script start next u
+token_is script start next k h = subst (TokenAt script start next) h k
 
 -- ---- from a promise to the step
 
@@ -92,16 +84,11 @@ module _ {script : List ℕ} {σ : State} (none : σ.machine.frames ≡ 0) {star
         subst (TriesToken script σ s s e e d d c c) (sym q)
         (record { tries = λ l μ R. (h l μ R ∙ ap (steps.misreads f) (unmoved_is (state_of σ μ) start), R, low) })
 
-    pub lex_fault : {answer : Lexed} → LexedAt script start answer → {x : Fault} → answer ≡ lexed.Fault x → {y : Fault} → y ≡ fault_of answer → {r : Stepped}
-        → r ≡ misread_by σ start y
-        → TriesToken script σ s s e e d d c c r
-    lex_fault k {x} g {y} is =
-        let w : lex start (drop start script) ≡ fault x = subst (LexedAt script start) g k in
-        let same : y ≡ x = is ∙ ap fault_of g in
-        let v : lex start (drop start script) ≡ fault y = w ∙ ap fault (sym same) in
+    pub lex_fault : {x : Fault} → LexedAt script start (Err x) → {r : Stepped} → r ≡ misread_by σ start x → TriesToken script σ s s e e d d c c r
+    lex_fault {x} v =
         misread_ends (λ l μ R.
-        subst (λ n. steps.step (lent s e d c l) script (state_of σ μ) ≡ steps.misreads y (unmoved (state_of σ μ) n)) (sym begins)
-        (fault_step (lent s e d c l) script (state_of σ μ) (exec_empty R none) (subst (λ n. lex n (drop n script) ≡ fault y) begins v)))
+        subst (λ n. steps.step (lent s e d c l) script (state_of σ μ) ≡ steps.misreads x (unmoved (state_of σ μ) n)) (sym begins)
+        (fault_step (lent s e d c l) script (state_of σ μ) (exec_empty R none) (subst (λ n. lex n (drop n script) ≡ fault x) begins v)))
 
     pub close_fault : {next : ℕ} → BraceToken script start Token.close_brace next → {r : Stepped} → r ≡ misread_by σ start (BadBrace start) → TriesToken script σ s s e e d d c c r
     unfolding token_value token_step
@@ -210,11 +197,11 @@ module _ (script : List ℕ) (σ : State) (none : σ.machine.frames ≡ 0) (star
       → GroupedAs script next σ.machine s s' e d d' c c' l μ answer
       → TriedAs script σ s s' e e d d' c c' l l μ (grouped_by σ start answer)
   unfolding token_step
-  group_tries (grouped.Done q after) l μ R G =
-      tries_step (did.Ok q) (λ x u. (refl, no_slot none)) (group_ends {outcome = did.Ok q} l μ G.0 R G.1 G.4 (push (array true (made μ)) G.0, G.2, G.3))
-  group_tries (grouped.Fail x after) l μ R G =
-      tries_step (did.Fail x) (λ y u. (refl, no_slot none)) (group_ends {outcome = did.Fail x} l μ G.0 R G.1 G.6 (G.2, kept_words G.3 G.4 G.5))
-  group_tries (grouped.Misread q f) l μ R G =
+  group_tries (Ok (q, after)) l μ R G =
+      tries_step (Ok q) (λ x u. (refl, no_slot none)) (group_ends {outcome = Ok q} l μ G.0 R G.1 G.4 (push (array true (made μ)) G.0, G.2, G.3))
+  group_tries (Err (group.Failed x after)) l μ R G =
+      tries_step (Err x) (λ y u. (refl, no_slot none)) (group_ends {outcome = Err x} l μ G.0 R G.1 G.6 (G.2, kept_words G.3 G.4 G.5))
+  group_tries (Err (group.Misread f)) l μ R G =
       (opens_step R G.0 ∙ ap (steps.misreads f) (unmoved_is (state_of σ μ) start), kept_words G.1 G.2 G.3, low)
 
 pub group_does : {script : List ℕ} {σ : State} → σ.machine.frames ≡ 0

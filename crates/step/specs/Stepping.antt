@@ -1,6 +1,6 @@
 -- A step of the runner against the definition's.
 -- Assumes nothing.
-use Rattle.std.specs.Prelude.{◌≡◌, Bool, List, ℕ, ◌+◌, ◌≤◌, ◌<◌, length, drop}
+use Rattle.std.specs.Prelude.{◌≡◌, Bool, List, ℕ, ◌+◌, ◌≤◌, ◌<◌, length, drop, Some, None, Ok, Err}
 use Rattle.semantics.specs.Sizes.{script_most, fuel_most}
 use Rattle.semantics.specs.Errors.{error_text}
 use Rattle.semantics.specs.Machine as Floo
@@ -15,13 +15,10 @@ use Rattle.ending.specs.declared.Command.TheVariants.{Nothing, Taken}
 use Rattle.machine.specs.Places.{keys}
 use Rattle.machine.specs.Rep.{Rep}
 use Rattle.machine.specs.Room.{lent}
-use Rattle.machine.specs.declared.Did.{Did}
-use Rattle.machine.specs.declared.Did.TheVariants as did
-use Rattle.group_taking.specs.declared.Grouped.{Grouped}
-use Rattle.group_taking.specs.declared.Grouped.TheVariants as grouped
-use Rattle.handover.specs.Handover.{left_of, Passable}
-use Rattle.handover.specs.declared.Handed.{Handed}
-use Rattle.handover.specs.declared.Handed.TheVariants as handed
+use Rattle.machine.specs.Answers.{Did}
+use Rattle.group_taking.specs.Taking.{Grouped}
+use Rattle.group_taking.specs.declared.GroupError.TheVariants as group
+use Rattle.handover.specs.Handover.{left_of, Passable, Handed}
 use Rattle.step.specs.declared.State.{State}
 use Rattle.step.specs.declared.Stepped.{Stepped}
 use Rattle.step.specs.declared.Stepped.TheVariants.{Goes, Fails, Misreads}
@@ -96,21 +93,21 @@ ReadyToken script σ s e d c = (l : List ℕ) × Ready script σ s e d c l × (�
 -- ---- the step's end
 
 abbrev pub ended_by : State → ℕ → ℕ → Command → Did → Stepped
-ended_by σ at next command (did.Ok r) = Goes (record { machine = r; next = next; at = at; steps = σ.steps + 1 })
-ended_by σ at next command (did.Fail e) = Fails (record { machine = σ.machine; next = σ.next; at = at; steps = σ.steps + 1 }) e command
+ended_by σ at next command (Ok r) = Goes (record { machine = r; next = next; at = at; steps = σ.steps + 1 })
+ended_by σ at next command (Err e) = Fails (record { machine = σ.machine; next = σ.next; at = at; steps = σ.steps + 1 }) e command
 
 -- An error is handed over, or ends the run.
 abbrev pub handed_by : State → Error → Command → Handed → Stepped
-handed_by τ x command (handed.Over r) = Goes (record { machine = r; next = after_of τ.next command; at = τ.at; steps = τ.steps })
-handed_by τ x command handed.Not = Fails τ x command
+handed_by τ x command (Some r) = Goes (record { machine = r; next = after_of τ.next command; at = τ.at; steps = τ.steps })
+handed_by τ x command None = Fails τ x command
 
 abbrev pub misread_by : State → ℕ → Fault → Stepped
 misread_by σ at f = Misreads (record { machine = σ.machine; next = σ.next; at = at; steps = σ.steps + 1 }) Nothing f
 
 abbrev pub grouped_by : State → ℕ → Grouped → Stepped
-grouped_by σ at (grouped.Done r next) = Goes (record { machine = r; next = next; at = at; steps = σ.steps + 1 })
-grouped_by σ at (grouped.Fail e next) = Fails (record { machine = σ.machine; next = σ.next; at = at; steps = σ.steps + 1 }) e (Taken next)
-grouped_by σ at (grouped.Misread r f) = misread_by σ at f
+grouped_by σ at (Ok (r, next)) = Goes (record { machine = r; next = next; at = at; steps = σ.steps + 1 })
+grouped_by σ at (Err (group.Failed e next)) = Fails (record { machine = σ.machine; next = σ.next; at = at; steps = σ.steps + 1 }) e (Taken next)
+grouped_by σ at (Err (group.Misread f)) = misread_by σ at f
 
 -- ---- the run's end
 

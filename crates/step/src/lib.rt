@@ -8,10 +8,10 @@ ghost use Rattle.semantics.specs.Sizes.{fuel_most};
 ghost use Rattle.step.specs.Stepping.{ReadySlot, ReadyToken, TriesSlot, TriesToken, Finished, ended_by, grouped_by, misread_by};
 
 use ending::Command;
-use group_taking::Grouped;
-use machine::{Did, Machine};
+use group_taking::GroupError;
+use machine::Machine;
 use semantics::{Error, Fault};
-use token::{Lexed, Token};
+use token::Token;
 
 // The state between two steps: the machine, the offset of the script's bytes that are left, the offset of the token last taken, and the steps made.
 #[derive(Clone, Copy)]
@@ -22,7 +22,8 @@ pub struct State {
     pub steps: u32,
 }
 
-// A step that could not read its token has the empty command, so that its fault lies where nothing of the other answers does.
+// A step that could not read its token has the empty command, so that its fault lies where nothing of the other answers does. It is no
+// `Result<State, Stop>`: with that form a step of the counted loop took some 40 machine instructions more.
 #[derive(Clone, Copy)]
 pub enum Stepped {
     Goes(State),
@@ -48,11 +49,11 @@ impl State {
     {
         let m = self.machine;
         match acting::act(m, stack, exec, dict, cells, log) {
-            Did::Ok(r) => self.ended(self.at, self.next, Command::Nothing, Did::Ok(r)),
+            Ok(r) => self.ended(self.at, self.next, Command::Nothing, Ok(r)),
             // no word has changed: the command is where it was
-            Did::Fail(e) => {
+            Err(e) => {
                 let failed = commands::command(m, exec, cells);
-                self.ended(self.at, self.next, failed, Did::Fail(e))
+                self.ended(self.at, self.next, failed, Err(e))
             }
         }
     }
@@ -71,36 +72,35 @@ impl State {
         ensures { TriesToken script.now self stack.old stack.new exec.old exec.new dict.old dict.new cells.old cells.new result }
     {
         let start = token::skip(script, self.next);
-        let lexed = token::token_at(script, start);
-        let Lexed::Token(read, next) = lexed else {
-            return self.misread(start, token::fault_of(lexed));
-        };
         let m = self.machine;
-        match read {
-            Token::Integer(w) => self.ended(
-                start,
-                next,
-                Command::Taken(next),
-                taking::take_integer(m, stack, w),
-            ),
-            Token::String(at, size) => {
-                let did = taking::take_string(m, stack, cells, script, at, size);
-                self.ended(start, next, Command::Taken(next), did)
-            }
-            Token::ExecutableName(at, size) => {
-                let did = taking::take_executable(m, exec, dict, cells, &script[at..at + size]);
-                self.ended(start, next, Command::Token(at, size), did)
-            }
-            Token::LiteralName(at, size) => {
-                let did = taking::take_literal(m, stack, dict, &script[at..at + size]);
-                self.ended(start, next, Command::Taken(next), did)
-            }
-            Token::OpenBrace => {
-                let grouped = group_taking::take_group(m, stack, dict, cells, script, next);
-                self.grouped(start, grouped)
-            }
-            Token::CloseBrace => self.misread(start, Fault::BadBrace(start as u32)),
-            Token::End => self.misread(start, Fault::BadBrace(start as u32)),
+        match token::token_at(script, start) {
+            Ok((read, next)) => match read {
+                Token::Integer(w) => self.ended(
+                    start,
+                    next,
+                    Command::Taken(next),
+                    taking::take_integer(m, stack, w),
+                ),
+                Token::String(at, size) => {
+                    let did = taking::take_string(m, stack, cells, script, at, size);
+                    self.ended(start, next, Command::Taken(next), did)
+                }
+                Token::ExecutableName(at, size) => {
+                    let did = taking::take_executable(m, exec, dict, cells, &script[at..at + size]);
+                    self.ended(start, next, Command::Token(at, size), did)
+                }
+                Token::LiteralName(at, size) => {
+                    let did = taking::take_literal(m, stack, dict, &script[at..at + size]);
+                    self.ended(start, next, Command::Taken(next), did)
+                }
+                Token::OpenBrace => {
+                    let grouped = group_taking::take_group(m, stack, dict, cells, script, next);
+                    self.grouped(start, grouped)
+                }
+                Token::CloseBrace => self.misread(start, Fault::BadBrace(start as u32)),
+                Token::End => self.misread(start, Fault::BadBrace(start as u32)),
+            },
+            Err(f) => self.misread(start, f),
         }
     }
 
@@ -122,13 +122,7 @@ impl State {
     pub fn finish(self, at: usize) -> State
         ensures { result ≡ record { machine = self.machine; next = self.next; at = at; steps = self.steps } }
     {
-        let m = self.machine;
-        State {
-            machine: m,
-            next: self.next,
-            at: at,
-            steps: self.steps,
-        }
+        State { at, ..self }
     }
 
     // The same state, made anew field by field: the compiler then keeps the fields of the loop's state apart.
@@ -136,9 +130,8 @@ impl State {
     pub fn by_fields(self) -> State
         ensures { result ≡ self }
     {
-        let m = self.machine.fields();
         State {
-            machine: m,
+            machine: self.machine.fields(),
             next: self.next,
             at: self.at,
             steps: self.steps,
@@ -146,24 +139,22 @@ impl State {
     }
 
     // The state after a step: the token at `at` has been taken, and the bytes from `next` on are left; or the state before it, with the step counted and `at` set.
-    fn ended(self, at: usize, next: usize, command: Command, did: Did) -> Stepped
+    fn ended(self, at: usize, next: usize, command: Command, did: Result<Machine, Error>) -> Stepped
         requires { self.steps < fuel_most }
         ensures { result ≡ ended_by self at next command did }
     {
-        let m = self.machine;
         match did {
-            Did::Ok(r) => Stepped::Goes(State {
-                machine: r,
-                next: next,
-                at: at,
+            Ok(machine) => Stepped::Goes(State {
+                machine,
+                next,
+                at,
                 steps: self.steps + 1,
             }),
-            Did::Fail(e) => Stepped::Fails(
+            Err(e) => Stepped::Fails(
                 State {
-                    machine: m,
-                    next: self.next,
-                    at: at,
+                    at,
                     steps: self.steps + 1,
+                    ..self
                 },
                 e,
                 command,
@@ -172,14 +163,14 @@ impl State {
     }
 
     // The same of a brace group.
-    fn grouped(self, at: usize, answer: Grouped) -> Stepped
+    fn grouped(self, at: usize, answer: Result<(Machine, usize), GroupError>) -> Stepped
         requires { self.steps < fuel_most }
         ensures { result ≡ grouped_by self at answer }
     {
         match answer {
-            Grouped::Done(r, next) => self.ended(at, next, Command::Nothing, Did::Ok(r)),
-            Grouped::Fail(e, next) => self.ended(at, next, Command::Taken(next), Did::Fail(e)),
-            Grouped::Misread(_, f) => self.misread(at, f),
+            Ok((r, next)) => self.ended(at, next, Command::Nothing, Ok(r)),
+            Err(GroupError::Failed(e, next)) => self.ended(at, next, Command::Taken(next), Err(e)),
+            Err(GroupError::Misread(f)) => self.misread(at, f),
         }
     }
 
@@ -188,13 +179,11 @@ impl State {
         requires { self.steps < fuel_most }
         ensures { result ≡ misread_by self at f }
     {
-        let m = self.machine;
         Stepped::Misreads(
             State {
-                machine: m,
-                next: self.next,
-                at: at,
+                at,
                 steps: self.steps + 1,
+                ..self
             },
             Command::Nothing,
             f,

@@ -11,8 +11,6 @@ use Rattle.semantics.specs.Values.{Object, elements, text}
 use Rattle.semantics.specs.Machine as Floo
 use Rattle.semantics.specs.Machine.{with_store, object, bytes_of, change}
 use Rattle.token.specs.Strings.{StringAt, Gives, Unescapes}
-use Rattle.token.specs.declared.quoted.Unescaped.{Unescaped}
-use Rattle.token.specs.declared.quoted.Unescaped.TheVariants as unescaped
 use Rattle.token.proofs.Escapes.{same_string}
 use Rattle.heap.specs.Chain.{live}
 use Rattle.heap.proofs.Shapes.{list_le}
@@ -23,6 +21,7 @@ use Rattle.machine.specs.Rep.{Rep, World}
 use Rattle.machine.specs.declared.Machine.{Machine}
 use Rattle.elements.specs.Elements.{HasCell, IsString, PutsByte, item_id, byte_set}
 use Rattle.elements.proofs.Strings.{string_here, string_is, byte_here}
+use Rattle.std.specs.Prelude.{Option, Some, None}
 use Rattle.strings.specs.Strings.{HasRoom, Fills, FillsAt, FillsString, Filled, FilledAt, string_filled, bytes_filled}
 use Rattle.strings.proofs.Parts.{part_too, set_changed, changed_text, changed_bytes}
 
@@ -169,9 +168,9 @@ module _ {h : ℕ} {c₀ c script : List ℕ} {start at q : ℕ} (F : Filling h 
   pub few_bytes : length F.bytes ≤ 262144
   few_bytes = room_few F.room
 
-  module _ {r : Unescaped} (U : Unescapes script at r) where
-    module _ {b next : ℕ} (e : r ≡ unescaped.Byte b next) where
-      gives : Gives script at F.rest F.last (unescaped.Byte b next)
+  module _ {r : Option (ℕ × ℕ)} (U : Unescapes script at r) where
+    module _ {b next : ℕ} (e : r ≡ Some (b, next)) where
+      gives : Gives script at F.rest F.last (Some (b, next))
       gives = subst (Gives script at F.rest F.last) e (U F.rest F.last F.left)
 
       pub one_left : q < length F.bytes
@@ -202,7 +201,7 @@ module _ {h : ℕ} {c₀ c script : List ℕ} {start at q : ℕ} (F : Filling h 
             fills = front_puts F.count F.fills B;
           }
 
-    pub finish : r ≡ unescaped.Closed → FilledAt h c₀ c script start
+    pub finish : r ≡ None → FilledAt h c₀ c script start
     finish e =
         let none : F.rest ≡ [] = subst (Gives script at F.rest F.last) e (U F.rest F.last F.left) in
         let all : F.bytes ≡ F.done = F.parts ∙ ap (λ (t : List ℕ). F.done ++ t) none ∙ append-nil F.done in

@@ -8,7 +8,6 @@ ghost use Rattle.strings.specs.Strings.{HasBytes, HasRoom, CurrentSize, ReadsByt
 
 use machine::{ITEM_PAYLOAD, Machine};
 use semantics::STACK_WIDTH;
-use token::Unescaped;
 
 // The current length of the string that is item i: its bytes before the first zero, or all of them.
 // Ruled out: the maximum for the length; a byte read past the maximum.
@@ -17,14 +16,12 @@ pub fn current_length(m: Machine, stack: &[u32], cells: &[u32], i: usize) -> u32
     ensures { CurrentSize i m stack.now cells.now result }
 {
     let most = elements::maximum(m, stack, cells, i);
-    let mut q = 0;
-    while q < most {
+    for q in 0..most {
         if elements::get_byte(m, stack, cells, i, q) == 0 {
             return q;
         }
-        q = q + 1;
     }
-    q
+    most
 }
 
 // The first n bytes of the string that is item i go to the front of out; the bytes after them stay.
@@ -33,10 +30,8 @@ pub fn read_bytes(m: Machine, stack: &[u32], cells: &[u32], i: usize, n: u32, ou
     requires { (i < m.depth) × (n ≤ length out.old) × SomewhereThat (HasBytes i 0 n) m stack.now cells.now }
     ensures { ReadsBytes i n m stack.now cells.now out.old out.new }
 {
-    let mut q = 0;
-    while q < n {
+    for q in 0..n {
         out[q as usize] = elements::get_byte(m, stack, cells, i, q);
-        q = q + 1;
     }
 }
 
@@ -46,10 +41,8 @@ pub fn write_at(cells: &mut [u32], h: u32, contents: &[u8])
     requires { HasRoom h (length contents.now) cells.old }
     ensures { FillsString h contents.now cells.old cells.new }
 {
-    let mut q = 0;
-    while q < contents.len() {
-        elements::put_byte_at(cells, h, q as u32, contents[q]);
-        q = q + 1;
+    for (q, &b) in contents.iter().enumerate() {
+        elements::put_byte_at(cells, h, q as u32, b);
     }
 }
 
@@ -95,17 +88,10 @@ pub fn fill_at(cells: &mut [u32], h: u32, script: &[u8], start: usize)
 {
     let mut at = start;
     let mut q: u32 = 0;
-    loop {
-        match token::unescape(script, at) {
-            Unescaped::Byte(b, next) => {
-                elements::put_byte_at(cells, h, q, b);
-                q = q + 1;
-                at = next;
-            }
-            Unescaped::Closed => {
-                return;
-            }
-        }
+    while let Some((b, next)) = token::unescape(script, at) {
+        elements::put_byte_at(cells, h, q, b);
+        q += 1;
+        at = next;
     }
 }
 
@@ -123,11 +109,9 @@ fn copy_up(
     requires { (at ≤ start) × (to < m.depth) × (from < m.depth) × SomewhereThat (Copies to at from start n) m stack.now cells.old }
     ensures { MovesHeap (bytes_copied to at from start n) m m stack.now stack.now cells.old cells.new }
 {
-    let mut j = 0;
-    while j < n {
+    for j in 0..n {
         let b = elements::get_byte(m, stack, cells, from, start + j);
         elements::put_byte(m, stack, cells, to, at + j, b);
-        j = j + 1;
     }
 }
 
@@ -145,9 +129,7 @@ fn copy_down(
     requires { (start ≤ at) × (to < m.depth) × (from < m.depth) × SomewhereThat (Copies to at from start n) m stack.now cells.old }
     ensures { MovesHeap (bytes_copied to at from start n) m m stack.now stack.now cells.old cells.new }
 {
-    let mut j = n;
-    while 0 < j {
-        j = j - 1;
+    for j in (0..n).rev() {
         let b = elements::get_byte(m, stack, cells, from, start + j);
         elements::put_byte(m, stack, cells, to, at + j, b);
     }

@@ -1,6 +1,7 @@
 -- An executable name by its slot: it is undefined where the slot's binding has the tag of none, or where no slot has the name; else its binding is pending,
 -- where the execution stack has room.
 -- Assumes nothing.
+use Rattle.std.specs.Prelude.{Ok, Err}
 use mathlib.Core.Path.{◌≡◌, refl, ap, ◌∙◌}
 use mathlib.Core.List.{List}
 use mathlib.Core.Option.{none, some}
@@ -16,8 +17,7 @@ use Rattle.semantics.specs.declared.Error.TheVariants.{Undefined, ExecStackOverf
 use Rattle.machine.specs.Words.{binding_tag}
 use Rattle.machine.specs.Room.{lent, fitted}
 use Rattle.machine.specs.declared.Machine.{Machine}
-use Rattle.machine.specs.declared.Did.{Did}
-use Rattle.machine.specs.declared.Did.TheVariants.{Ok, Fail}
+use Rattle.machine.specs.Answers.{Did}
 use Rattle.machine.proofs.Rooms.{fitted_fails, room_exec, rep_fits, dictionary_fits, frames_length}
 use Rattle.dictionary.specs.Names.{Finds}
 use Rattle.dictionary.specs.Bindings.{BoundFrames, PendsBinding}
@@ -43,13 +43,13 @@ module _ {k : ℕ} {m : Machine} {e d c : List ℕ} where
   pub name_room : NamedBindings k m e d c → (12 * k + 12 ≤ length d) × (length d ≤ dictionary_words_most) × (8 * m.frames ≤ length e) × (length e ≤ exec_words_most)
   name_room (s, l, μ, n, key, R) = (slot_room R k n key, R.rooms.dict_few, R.rooms.exec_fits, R.rooms.exec_few)
 
-  pub name_unbound : binding_tag d k ≡ 7 → DoesNamed k m e e d c c (Fail Undefined)
+  pub name_unbound : binding_tag d k ≡ 7 → DoesNamed k m e e d c c (Err Undefined)
   name_unbound tag = record {
     does = λ s l μ R n key. (fitted_fails (lent s e d c l) (executable_taken n) μ (undefined n μ (bound_none (binding_at_lem R k n key).0 tag)), (refl, refl));
   }
 
   module _ (tag : binding_tag d k ≡ 7 → ⊥) where
-    pub name_full : length e < 8 * m.frames + 8 → DoesNamed k m e e d c c (Fail ExecStackOverflow)
+    pub name_full : length e < 8 * m.frames + 8 → DoesNamed k m e e d c c (Err ExecStackOverflow)
     unfolding fitted lent enter with_exec ◌>>=◌
     name_full full = record {
       does = λ s l μ R n key.
@@ -74,16 +74,15 @@ module _ {k : ℕ} {m : Machine} {e d c : List ℕ} where
 
 -- ---- a name by its bytes
 
-module _ {n : List ℕ} {k : ℕ} {m : Machine} {e d c : List ℕ} (F : Finds m d n k) where
-  module _ (low : k < m.names) where
-    pub name_there : Bindings m e d c → NamedBindings k m e d c
-    name_there (s, l, μ, R) = (s, l, μ, n, find_key R F low, R)
+module _ {n : List ℕ} {k : ℕ} {m : Machine} {e d c : List ℕ} (F : Finds m d n k) (low : k < m.names) where
+  pub name_there : Bindings m e d c → NamedBindings k m e d c
+  name_there (s, l, μ, R) = (s, l, μ, n, find_key R F low, R)
 
-    pub name_taken : {e' c' : List ℕ} {r : Did} → DoesNamed k m e e' d c c' r → DoesBinding (executable_taken n) m e e' d c c' r
-    name_taken D = record { does = λ s l μ R. D.does s l μ R n (find_key R F low) }
+  pub name_taken : {e' c' : List ℕ} {r : Did} → DoesNamed k m e e' d c c' r → DoesBinding (executable_taken n) m e e' d c c' r
+  name_taken D = record { does = λ s l μ R. D.does s l μ R n (find_key R F low) }
 
-  pub name_missing : m.names ≤ k → k ≤ m.names → DoesBinding (executable_taken n) m e e d c c (Fail Undefined)
-  name_missing high low = record {
-    does = λ s l μ R.
-        (fitted_fails (lent s e d c l) (executable_taken n) μ (undefined n μ (lookup_missing n μ.dictionary (find_none R F high low))), (refl, refl));
-  }
+pub name_missing : {n : List ℕ} {m : Machine} {e d c : List ℕ} → Finds m d n m.names → DoesBinding (executable_taken n) m e e d c c (Err Undefined)
+name_missing {n} {m} {e} {d} {c} F = record {
+  does = λ s l μ R.
+      (fitted_fails (lent s e d c l) (executable_taken n) μ (undefined n μ (lookup_missing n μ.dictionary (find_none R F (omega arith) (omega arith)))), (refl, refl));
+}

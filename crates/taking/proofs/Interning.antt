@@ -1,5 +1,6 @@
 -- A literal name by its slot: where it has none, the dictionary's room is tested before the stack's, and the new slot is its own.
 -- Assumes nothing.
+use Rattle.std.specs.Prelude.{Ok, Err}
 use mathlib.Core.Path.{◌≡◌, refl, sym, ap, subst}
 use mathlib.Core.Bool.{false}
 use mathlib.Core.List.{List, ◌∷◌}
@@ -16,7 +17,6 @@ use Rattle.machine.specs.Places.{keys}
 use Rattle.machine.specs.Rep.{Rep}
 use Rattle.machine.specs.Room.{lent, fitted}
 use Rattle.machine.specs.declared.Machine.{Machine}
-use Rattle.machine.specs.declared.Did.TheVariants.{Ok, Fail}
 use Rattle.machine.proofs.Items.{items_length}
 use Rattle.machine.proofs.Rooms.{room_passes, room_stack, stack_fits, exec_fits, dictionary_fits, log_fits}
 use Rattle.dictionary.specs.Names.{slot_of, Finds, Adds}
@@ -34,7 +34,7 @@ module _ {n : List ℕ} {k : ℕ} {m : Machine} {s d : List ℕ} (F : Finds m d 
     unchanged : {e c l : List ℕ} {μ : Floo.Machine} → Rep m s e d c l μ → slotted n μ.dictionary ≡ μ.dictionary
     unchanged {μ = μ} R = slotted_found n μ.dictionary (find_has R F low)
 
-    pub known_over : length s < 2 * m.depth + 2 → DoesNames (literal_taken n) m s s d d (Fail StackOverflow)
+    pub known_over : length s < 2 * m.depth + 2 → DoesNames (literal_taken n) m s s d d (Err StackOverflow)
     unfolding literal_taken fitted lent push intern with_stack with_dictionary ◌>>=◌
     known_over over = record {
       does = λ e c l μ R.
@@ -52,41 +52,44 @@ module _ {n : List ℕ} {k : ℕ} {m : Machine} {s d : List ℕ} (F : Finds m d 
           (push (name false n) (intern n μ), room_passes (lent s e d c l) μ (push (name false n) (intern n μ)) (dictionary_fits after) (exec_fits R) stack refl (log_fits R), after);
     }
 
-  -- ---- it takes the next one
+-- ---- it takes the next one
 
-  module _ (high : m.names ≤ k) (most : k ≤ m.names) where
-    pub new_full : length d < 12 * m.names + 12 → DoesNames (literal_taken n) m s s d d (Fail LimitCheck)
+module _ {n : List ℕ} {m : Machine} {s d : List ℕ} (F : Finds m d n m.names) where
+  missing : {e c l : List ℕ} {μ : Floo.Machine} → Rep m s e d c l μ → length (slotted n μ.dictionary) ≡ m.names + 1
+  missing {μ = μ} R = omega (arith, slotted_missing n μ.dictionary (find_none R F (omega arith) (omega arith)), R.naming.many)
+
+  pub new_full : length d < 12 * m.names + 12 → DoesNames (literal_taken n) m s s d d (Err LimitCheck)
+  unfolding literal_taken fitted lent push intern with_stack with_dictionary ◌>>=◌
+  new_full full = record {
+    does = λ e c l μ R.
+        let many : length d / 12 < length (slotted n μ.dictionary) = omega (arith, missing R) in
+        (room_slots (lent s e d c l) μ (push (name false n) (intern n μ)) many, (refl, refl));
+  }
+
+  module _ (room : 12 * m.names + 12 ≤ length d) where
+    few_names : {e c l : List ℕ} {μ : Floo.Machine} → Rep m s e d c l μ → length (slotted n μ.dictionary) ≤ length d / 12
+    few_names R = omega (arith, missing R)
+
+    pub new_over : length s < 2 * m.depth + 2 → DoesNames (literal_taken n) m s s d d (Err StackOverflow)
     unfolding literal_taken fitted lent push intern with_stack with_dictionary ◌>>=◌
-    new_full full = record {
+    new_over over = record {
       does = λ e c l μ R.
-          let many : length d / 12 < length (slotted n μ.dictionary) = omega (arith, slotted_missing n μ.dictionary (find_none R F high most), R.naming.many) in
-          (room_slots (lent s e d c l) μ (push (name false n) (intern n μ)) many, (refl, refl));
+          let deep : length s / 2 < length (name false n ∷ μ.stack) = omega (arith, items_length R.items) in
+          (room_stack (lent s e d c l) μ (push (name false n) (intern n μ)) (few_names R) (exec_fits R) deep, (refl, refl));
     }
 
-    module _ (room : 12 * m.names + 12 ≤ length d) where
-      few_names : {e c l : List ℕ} {μ : Floo.Machine} → Rep m s e d c l μ → length (slotted n μ.dictionary) ≤ length d / 12
-      few_names {μ = μ} R = omega (arith, slotted_missing n μ.dictionary (find_none R F high most), R.naming.many)
-
-      pub new_over : length s < 2 * m.depth + 2 → DoesNames (literal_taken n) m s s d d (Fail StackOverflow)
-      unfolding literal_taken fitted lent push intern with_stack with_dictionary ◌>>=◌
-      new_over over = record {
-        does = λ e c l μ R.
-            let deep : length s / 2 < length (name false n ∷ μ.stack) = omega (arith, items_length R.items) in
-            (room_stack (lent s e d c l) μ (push (name false n) (intern n μ)) (few_names R) (exec_fits R) deep, (refl, refl));
-      }
-
-      pub new_done : {a r : Machine} {s' d' : List ℕ}
-          → Adds m a d d' n
-          → PushesName k a r s s'
-          → length s' ≡ length s
-          → DoesNames (literal_taken n) m s s' d d' (Ok r)
-      unfolding literal_taken fitted lent push intern with_stack with_dictionary ◌>>=◌
-      new_done A P long = record {
-        does = λ e c l μ R.
-            let is : slot_of n μ.dictionary ≡ m.names = omega (arith, find_none R F high most, R.naming.many) in
-            let at : slot_of n (slotted n μ.dictionary) ≡ k = omega (arith, slotted_slot n μ.dictionary, F.says s e c l μ R) in
-            let key : get_elem? (keys (intern n μ)) k ≡ some n = subst (λ i. get_elem? (keys (intern n μ)) i ≡ some n) at (found_key n (slotted n μ.dictionary) (slotted_has n μ.dictionary)) in
-            let after = P.moves e _ c l (intern n μ) (A.moves s e c l μ R is) n key in
-            let stack : length (name false n ∷ μ.stack) ≤ length s / 2 = omega (arith, stack_fits after) in
-            (push (name false n) (intern n μ), room_passes (lent s e d c l) μ (push (name false n) (intern n μ)) (few_names R) (exec_fits R) stack refl (log_fits R), after);
-      }
+    pub new_done : {a r : Machine} {s' d' : List ℕ}
+        → Adds m a d d' n
+        → PushesName m.names a r s s'
+        → length s' ≡ length s
+        → DoesNames (literal_taken n) m s s' d d' (Ok r)
+    unfolding literal_taken fitted lent push intern with_stack with_dictionary ◌>>=◌
+    new_done A P long = record {
+      does = λ e c l μ R.
+          let is : slot_of n μ.dictionary ≡ m.names = omega (arith, find_none R F (omega arith) (omega arith), R.naming.many) in
+          let at : slot_of n (slotted n μ.dictionary) ≡ m.names = omega (arith, slotted_slot n μ.dictionary, F.says s e c l μ R) in
+          let key : get_elem? (keys (intern n μ)) m.names ≡ some n = subst (λ i. get_elem? (keys (intern n μ)) i ≡ some n) at (found_key n (slotted n μ.dictionary) (slotted_has n μ.dictionary)) in
+          let after = P.moves e _ c l (intern n μ) (A.moves s e c l μ R is) n key in
+          let stack : length (name false n ∷ μ.stack) ≤ length s / 2 = omega (arith, stack_fits after) in
+          (push (name false n) (intern n μ), room_passes (lent s e d c l) μ (push (name false n) (intern n μ)) (few_names R) (exec_fits R) stack refl (log_fits R), after);
+    }

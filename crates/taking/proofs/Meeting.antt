@@ -1,6 +1,7 @@
 -- One token of a group that goes on: the definition's lexing is a function, so the token that is read is the group's first one; a fault and the script's end
 -- are not.
 -- Assumes nothing.
+use Rattle.std.specs.Prelude.{Result, Some, None, Ok, Err, IsOk}
 use mathlib.Core.Path.{◌≡◌, refl, sym, ap, ◌∙◌, subst}
 use mathlib.Core.Bool.{Bool}
 use mathlib.Core.List.{List, [], ◌++◌}
@@ -13,14 +14,10 @@ use Rattle.semantics.specs.Tokens.{Token, Lexeme, lex, lexeme}
 use Rattle.semantics.specs.Groups.{skip}
 use Rattle.semantics.specs.declared.Fault.{Fault}
 use Rattle.token.specs.Lexing.{Lexes, NameToken, LexedAt, TokenAt}
-use Rattle.token.specs.declared.Lexed.{Lexed}
-use Rattle.token.specs.declared.Lexed.TheVariants as lexed
 use Rattle.token.specs.declared.Token.TheVariants as read
 use Rattle.token.specs.declared.Token as scanned
 use Rattle.groups.specs.Nodes.{leaf_names}
 use Rattle.taking.specs.Flat.{Flat, Ahead, MetAt}
-use Rattle.taking.specs.declared.Met.TheVariants as met
-use Rattle.taking.specs.declared.Found.TheVariants.{Name, Other}
 use Rattle.taking.proofs.Flattening.{skip_far, First, first_token, first_inside}
 
 -- ---- lexing is a function
@@ -47,7 +44,7 @@ module _ {script : List ℕ} {at : ℕ} where
       (F.rest, subst (λ t. ns ≡ leaf_names t ++ F.rest) same.0 F.names, subst (λ n. Flat script n F.rest end) place F.after)
 
   -- A token that is no name.
-  met_other : (u : Token) {next : ℕ} → leaf_names u ≡ [] → Lexes script (skip script at) u next → MetAt script at (met.Good Other next)
+  met_other : (u : Token) {next : ℕ} → leaf_names u ≡ [] → Lexes script (skip script at) u next → MetAt script at (None, next)
   met_other u {next} nameless l = (
     omega (arith, skip_far script at, l.past),
     λ ns end f h.
@@ -55,7 +52,7 @@ module _ {script : List ℕ} {at : ℕ} where
         subst (λ y. Flat script next y end) (sym (x.1 ∙ ap (λ y. y ++ x.0) nameless)) x.2,
   )
 
-  met_name : {x : Bool} {before begins size next : ℕ} → NameToken script (skip script at) x before begins size next → MetAt script at (met.Good (Name begins size) next)
+  met_name : {x : Bool} {before begins size next : ℕ} → NameToken script (skip script at) x before begins size next → MetAt script at (Some (begins, size), next)
   met_name N = (
     N.few,
     omega (arith, N.ends, N.token.inside),
@@ -68,40 +65,42 @@ module _ {script : List ℕ} {at : ℕ} where
 pub ahead_inside : {script : List ℕ} {at : ℕ} → Ahead script at → at ≤ length script
 ahead_inside (ns, end, f, h) = first_inside (first_token f h)
 
-module _ (script : List ℕ) (at start : ℕ) (begins : start ≡ skip script at) (ahead : Ahead script at) (answer : Lexed) (k : LexedAt script start answer) where
+module _ (script : List ℕ) (at start : ℕ) (begins : start ≡ skip script at) (ahead : Ahead script at) where
   group_first : First script at ahead.0 ahead.1
   group_first = first_token ahead.2 ahead.3
 
-  pub meet_fault : {e : Fault} → answer ≡ lexed.Fault e → ⊥
-  meet_fault {e} g =
-      let h : lex start (drop start script) ≡ fault e = subst (LexedAt script start) g k in
+  -- No fault is met.
+  pub meets_token : (answer : Result (scanned.Token × ℕ) Fault) → LexedAt script start answer → IsOk answer
+  meets_token (Ok x) k = refl
+  meets_token (Err e) k =
       let F = group_first in
-      no_lexeme F.token (F.next - skip script at) (sym F.lexes.lexes ∙ subst (λ n. lex n (drop n script) ≡ fault e) begins h)
+      absurd (no_lexeme F.token (F.next - skip script at) (sym F.lexes.lexes ∙ subst (λ n. lex n (drop n script) ≡ fault e) begins k))
 
-  module _ (t : scanned.Token) (next : ℕ) (g : answer ≡ lexed.Token t next) where
-    at_token : (u : scanned.Token) → t ≡ u → TokenAt script (skip script at) next u
-    at_token u q = subst (TokenAt script (skip script at) next) q (subst (λ n. TokenAt script n next t) begins (subst (LexedAt script start) g k))
+  module _ {answer : Result (scanned.Token × ℕ) Fault} (k : LexedAt script start answer) {t : scanned.Token} {next : ℕ} (g : answer ≡ Ok (t, next)) where
+    at_token : TokenAt script (skip script at) next t
+    at_token = subst (λ n. TokenAt script n next t) begins (subst (LexedAt script start) g k)
 
-    pub meet_integer : {w : ℕ} → t ≡ read.Integer w → MetAt script at (met.Good Other next)
-    meet_integer {w} q = met_other (Token.integer w) refl (at_token (read.Integer w) q)
+    pub meet_executable : {from size : ℕ} → t ≡ read.ExecutableName from size → MetAt script at (Some (from, size), next)
+    meet_executable q = met_name (subst (TokenAt script (skip script at) next) q at_token)
 
-    pub meet_string : {from size : ℕ} → t ≡ read.String from size → MetAt script at (met.Good Other next)
-    meet_string {from} {size} q = let S = at_token (read.String from size) q in met_other (Token.string S.bytes) refl S.token
+    pub meet_literal : {from size : ℕ} → t ≡ read.LiteralName from size → MetAt script at (Some (from, size), next)
+    meet_literal q = met_name (subst (TokenAt script (skip script at) next) q at_token)
 
-    pub meet_executable : {from size : ℕ} → t ≡ read.ExecutableName from size → MetAt script at (met.Good (Name from size) next)
-    meet_executable {from} {size} q = met_name (at_token (read.ExecutableName from size) q)
-
-    pub meet_literal : {from size : ℕ} → t ≡ read.LiteralName from size → MetAt script at (met.Good (Name from size) next)
-    meet_literal {from} {size} q = met_name (at_token (read.LiteralName from size) q)
-
-    pub meet_open : t ≡ read.OpenBrace → MetAt script at (met.Good Other next)
-    meet_open q = met_other Token.open_brace refl (at_token read.OpenBrace q).token
-
-    pub meet_close : t ≡ read.CloseBrace → MetAt script at (met.Good Other next)
-    meet_close q = met_other Token.close_brace refl (at_token read.CloseBrace q).token
-
-    pub meet_end : t ≡ read.End → ⊥
-    meet_end q =
-        let F = group_first in
-        let same = same_lexeme F.token Token.end (F.next - skip script at) 0 (sym F.lexes.lexes ∙ (at_token read.End q).lexes) in
-        omega (arith, same.1, F.lexes.past)
+    -- The script's end is not met either.
+    pub meet_other : ((from size : ℕ) → t ≡ read.ExecutableName from size → ⊥) → ((from size : ℕ) → t ≡ read.LiteralName from size → ⊥) → MetAt script at (None, next)
+    meet_other x y = by t at_token x y
+      where
+        by : (u : scanned.Token) → TokenAt script (skip script at) next u
+            → ((from size : ℕ) → u ≡ read.ExecutableName from size → ⊥)
+            → ((from size : ℕ) → u ≡ read.LiteralName from size → ⊥)
+            → MetAt script at (None, next)
+        by (read.Integer w) T x y = met_other (Token.integer w) refl T
+        by (read.String from size) T x y = met_other (Token.string T.bytes) refl T.token
+        by (read.ExecutableName from size) T x y = absurd (x from size refl)
+        by (read.LiteralName from size) T x y = absurd (y from size refl)
+        by read.OpenBrace T x y = met_other Token.open_brace refl T.token
+        by read.CloseBrace T x y = met_other Token.close_brace refl T.token
+        by read.End T x y =
+            let F = group_first in
+            let same = same_lexeme F.token Token.end (F.next - skip script at) 0 (sym F.lexes.lexes ∙ T.lexes) in
+            absurd (omega (arith, same.1, F.lexes.past))

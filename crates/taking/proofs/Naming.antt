@@ -1,5 +1,6 @@
 -- Names that take slots: one by one, each by its slot, and in a loop over the tokens of a group, which keeps what the names before come to.
 -- Assumes nothing.
+use Rattle.std.specs.Prelude.{true, false, Option, Some, None, Ok, Err, is_some, unwrap_or, IfSome}
 use mathlib.Core.Path.{◌≡◌, refl, sym, ap, ◌∙◌, subst}
 use mathlib.Core.List.{List, [], ◌∷◌, ◌++◌, append-nil, append_assoc}
 use Prim.Native.Nat.{ℕ, ◌+◌, ◌-◌, ◌*◌, ◌≤◌, ◌<◌}
@@ -15,15 +16,10 @@ use Rattle.groups.specs.Nodes.{intern_all}
 use Rattle.groups.proofs.Trees.{intern_append}
 use Rattle.machine.specs.Rep.{Rep}
 use Rattle.machine.specs.declared.Machine.{Machine}
+use Rattle.machine.specs.Answers.{Did}
 use Rattle.dictionary.specs.Names.{Finds, Kept, Adds}
 use Rattle.dictionary.proofs.Lookups.{slotted_found, slotted_missing, slotted_has, slotted_grows, still_has, find_has, find_none}
-use Rattle.taking.specs.Flat.{Flat, Group, Dictionary, HaveSlots, SameBut, with_names, NamedAs, AddsNames, AddsName, Ahead, MetAt, fault_of}
-use Rattle.taking.specs.declared.Named.{Named}
-use Rattle.taking.specs.declared.Named.TheVariants.{Bad, Done}
-use Rattle.taking.specs.declared.Met.{Met}
-use Rattle.taking.specs.declared.Met.TheVariants as met
-use Rattle.taking.specs.declared.Found.{Found}
-use Rattle.taking.specs.declared.Found.TheVariants.{Name, Other}
+use Rattle.taking.specs.Flat.{Flat, Group, Dictionary, HaveSlots, SameBut, with_names, AddsNames, AddsName, Ahead, MetAt}
 use Rattle.taking.proofs.Flattening.{flat_done}
 
 -- ---- one name
@@ -35,7 +31,7 @@ pub kept_all : {k : ℕ} {d : List ℕ} → Kept k d d
 kept_all = record { below = λ i l. refl }
 
 module _ {n : List ℕ} {k : ℕ} {m : Machine} {d : List ℕ} (F : Finds m d n k) where
-  pub one_known : k < m.names → AddsName n m d d (Done m)
+  pub one_known : k < m.names → AddsName n m d d (Ok m)
   unfolding intern_all with_dictionary
   one_known low = record {
     adds = λ s e c l μ R. (
@@ -46,24 +42,34 @@ module _ {n : List ℕ} {k : ℕ} {m : Machine} {d : List ℕ} (F : Finds m d n 
     kept = kept_all;
   }
 
-  module _ (high : m.names ≤ k) (most : k ≤ m.names) where
-    pub one_full : length d < 12 * m.names + 12 → AddsName n m d d (Bad LimitCheck)
-    unfolding intern_all
-    one_full full = record {
-      adds = λ s e c l μ R. (refl, omega (arith, full, slotted_missing n μ.dictionary (find_none R F high most), R.naming.many));
-      kept = kept_all;
-    }
+module _ {n : List ℕ} {m : Machine} {d : List ℕ} (F : Finds m d n m.names) where
+  pub one_full : length d < 12 * m.names + 12 → AddsName n m d d (Err LimitCheck)
+  unfolding intern_all
+  one_full full = record {
+    adds = λ s e c l μ R. (refl, omega (arith, full, slotted_missing n μ.dictionary (find_none R F (omega arith) (omega arith)), R.naming.many));
+    kept = kept_all;
+  }
 
-    pub one_added : {r : Machine} {d' : List ℕ} → Adds m r d d' n → SameBut m r → AddsName n m d d' (Done r)
-    unfolding intern_all intern
-    one_added A same = record {
-      adds = λ s e c l μ R. (
-        A.moves s e c l μ R (omega (arith, find_none R F high most, R.naming.many)),
-        cons (slotted_has n μ.dictionary) nil,
-        same,
-      );
-      kept = A.kept;
-    }
+  pub one_added : {r : Machine} {d' : List ℕ} → Adds m r d d' n → SameBut m r → AddsName n m d d' (Ok r)
+  unfolding intern_all intern
+  one_added A same = record {
+    adds = λ s e c l μ R. (
+      A.moves s e c l μ R (omega (arith, find_none R F (omega arith) (omega arith), R.naming.many)),
+      cons (slotted_has n μ.dictionary) nil,
+      same,
+    );
+    kept = A.kept;
+  }
+
+-- By what `find` answers.
+module _ {n : List ℕ} {m : Machine} {d : List ℕ} where
+  pub one_there : (r : Option ℕ) → Finds m d n (unwrap_or r m.names) → IfSome r (λ k. k < m.names) → is_some r ≡ true → AddsName n m d d (Ok m)
+  one_there (Some k) F low q = one_known F low
+  one_there None F low q = absurd (cc)
+
+  pub none_there : (r : Option ℕ) → Finds m d n (unwrap_or r m.names) → is_some r ≡ false → Finds m d n m.names
+  none_there (Some k) F q = absurd (cc)
+  none_there None F q = F
 
 -- ---- names one after another
 
@@ -81,7 +87,7 @@ module _ (script : List ℕ) (start size : ℕ) where
   pub part_short : size ≤ name_most → length (take (start + size - start) (drop start script)) ≤ name_most
   part_short few = omega (arith, few, length-take (start + size - start) (drop start script))
 
-  pub part_named : {m : Machine} {d d' : List ℕ} {a : Named} → AddsName (take (start + size - start) (drop start script)) m d d' a → AddsName (take size (drop start script)) m d d' a
+  pub part_named : {m : Machine} {d d' : List ℕ} {a : Did} → AddsName (take (start + size - start) (drop start script)) m d d' a → AddsName (take size (drop start script)) m d d' a
   part_named {m} {d} {d'} {a} O =
       let e : start + size - start ≡ size = omega arith in
       subst (λ k. AddsName (take k (drop start script)) m d d' a) e O
@@ -117,10 +123,6 @@ begin G D = record {
   splits = λ ns f. record { done = []; rest = ns; split = refl; left = f; stands = λ s e c l μ R. (R, nil) };
 }
 
--- What a token is, told apart.
-pub finds : {x : Met} {f g : Found} {next : ℕ} → x ≡ met.Good f next → f ≡ g → x ≡ met.Good g next
-finds {next = next} e q = e ∙ ap (λ y. met.Good y next) q
-
 module _ {script : List ℕ} {from end : ℕ} {m : Machine} {d : List ℕ} {at : ℕ} {r : Machine} {d' : List ℕ} (A : Adding script from end m d at r d') where
   pub ahead : at < end → Ahead script at
   ahead h = let L = A.splits A.some.0 A.some.1 in (L.rest, end, L.left, h)
@@ -131,29 +133,22 @@ module _ {script : List ℕ} {from end : ℕ} {m : Machine} {d : List ℕ} {at :
       let B = A.began in
       (B.0, B.1, B.2, B.3, with_names L.done B.4, (L.stands B.0 B.1 B.2 B.3 B.4 B.5).0)
 
-  pub no_fault : {x : Met} {e : Error} → MetAt script at x → x ≡ met.Bad e → ⊥
-  no_fault M q = subst (MetAt script at) q M
-
   module _ (inside : at < end) where
-    pub other_next : {x : Met} {next : ℕ} → MetAt script at x → x ≡ met.Good Other next → (at < next) × Adding script from end m d next r d'
-    other_next {next = next} M q =
-        let N = subst (MetAt script at) q M in (
-          N.0,
-          record {
-            some = A.some;
-            began = A.began;
-            long = A.long;
-            kept = A.kept;
-            more = A.more;
-            same = A.same;
-            splits = λ ns f. let L = A.splits ns f in record { done = L.done; rest = L.rest; split = L.split; left = N.1 L.rest end L.left inside; stands = L.stands };
-          },
-        )
+    pub other_next : {next : ℕ} → MetAt script at (None, next) → (at < next) × Adding script from end m d next r d'
+    other_next N = (
+      N.0,
+      record {
+        some = A.some;
+        began = A.began;
+        long = A.long;
+        kept = A.kept;
+        more = A.more;
+        same = A.same;
+        splits = λ ns f. let L = A.splits ns f in record { done = L.done; rest = L.rest; split = L.split; left = N.1 L.rest end L.left inside; stands = L.stands };
+      },
+    )
 
-    module _ {x : Met} {start size next : ℕ} (M : MetAt script at x) (q : x ≡ met.Good (Name start size) next) where
-      here : MetAt script at (met.Good (Name start size) next)
-      here = subst (MetAt script at) q M
-
+    module _ (start size next : ℕ) (here : MetAt script at (Some (start, size), next)) where
       pub name_few : (size ≤ name_most) × (start + size ≤ length script) × (at < next)
       name_few = (here.0, here.1, here.2)
 
@@ -171,32 +166,30 @@ module _ {script : List ℕ} {from end : ℕ} {m : Machine} {d : List ℕ} {at :
           ap (λ t. intern_all t D) (L.split ∙ ap (λ t. L.done ++ t) (cut L).1)
           ∙ intern_append L.done (word ∷ (cut L).0) D
 
-      module _ {d'' : List ℕ} {a : Named} (O : AddsName word r d' d'' a) (stay : length d'' ≡ length d') where
-        kept_too : Kept (12 * m.names) d d''
-        kept_too = record { below = λ i l. O.kept.below i (omega (arith, l, A.more)) ∙ A.kept.below i l }
+      module _ {d'' : List ℕ} where
+        kept_too : {a : Did} → AddsName word r d' d'' a → Kept (12 * m.names) d d''
+        kept_too O = record { below = λ i l. O.kept.below i (omega (arith, l, A.more)) ∙ A.kept.below i l }
 
-        pub names_full : {x y : Error} → a ≡ Bad x → y ≡ fault_of a → AddsNames script from end m d d'' (Bad y)
+        pub names_full : {x : Error} → AddsName word r d' d'' (Err x) → AddsNames script from end m d d'' (Err x)
         unfolding intern_all with_dictionary
-        names_full e q = record {
+        names_full O = record {
           adds = λ ns f s e₀ c l μ R.
               let L = A.splits ns f in
-              let full = subst (NamedAs (word ∷ []) r s e₀ d' d'' c l (with_names L.done μ)) e (O.adds s e₀ c l (with_names L.done μ) (L.stands s e₀ c l μ R).0) in
-              (q ∙ ap fault_of e ∙ full.0, omega (arith, full.1, A.long, ap length (all_names L μ.dictionary), intern_grows (cut L).0 (slotted word (intern_all L.done μ.dictionary))));
-          kept = kept_too;
+              let full = O.adds s e₀ c l (with_names L.done μ) (L.stands s e₀ c l μ R).0 in
+              (full.0, omega (arith, full.1, A.long, ap length (all_names L μ.dictionary), intern_grows (cut L).0 (slotted word (intern_all L.done μ.dictionary))));
+          kept = kept_too O;
         }
 
-        pub name_next : {r' : Machine} → a ≡ Done r' → Adding script from end m d next r' d''
+        pub name_next : {r' : Machine} → AddsName word r d' d'' (Ok r') → length d'' ≡ length d' → Adding script from end m d next r' d''
         unfolding intern_all with_dictionary
-        name_next {r'} e =
-            let now : (s e₀ c l : List ℕ) (μ : Floo.Machine) → Rep r s e₀ d' c l μ → NamedAs (word ∷ []) r s e₀ d' d'' c l μ (Done r') =
-            λ s e₀ c l μ R. subst (NamedAs (word ∷ []) r s e₀ d' d'' c l μ) e (O.adds s e₀ c l μ R) in
+        name_next {r'} O stay =
             let W = stands_now in
-            let X = now W.0 W.1 W.2 W.3 W.4 W.5 in
+            let X = O.adds W.0 W.1 W.2 W.3 W.4 W.5 in
             record {
               some = A.some;
               began = A.began;
               long = stay ∙ A.long;
-              kept = kept_too;
+              kept = kept_too O;
               more = omega (arith, A.more, W.5.naming.many, X.0.naming.many, slotted_grows word W.4.dictionary);
               same = record {
                 depth = X.2.depth ∙ A.same.depth;
@@ -213,7 +206,7 @@ module _ {script : List ℕ} {from end : ℕ} {m : Machine} {d : List ℕ} {at :
                     left = C.2;
                     stands = λ s e₀ c l μ R.
                         let S = L.stands s e₀ c l μ R in
-                        let Y = now s e₀ c l (with_names L.done μ) S.0 in
+                        let Y = O.adds s e₀ c l (with_names L.done μ) S.0 in
                         let same = sym (intern_append L.done (word ∷ []) μ.dictionary) in (
                           subst (λ D. Rep r' s e₀ d'' c l (with_dictionary D μ)) same Y.0,
                           subst (HaveSlots (L.done ++ (word ∷ []))) same (all_append (have_more word (intern_all L.done μ.dictionary) S.1) Y.1),
@@ -221,7 +214,7 @@ module _ {script : List ℕ} {from end : ℕ} {m : Machine} {d : List ℕ} {at :
                   };
             }
 
-  pub names_done : end ≤ at → AddsNames script from end m d d' (Done r)
+  pub names_done : end ≤ at → AddsNames script from end m d d' (Ok r)
   names_done over = record {
     adds = λ ns f s e c l μ R.
         let L = A.splits ns f in

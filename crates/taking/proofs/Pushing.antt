@@ -1,5 +1,6 @@
 -- An integer, a name by its slot, and null are pushed; the test of room fails where the stack is full.
 -- Assumes nothing.
+use Rattle.std.specs.Prelude.{Ok, Err}
 use mathlib.Core.Path.{◌≡◌, refl, sym, subst}
 use mathlib.Core.Bool.{false}
 use mathlib.Core.List.{List, [], ◌∷◌}
@@ -18,7 +19,6 @@ use Rattle.machine.specs.Operands.{an_integer, a_null, Pushes}
 use Rattle.machine.specs.Rep.{Rep, IsIn, Items, item}
 use Rattle.machine.specs.Room.{lent, fitted, DoesStack}
 use Rattle.machine.specs.declared.Machine.{Machine}
-use Rattle.machine.specs.declared.Did.TheVariants.{Ok, Fail}
 use Rattle.machine.proofs.Items.{items_length, items_frame}
 use Rattle.machine.proofs.Operands.{two_first, two_second, two_below, two_length, pushed}
 use Rattle.machine.proofs.Outcomes.{moves_stack}
@@ -30,7 +30,7 @@ use Rattle.taking.specs.Promises.{deeper, PushesWords, PushesName}
 -- ---- an integer
 
 module _ {m : Machine} {s : List ℕ} (w : ℕ) where
-  pub integer_over : length s < 2 * m.depth + 2 → DoesStack (integer_taken w) m s s (Fail StackOverflow)
+  pub integer_over : length s < 2 * m.depth + 2 → DoesStack (integer_taken w) m s s (Err StackOverflow)
   unfolding integer_taken fitted lent push with_stack ◌>>=◌
   integer_over over = record {
     does = λ e d c l μ R.

@@ -1,5 +1,6 @@
 -- A string token: null is pushed, gives way to a new string of zeros, and that is filled with the token's bytes. The stack's room is tested before the cells.
 -- Assumes nothing.
+use Rattle.std.specs.Prelude.{Ok, Err}
 use mathlib.Core.Path.{◌≡◌, refl, sym, ap, ◌∙◌, subst}
 use mathlib.Core.List.{List, [], ◌∷◌}
 use Prim.Native.Nat.{ℕ, ◌+◌, ◌*◌, ◌/◌, ◌≤◌, ◌<◌}
@@ -16,7 +17,6 @@ use Rattle.groups.proofs.Judging.{string_shorter}
 use Rattle.machine.specs.Rep.{Rep, Somewhere, MovesHeap}
 use Rattle.machine.specs.Room.{lent, fitted}
 use Rattle.machine.specs.declared.Machine.{Machine}
-use Rattle.machine.specs.declared.Did.TheVariants.{Ok, Fail}
 use Rattle.machine.proofs.Items.{items_length}
 use Rattle.machine.proofs.Rooms.{room_stack, exec_fits, dictionary_fits}
 use Rattle.elements.specs.Elements.{free_cells, HasPlain, SomewhereThat, string_made}
@@ -68,7 +68,7 @@ size_of (cs, last, token, size) reads = ap length (same_string reads token) ∙ 
 -- ---- returns
 
 module _ {script : List ℕ} {at : ℕ} {m : Machine} {s c : List ℕ} where
-  pub string_over : length s < 2 * m.depth + 2 → DoesString script at m s s c c (Fail StackOverflow)
+  pub string_over : length s < 2 * m.depth + 2 → DoesString script at m s s c c (Err StackOverflow)
   unfolding string_taken fitted lent push make with_stack with_store ◌>>=◌
   string_over over = record {
     does = λ bs next reads. record {
@@ -79,7 +79,7 @@ module _ {script : List ℕ} {at : ℕ} {m : Machine} {s c : List ℕ} where
   }
 
   module _ {n : ℕ} (token : StringOf script at n) (room : 2 * m.depth + 2 ≤ length s) where
-    pub string_full : free_cells m c < (n + 7) / 8 + 1 → DoesString script at m s s c c (Fail VmError)
+    pub string_full : free_cells m c < (n + 7) / 8 + 1 → DoesString script at m s s c c (Err VmError)
     unfolding string_taken push make with_stack with_store sum_of cells
     string_full full = record {
       does = λ bs next reads.

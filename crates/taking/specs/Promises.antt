@@ -11,7 +11,7 @@ use Rattle.machine.specs.Places.{keys}
 use Rattle.machine.specs.Rep.{Rep, Answer}
 use Rattle.machine.specs.Room.{lent, fitted, DoesHeap}
 use Rattle.machine.specs.declared.Machine.{Machine}
-use Rattle.machine.specs.declared.Did.{Did}
+use Rattle.machine.specs.Answers.{Did}
 use Rattle.taking.specs.Effects.{string_taken, executable_taken}
 
 -- ---- what is asked

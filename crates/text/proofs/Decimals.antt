@@ -4,8 +4,9 @@ use mathlib.Core.Path.{◌≡◌, refl, ap}
 use mathlib.Core.Bool.{Bool, true, false}
 use mathlib.Core.Logic.{◌⊎◌, inl, inr, ⊎_elim}
 use mathlib.Core.List.{List, [], ◌∷◌, ◌++◌, append_assoc}
-use Prim.Native.Nat.{ℕ, zero, suc, ◌+◌, ◌-◌, ◌/◌, ◌%◌, ◌^◌, ◌≤◌, ◌<◌}
+use Prim.Native.Nat.{ℕ, zero, suc, ◌+◌, ◌-◌, ◌*◌, max, ◌/◌, ◌%◌, ◌^◌, ◌≤◌, ◌<◌}
 use native.Mathlib.Nat.{mod-eq_of_lt, pow-succ'}
+use Rattle.std.proofs.Common.{pow-suc}
 use native.Mathlib.Omega.{arith}
 use lib.ListN.{length, set, length-append}
 use lib.Dec.{ltb}
@@ -70,6 +71,20 @@ decimal_longer n g h = rw (decimal_more n g h, length-append)
 pub decimal_some : (n : ℕ) → n < 2 ^ 32 → 1 ≤ length (decimal n)
 decimal_some n h =
     ⊎_elim (λ l. omega (arith, ap length (decimal_digit n l))) (λ g. omega (arith, decimal_longer n g h)) (lt_or_ge n 10)
+
+-- as many digits as the logarithm and one more; 0 has those of 1
+digits_of : (r n : ℕ) → 10 ^ r ≤ n → n < 10 * 10 ^ r → n < 2 ^ 32 → length (decimal n) ≡ r + 1
+digits_of zero n l h k = ap length (decimal_digit n h)
+digits_of (suc r) n l h k =
+    let g : 10 ≤ n = omega (arith, pow-suc 10 r) in
+    omega (arith, decimal_longer n g k, digits_of r (n / 10) (omega (arith, pow-suc 10 r)) (omega (arith, pow-suc 10 r)) (omega arith))
+
+pub digits_is : (n m r : ℕ) → m ≡ max n 1 → 10 ^ r ≤ m → m < 10 * 10 ^ r → n < 2 ^ 32 → r + 1 ≡ length (decimal n)
+digits_is zero m r e l h k =
+    omega (arith, digits_of r m l h (omega arith), ap (λ x. length (decimal x)) e, ap length (decimal_digit 0 (omega arith)), ap length (decimal_digit 1 (omega arith)))
+digits_is (suc n) m r e l h k =
+    let f : m ≡ suc n = omega arith in
+    omega (arith, digits_of r m l h (omega arith), ap (λ x. length (decimal x)) f)
 
 -- ---- the writer of digits
 

@@ -1,7 +1,7 @@
 -- The text of a byte by the tests that the code makes, and the text of a list of bytes, one byte after the other. By the tests' values, and by induction on the list.
 -- Assumes nothing.
 use mathlib.Core.Path.{◌≡◌, refl, ap}
-use mathlib.Core.Bool.{Bool, true, false, not, ◌&&◌, cond}
+use mathlib.Core.Bool.{Bool, true, false, not, ◌&&◌}
 use mathlib.Core.List.{List, [], ◌∷◌, ◌++◌, append_assoc, append-nil}
 use Prim.Native.Nat.{ℕ, ◌+◌, ◌*◌, ◌≤◌, ◌<◌}
 use native.Mathlib.Numerals.{add-one}
@@ -13,6 +13,7 @@ use borrow.Author.Tests.{le-leb, lt-leb, ne_eqb}
 use Rattle.semantics.specs.Text.{bytes, octal}
 use Rattle.semantics.specs.Printing.{escaped, string_byte, name_byte, name_text}
 use Rattle.text.specs.Writing.{Written, is_plain, visible, byte_text, quoted}
+use Rattle.text.specs.Lengths.{string_byte_short, name_byte_short}
 use Rattle.text.proofs.Pasting.{then}
 
 -- ---- a byte
@@ -57,18 +58,10 @@ pub name_visible : (b : ℕ) → name_byte b ≡ visible 33 b
 unfolding name_byte visible is_plain
 name_visible b = refl
 
-either_short : (t : Bool) (x y : List ℕ) → length x ≤ 4 → length y ≤ 4 → length (cond t x y) ≤ 4
-either_short true x y h k = h
-either_short false x y h k = k
-
-visible_short : (low b : ℕ) → length (visible low b) ≤ 4
-unfolding visible octal
-visible_short low b = either_short (is_plain low b) (b ∷ []) (octal b) (omega arith) (omega arith)
-
 pub byte_short : (k : Bool) (b : ℕ) → length (byte_text k b) ≤ 4
-unfolding byte_text string_byte bytes visible is_plain
-byte_short true b = either_short (eqb b 34) _ _ (omega arith) (either_short (eqb b 10) _ _ (omega arith) (visible_short 32 b))
-byte_short false b = rw (name_visible b) (visible_short 33 b)
+unfolding byte_text
+byte_short true b = string_byte_short b
+byte_short false b = name_byte_short b
 
 -- ---- a list of bytes, with the text of a byte given
 
@@ -90,10 +83,13 @@ escaped_part f s i =
     omega (arith, ap (λ (l : List ℕ). length (escaped f l)) (take-append-drop i s), ap length (escaped_append f (take i s) (drop i s)), length-append (escaped f (take i s)) (escaped f (drop i s)))
 
 -- a byte takes 4 at most
-pub escaped_short : (k : Bool) (s : List ℕ) → length (escaped (byte_text k) s) ≤ 4 * length s
+pub escaped_within : (f : ℕ → List ℕ) → ((b : ℕ) → length (f b) ≤ 4) → (s : List ℕ) → length (escaped f s) ≤ 4 * length s
 unfolding escaped
-escaped_short k [] = omega arith
-escaped_short k (b ∷ s) = rw length-append (omega (arith, byte_short k b, escaped_short k s))
+escaped_within f h [] = omega arith
+escaped_within f h (b ∷ s) = rw length-append (omega (arith, h b, escaped_within f h s))
+
+pub escaped_short : (k : Bool) (s : List ℕ) → length (escaped (byte_text k) s) ≤ 4 * length s
+escaped_short k s = escaped_within (byte_text k) (byte_short k) s
 
 -- a turn of a loop that writes the text of s
 pub escaped_next : {at r q : ℕ} {old mid new : List ℕ} (f : ℕ → List ℕ) (s : List ℕ) (i : ℕ) → i < length s → at ≤ length old
@@ -102,18 +98,18 @@ escaped_next f s i h room x y = rw (escaped_more f s i h) (then room x y)
 
 -- ---- strings and names
 
-pub length_quoted : (s : List ℕ) → length (quoted s) ≡ length (escaped (byte_text true) s) + 2
-unfolding byte_text bytes
+pub length_quoted : (s : List ℕ) → length (quoted s) ≡ length (escaped string_byte s) + 2
+unfolding bytes
 length_quoted s = rw length-append (omega arith)
 
-pub quoted_parts : (s : List ℕ) → quoted s ≡ 34 ∷ (escaped (byte_text true) s ++ (34 ∷ []))
-unfolding byte_text bytes
+pub quoted_parts : (s : List ℕ) → quoted s ≡ 34 ∷ (escaped string_byte s ++ (34 ∷ []))
+unfolding bytes
 quoted_parts s = refl
 
-pub name_executable : (s : List ℕ) (x : Bool) → x ≡ true → name_text x s ≡ escaped (byte_text false) s
-unfolding name_text byte_text
+pub name_executable : (s : List ℕ) (x : Bool) → x ≡ true → name_text x s ≡ escaped name_byte s
+unfolding name_text
 name_executable s x e = rw e
 
-pub name_literal : (s : List ℕ) (x : Bool) → x ≡ false → name_text x s ≡ 47 ∷ escaped (byte_text false) s
-unfolding name_text byte_text bytes
+pub name_literal : (s : List ℕ) (x : Bool) → x ≡ false → name_text x s ≡ 47 ∷ escaped name_byte s
+unfolding name_text bytes
 name_literal s x e = rw e

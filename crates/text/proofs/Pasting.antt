@@ -8,6 +8,7 @@ use native.Mathlib.Numerals.{add-one}
 use native.Mathlib.Omega.{arith}
 use lib.ListN.{length, take, drop, set, get_or, length-append, length-drop, take-append-drop}
 use lib.Seq.{length-take-le, take_at, drop_at, drop-drop, set_split, take-suc, append_snoc}
+use borrow.Rule.Slice.PartMut.{put_mid}
 use Rattle.semantics.specs.ObjectOperators.{pasted}
 use Rattle.text.specs.Writing.{Written}
 
@@ -75,3 +76,8 @@ next at i t {old} {new} h room w =
     let few : length (take i t) ≡ i = length-take-le i t (omega arith) in
     let same : length new ≡ length old = kept (omega arith) w in
     rw (add-one i, take-suc t i 0, ← add-one i, ← add_assoc) (last (get_or t i 0) (omega arith) (omega arith) w)
+
+-- a text put over a part as long as it is
+pub put : (at k : ℕ) (t : List ℕ) {old part : List ℕ} → part ≡ t → k ≡ length t → Written at t old (put_mid at k old part) (at + length t)
+unfolding pasted
+put at k t e f = record { end = refl; bytes = rw (e, f, drop-drop) (simp append_assoc) }

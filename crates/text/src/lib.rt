@@ -3,39 +3,31 @@
 // was, and returns the offset after (`Written`). Who calls one shows that there is room, by the length.
 #![tactic(auto)]
 
-ghost use Rattle.std.specs.Prelude.{◌≡◌, ◌+◌, ◌≤◌, ◌^◌, length};
+ghost use Rattle.std.specs.Prelude.{◌≡◌, ℕ, ◌+◌, ◌≤◌, ◌^◌, List, length};
 ghost use Rattle.semantics.specs.Text.{decimal, octal};
 ghost use Rattle.semantics.specs.Words.{signed, decimal_z};
 ghost use Rattle.semantics.specs.Outcome.{line};
 ghost use Rattle.semantics.specs.Printing.{escaped, string_byte, name_byte, name_text};
-ghost use Rattle.text.specs.Writing.{Written, is_plain, visible, byte_text, quoted};
+ghost use Rattle.text.specs.Writing.{Written, is_plain, visible, quoted};
+ghost use Rattle.text.specs.Lengths.{string_byte_short, name_byte_short};
 
 // Bytes as they are.
 pub fn copy(out: &mut [u8], at: usize, text: &[u8]) -> usize
     requires { at + length text.now ≤ length out.old }
     ensures { Written at text.now out.old out.new result }
 {
-    let mut i = 0;
-    while i < text.len() {
-        out[at + i] = text[i];
-        i += 1;
-    }
-    at + i
+    let end = at + text.len();
+    out[at..end].copy_from_slice(text);
+    end
 }
 
 // ---- numbers
 
-// The digits of a number, without leading zeros.
+// The digits of a number, without leading zeros: 0 has one, as 1 has.
 pub fn decimal_length(n: u32) -> usize
     ensures { result ≡ length (decimal n) }
 {
-    let mut rest = n;
-    let mut count = 1;
-    while 10 <= rest {
-        rest = rest / 10;
-        count += 1;
-    }
-    count
+    n.max(1).ilog10() as usize + 1
 }
 
 // The number without its last digit, then that digit. The one writer of numbers, for log, cvs and outcome: that it calls itself, ten deep at most, keeps the
@@ -138,7 +130,7 @@ pub fn quoted_length(s: &[u8]) -> usize
     requires { length s.now ≤ 32768 }
     ensures { result ≡ length (quoted s.now) }
 {
-    escaped_length(true, s) + 2
+    escaped_length::<InString>(s) + 2
 }
 
 pub fn write_quoted(out: &mut [u8], at: usize, s: &[u8]) -> usize
@@ -146,7 +138,7 @@ pub fn write_quoted(out: &mut [u8], at: usize, s: &[u8]) -> usize
     ensures { Written at (quoted s.now) out.old out.new result }
 {
     out[at] = b'"';
-    let after = write_escaped(out, at + 1, true, s);
+    let after = write_escaped::<InString>(out, at + 1, s);
     out[after] = b'"';
     after + 1
 }
@@ -157,9 +149,9 @@ pub fn name_length(executable: bool, s: &[u8]) -> usize
     ensures { result ≡ length (name_text executable s.now) }
 {
     if executable {
-        return escaped_length(false, s);
+        return escaped_length::<InName>(s);
     }
-    escaped_length(false, s) + 1
+    escaped_length::<InName>(s) + 1
 }
 
 pub fn write_name(out: &mut [u8], at: usize, executable: bool, s: &[u8]) -> usize
@@ -167,10 +159,10 @@ pub fn write_name(out: &mut [u8], at: usize, executable: bool, s: &[u8]) -> usiz
     ensures { Written at (name_text executable s.now) out.old out.new result }
 {
     if executable {
-        return write_escaped(out, at, false, s);
+        return write_escaped::<InName>(out, at, s);
     }
     out[at] = b'/';
-    write_escaped(out, at + 1, false, s)
+    write_escaped::<InName>(out, at + 1, s)
 }
 
 // ---- what they share
@@ -180,20 +172,14 @@ fn magnitude(w: u32) -> u32
     requires { 2 ^ 31 ≤ w }
     ensures { result + w ≡ 2 ^ 32 }
 {
-    0xFFFF_FFFF - w + 1
+    w.wrapping_neg()
 }
 
 // Whether a byte stands for itself: from `low` to 126, and no backslash.
 fn is_plain(low: u8, b: u8) -> bool
     ensures { result ≡ is_plain low b }
 {
-    if b < low {
-        return false;
-    }
-    if 126 < b {
-        return false;
-    }
-    b != b'\\'
+    (low <= b) & (b <= 126) & (b != b'\\')
 }
 
 fn write_octal(out: &mut [u8], at: usize, b: u8) -> usize
@@ -222,49 +208,73 @@ fn write_visible(out: &mut [u8], at: usize, low: u8, b: u8) -> usize
     write_octal(out, at, b)
 }
 
-// A byte of a string, or else of a name.
-fn byte_length(in_string: bool, b: u8) -> usize
-    ensures { result ≡ length (byte_text in_string b) }
-{
-    if in_string {
-        return string_byte_length(b);
-    }
-    name_byte_length(b)
+// ---- how a byte stands in a text: in a string between quotes, or in a name
+
+// The text of a byte, its length and its writer. A byte takes 4 at most.
+trait Escape {
+    ghost text: { ℕ → List ℕ };
+
+    fn length(b: u8) -> usize
+        ensures { result ≡ length (text b) };
+
+    fn write(out: &mut [u8], at: usize, b: u8) -> usize
+        requires { at + length (text b) ≤ length out.old }
+        ensures { Written at (text b) out.old out.new result };
+
+    ghost short: { (b : ℕ) → length (text b) ≤ 4 };
 }
 
-fn write_byte(out: &mut [u8], at: usize, in_string: bool, b: u8) -> usize
-    requires { at + length (byte_text in_string b) ≤ length out.old }
-    ensures { Written at (byte_text in_string b) out.old out.new result }
-{
-    if in_string {
-        return write_string_byte(out, at, b);
+struct InString;
+
+struct InName;
+
+impl Escape for InString {
+    ghost text = { string_byte };
+
+    ghost short = { string_byte_short };
+
+    fn length(b: u8) -> usize {
+        string_byte_length(b)
     }
-    write_name_byte(out, at, b)
+
+    fn write(out: &mut [u8], at: usize, b: u8) -> usize {
+        write_string_byte(out, at, b)
+    }
 }
 
-// The bytes of a string, or else of a name.
-fn escaped_length(in_string: bool, s: &[u8]) -> usize
+impl Escape for InName {
+    ghost text = { name_byte };
+
+    ghost short = { name_byte_short };
+
+    fn length(b: u8) -> usize {
+        name_byte_length(b)
+    }
+
+    fn write(out: &mut [u8], at: usize, b: u8) -> usize {
+        write_name_byte(out, at, b)
+    }
+}
+
+// The bytes of a string or of a name.
+fn escaped_length<E: Escape>(s: &[u8]) -> usize
     requires { length s.now ≤ 32768 }
-    ensures { result ≡ length (escaped (byte_text in_string) s.now) }
+    ensures { result ≡ length (escaped E.text s.now) }
 {
     let mut sum = 0;
-    let mut i = 0;
-    while i < s.len() {
-        sum += byte_length(in_string, s[i]);
-        i += 1;
+    for b in s {
+        sum += E::length(*b);
     }
     sum
 }
 
-fn write_escaped(out: &mut [u8], at: usize, in_string: bool, s: &[u8]) -> usize
-    requires { at + length (escaped (byte_text in_string) s.now) ≤ length out.old }
-    ensures { Written at (escaped (byte_text in_string) s.now) out.old out.new result }
+fn write_escaped<E: Escape>(out: &mut [u8], at: usize, s: &[u8]) -> usize
+    requires { at + length (escaped E.text s.now) ≤ length out.old }
+    ensures { Written at (escaped E.text s.now) out.old out.new result }
 {
     let mut next = at;
-    let mut i = 0;
-    while i < s.len() {
-        next = write_byte(out, next, in_string, s[i]);
-        i += 1;
+    for b in s {
+        next = E::write(out, next, *b);
     }
     next
 }

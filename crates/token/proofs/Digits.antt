@@ -3,7 +3,7 @@
 use mathlib.Core.Path.{◌≡◌, refl, sym, ap, subst, ◌∙◌}
 use mathlib.Core.Bool.{Bool, true, false, not, cond, false≢true}
 use mathlib.Core.List.{List, [], ◌∷◌}
-use Prim.Native.Nat.{ℕ, zero, suc, ◌+◌, ◌-◌, ◌*◌, ◌^◌, ◌≤◌, ◌<◌}
+use Prim.Native.Nat.{ℕ, zero, suc, ◌+◌, ◌-◌, ◌*◌, ◌%◌, ◌^◌, ◌≤◌, ◌<◌}
 use native.Mathlib.Nat.{mul-le-mul, le-mul_of_pos_right}
 use native.Mathlib.Numerals.{add-one}
 use native.Mathlib.Omega.{arith}
@@ -17,11 +17,9 @@ use Rattle.semantics.specs.Words.{word}
 use Rattle.semantics.specs.Tokens.{Lexing, is_digit, within, digit, digits, digits_from, up_to, starts_number, signs, form_of, number}
 use Rattle.semantics.specs.Tokens as tokens
 use Rattle.semantics.proofs.TokenLaws.{signs_le}
-use Rattle.semantics.specs.declared.Fault as semantics
+use Rattle.semantics.specs.declared.Fault.{Fault}
 use Rattle.semantics.specs.declared.Fault.TheVariants.{BadNumber, OverLimit}
-use Rattle.token.specs.Numbers.{number_is, fault_of, with_digit, numeral, negation}
-use Rattle.token.specs.declared.numbers.Number.{Number}
-use Rattle.token.specs.declared.numbers.Number.TheVariants.{Word, Fault}
+use Rattle.token.specs.Numbers.{with_digit, numeral}
 
 -- ---- how a number begins
 
@@ -238,24 +236,15 @@ module _ (s : List ℕ) (start base limit : ℕ) where
 
 -- ---- the 32 bits
 
-module _ (n : Number) (w : ℕ) (is : n ≡ Word w) where
-  pub negation_zero : w ≡ 0 → ok 0 ≡ negation (number_is n)
-  unfolding negation word ◌>>=◌
-  negation_zero e = rw (is, e)
+-- The 32 bits of a number's negation.
+unfoldable negation : Lexing ℕ → Lexing ℕ
+negation r = r >>= λ n. ok (word (neg_ℤ (pos n)))
 
-  pub negation_more : (w ≡ 0 → ⊥) → w < 2 ^ 32 → ok (4294967295 - (w - 1)) ≡ negation (number_is n)
-  unfolding negation word ◌>>=◌
-  negation_more h k = rw is (ap ok (back w h k))
-    where
-      back : (v : ℕ) → (v ≡ 0 → ⊥) → v < 2 ^ 32 → 4294967295 - (v - 1) ≡ word (neg_ℤ (pos v))
-      back zero h k = absurd (h refl)
-      back (suc v) h k = omega arith
-
-pub negation_fault : (n : Number) (e x : semantics.Fault) → n ≡ Fault e → x ≡ fault_of n → fault x ≡ negation (number_is n)
-unfolding negation ◌>>=◌
-negation_fault n e x is q =
-    let same : x ≡ e = q ∙ ap fault_of is in
-    rw (is, same)
+-- Two numbers whose sum is 0 modulo 2 ^ 32 are each other's negation.
+pub negation_is : (w m : ℕ) → w < 2 ^ 32 → m < 2 ^ 32 → (m + w) % 2 ^ 32 ≡ 0 → m ≡ word (neg_ℤ (pos w))
+unfolding word
+negation_is zero m h k e = omega arith
+negation_is (suc w) m h k e = omega arith
 
 associates : (r : Lexing ℕ) (f g : ℕ → Lexing ℕ) → (r >>= f >>= g) ≡ (r >>= λ n. f n >>= g)
 unfolding ◌>>=◌
@@ -263,9 +252,18 @@ associates (ok a) f g = refl
 associates (fault e) f g = refl
 
 module _ (at : ℕ) (s : List ℕ) where
-  pub number_negative : tokens.negative ≡ form_of s → negation (numeral 10 2147483648 (at + 1) (drop 1 s)) ≡ number at s
+  number_negation : tokens.negative ≡ form_of s → negation (numeral 10 2147483648 (at + 1) (drop 1 s)) ≡ number at s
   unfolding negation numeral number
-  number_negative e = rw (sym e, number) (associates (digits 10 (at + 1) (drop 1 s)) (up_to 2147483648) (λ n. ok (word (neg_ℤ (pos n)))))
+  number_negation e = rw (sym e, number) (associates (digits 10 (at + 1) (drop 1 s)) (up_to 2147483648) (λ n. ok (word (neg_ℤ (pos n)))))
+
+  pub number_fault : {f : Fault} → tokens.negative ≡ form_of s → fault f ≡ numeral 10 2147483648 (at + 1) (drop 1 s) → fault f ≡ number at s
+  unfolding negation ◌>>=◌
+  number_fault e g = ap negation g ∙ number_negation e
+
+  pub number_negative : {n m : ℕ} → tokens.negative ≡ form_of s → ok n ≡ numeral 10 2147483648 (at + 1) (drop 1 s)
+      → n < 2 ^ 32 → m < 2 ^ 32 → (m + n) % 2 ^ 32 ≡ 0 → ok m ≡ number at s
+  unfolding negation ◌>>=◌
+  number_negative {n} {m} e g h k z = ap ok (negation_is n m h k z) ∙ ap negation g ∙ number_negation e
 
   pub number_hexadecimal : tokens.hexadecimal ≡ form_of s → numeral 16 4294967295 (at + 2) (drop 2 s) ≡ number at s
   unfolding numeral number

@@ -15,14 +15,15 @@ use Rattle.semantics.specs.Tokens.{Lexing, is_break, is_octal, within, plain_act
 use Rattle.semantics.specs.Tokens as tokens
 use Rattle.semantics.specs.declared.Fault.{Fault}
 use Rattle.semantics.specs.declared.Fault.TheVariants.{OpenString, BadEscape}
-use Rattle.token.specs.Strings.{met_is, act_is, Small, after, StringAt, Begins, CutAt, BadAt, PieceAt, Unescapes}
+use Rattle.token.specs.Strings.{met_is, act_is, Small, after, StringAt, Begins, CutAt, BadAt, PieceAt, JudgedAt, Unescapes}
 use Rattle.token.specs.declared.quoted.Met.{Met}
 use Rattle.token.specs.declared.quoted.Met.TheVariants.{Nothing, Backslash, Return, Digit, Digits}
 use Rattle.token.specs.declared.quoted.Act.{Act}
 use Rattle.token.specs.declared.quoted.Act.TheVariants.{Byte, Go, Close, Cut, Bad}
-use Rattle.token.specs.declared.quoted.Piece.{Piece}
 use Rattle.token.specs.declared.quoted.Piece.TheVariants as piece
-use Rattle.token.specs.declared.quoted.Unescaped.TheVariants as unescaped
+use Rattle.token.specs.declared.quoted.StringFault.{StringFault}
+use Rattle.token.specs.declared.quoted.StringFault.TheVariants as fault_of
+use Rattle.std.specs.Prelude.{Ok, Err, Some, None}
 use Rattle.token.proofs.Classes.{within_high}
 
 -- ---- acts
@@ -220,16 +221,12 @@ module _ {script : List ℕ} {at i : ℕ} {m : Met} (r : Reading script at i m) 
     unfolding after
     reading_cut e q = next h q ∙ ap (after [] (i - at)) (step_cut q i (met_is m) (get_or script i 0) (drop (suc i) script) (acts Cut e))
 
-    -- The code has moved past the byte.
-    pub reading_bad : a ≡ Bad → BadAt script at (i + 1 - 1)
+    pub reading_bad : a ≡ Bad → BadAt script at i
     unfolding after
-    reading_bad e =
-        let back : i ≡ i + 1 - 1 = omega arith in
-        subst (BadAt script at) back
-        (record {
-          reads = λ q. next h q ∙ ap (after [] (i - at)) (step_bad q i (met_is m) (get_or script i 0) (drop (suc i) script) (acts Bad e));
-          inside = h;
-        })
+    reading_bad e = record {
+      reads = λ q. next h q ∙ ap (after [] (i - at)) (step_bad q i (met_is m) (get_or script i 0) (drop (suc i) script) (acts Bad e));
+      inside = h;
+    }
 
 -- ---- the whole string
 
@@ -254,10 +251,9 @@ judging_starts script at h =
       few = omega arith;
     }
 
-module _ {script : List ℕ} {at i size : ℕ} (j : Judging script at i size) {p : Piece} (is : PieceAt script i p) where
-  pub judging_byte : {b next : ℕ} → p ≡ piece.Byte b next → Judging script at next (size + 1)
-  judging_byte {b} {next} e =
-      let B : Begins script i (b ∷ []) next = subst (PieceAt script i) e is in
+module _ {script : List ℕ} {at i size : ℕ} (j : Judging script at i size) where
+  pub judging_byte : {b next : ℕ} → PieceAt script i (Ok (piece.Byte b next)) → Judging script at next (size + 1)
+  judging_byte {b} {next} B =
       let h = B.past in
       let f = j.from in
       let k = j.few in
@@ -274,10 +270,9 @@ module _ {script : List ℕ} {at i size : ℕ} (j : Judging script at i size) {p
         few = omega arith;
       }
 
-  pub judging_closed : {next : ℕ} → p ≡ piece.Closed next → (bs : List ℕ) × StringAt script at bs next × (length bs ≡ size)
+  pub judging_closed : {next : ℕ} → PieceAt script i (Ok (piece.Closed next)) → JudgedAt script at (Ok (size, next))
   unfolding after
-  judging_closed {next} e =
-      let S : StringAt script i [] next = subst (PieceAt script i) e is in
+  judging_closed {next} S =
       let h = S.past in
       let f = j.from in
       let n : i - at + (next - i) ≡ next - at = omega arith in (
@@ -290,17 +285,11 @@ module _ {script : List ℕ} {at i size : ℕ} (j : Judging script at i size) {p
         j.sized,
       )
 
-  pub judging_cut : p ≡ piece.Cut → CutAt script at
+  -- What is wrong with the rest is wrong with the string.
+  pub judging_fault : (x : StringFault) → PieceAt script i (Err x) → JudgedAt script at (Err x)
   unfolding after
-  judging_cut e q =
-      let b : CutAt script i = subst (PieceAt script i) e is in
-      j.so_far q ∙ ap (after j.given (i - at)) (b q)
-
-  pub judging_bad : {o : ℕ} → p ≡ piece.Bad o → BadAt script at o
-  unfolding after
-  judging_bad {o} e =
-      let b : BadAt script i o = subst (PieceAt script i) e is in
-      record { reads = λ q. j.so_far q ∙ ap (after j.given (i - at)) (b.reads q); inside = b.inside }
+  judging_fault fault_of.Cut b = λ q. j.so_far q ∙ ap (after j.given (i - at)) (b q)
+  judging_fault (fault_of.Bad o) b = record { reads = λ q. j.so_far q ∙ ap (after j.given (i - at)) (b.reads q); inside = b.inside }
 
 -- ---- a string that is known to be good
 
@@ -366,20 +355,16 @@ rest_of {script} {at} {b} {next} {last} {bs} B S =
     each q = by q (quoted q next tokens.nothing (drop next script)) refl (sym (B.splits q) ∙ S.reads q)
 
 -- No fault is met in a string that is known to be good.
-unescape_never : {script : List ℕ} {at : ℕ} (f : Fault) → quoted 0 at tokens.nothing (drop at script) ≡ fault f → Unescapes script at unescaped.Closed
+unescape_never : {script : List ℕ} {at : ℕ} (f : Fault) → quoted 0 at tokens.nothing (drop at script) ≡ fault f → Unescapes script at None
 unescape_never {script} {at} f b bs last S = never f bs (last - at) (sym b ∙ S.reads 0)
 
-module _ {script : List ℕ} {at : ℕ} {p : Piece} (is : PieceAt script at p) where
-  pub unescape_byte : {b next : ℕ} → p ≡ piece.Byte b next → Unescapes script at (unescaped.Byte b next)
-  unescape_byte e bs last S = rest_of (subst (PieceAt script at) e is) S
+module _ {script : List ℕ} {at : ℕ} where
+  pub unescape_byte : {b next : ℕ} → PieceAt script at (Ok (piece.Byte b next)) → Unescapes script at (Some (b, next))
+  unescape_byte B bs last S = rest_of B S
 
-  pub unescape_closed : {next : ℕ} → p ≡ piece.Closed next → Unescapes script at unescaped.Closed
-  unescape_closed {next} e bs last S =
-      let C : StringAt script at [] next = subst (PieceAt script at) e is in
-      same_string S C
+  pub unescape_closed : {next : ℕ} → PieceAt script at (Ok (piece.Closed next)) → Unescapes script at None
+  unescape_closed C bs last S = same_string S C
 
-  pub unescape_cut : p ≡ piece.Cut → Unescapes script at unescaped.Closed
-  unescape_cut e = let b : CutAt script at = subst (PieceAt script at) e is in unescape_never (OpenString 0) (b 0)
-
-  pub unescape_bad : {o : ℕ} → p ≡ piece.Bad o → Unescapes script at unescaped.Closed
-  unescape_bad {o} e = let b : BadAt script at o = subst (PieceAt script at) e is in unescape_never (BadEscape o) (b.reads 0)
+  pub unescape_fault : (x : StringFault) → PieceAt script at (Err x) → Unescapes script at None
+  unescape_fault fault_of.Cut b = unescape_never (OpenString 0) (b 0)
+  unescape_fault (fault_of.Bad o) b = unescape_never (BadEscape o) (b.reads 0)

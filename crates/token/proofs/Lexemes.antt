@@ -3,7 +3,7 @@
 use mathlib.Core.Path.{◌≡◌, refl, sym, ap, subst, ◌∙◌}
 use mathlib.Core.Bool.{Bool, true, false, cond, ◌||◌}
 use mathlib.Core.List.{List, [], ◌∷◌}
-use Prim.Native.Nat.{ℕ, suc, ◌+◌, ◌-◌, ◌^◌, ◌≤◌, ◌<◌}
+use Prim.Native.Nat.{ℕ, suc, ◌+◌, ◌-◌, ◌≤◌, ◌<◌}
 use native.Mathlib.Numerals.{add-one}
 use native.Mathlib.Omega.{arith}
 use lib.Dec.{eqb}
@@ -14,18 +14,16 @@ use Rattle.semantics.specs.Sizes.{name_most}
 use Rattle.semantics.specs.Values.{ok, fault, ◌>>=◌, check}
 use Rattle.semantics.specs.Tokens.{is_name_byte, class_of, run, starts_number, signs, number, quoted, lexeme, name_of, run_token, slash_token, lex_as, lex}
 use Rattle.semantics.specs.Tokens as tokens
-use Rattle.semantics.specs.declared.Fault as semantics
+use Rattle.semantics.specs.declared.Fault.{Fault}
 use Rattle.semantics.specs.declared.Fault.TheVariants.{BadEscape, OpenString, BadByte, OverLimit}
 use Rattle.semantics.proofs.TokenLaws.{run_le}
 use Rattle.token.specs.Bytes.{class_is}
-use Rattle.token.specs.Numbers.{number_is, fault_of as number_fault}
-use Rattle.token.specs.Strings.{CutAt, BadAt, JudgedAt}
+use Rattle.token.specs.Numbers.{number_is}
+use Rattle.token.specs.Strings.{JudgedAt}
 use Rattle.token.specs.Lexing.{ClassAt, Lexes, StringToken, NameToken, BraceToken, EndToken}
 use Rattle.token.specs.declared.bytes.Class.{Class}
-use Rattle.token.specs.declared.numbers.Number.{Number}
-use Rattle.token.specs.declared.numbers.Number.TheVariants.{Word, Fault}
-use Rattle.token.specs.declared.quoted.Judged.{Judged}
-use Rattle.token.specs.declared.quoted.Judged.TheVariants as judged
+use Rattle.std.specs.Prelude.{Ok, Err}
+use Rattle.token.specs.declared.quoted.StringFault.TheVariants.{Cut, Bad}
 use Rattle.token.proofs.Blanks.{run_go}
 
 -- ---- runs of name bytes
@@ -67,7 +65,7 @@ module _ (at : ℕ) (n : List ℕ) (t : Bool) (is : t ≡ starts_number n) where
   unfolding run_token ◌>>=◌
   run_number f w g = rw (sym is ∙ f, run_token, g)
 
-  run_fault : t ≡ true → (e : semantics.Fault) → number at n ≡ fault e → run_token at n ≡ fault e
+  run_fault : t ≡ true → (e : Fault) → number at n ≡ fault e → run_token at n ≡ fault e
   unfolding run_token ◌>>=◌
   run_fault f e g = rw (sym is ∙ f, run_token, g)
 
@@ -155,11 +153,6 @@ module _ {script : List ℕ} {start : ℕ} where
 abbrev between : List ℕ → ℕ → ℕ → List ℕ
 between script a e = take (e - a) (drop a script)
 
-pub between_short : (script : List ℕ) (a e : ℕ) → a ≤ e → e ≤ length script → length script < 2 ^ 32 → a + length (between script a e) < 2 ^ 32
-between_short script a e h k l =
-    let q = length-take-le (e - a) (drop a script) (rw (length-drop a script) (omega arith)) in
-    omega (arith, q)
-
 word_list : (at b : ℕ) (s : List ℕ) (k : ℕ) → run (b ∷ s) ≡ k → lex_as tokens.name_byte at b s ≡ (run_token at (take k (b ∷ s)) >>= λ t. lexeme t k)
 unfolding lex_as
 word_list at b s k e = rw (e, length-take-le k (b ∷ s) (rw e at (run_le (b ∷ s))))
@@ -189,21 +182,17 @@ module _ {script : List ℕ} {start end : ℕ} (C : ClassAt script start tokens.
       by p q = omega arith
 
   module _ (t : Bool) (is : t ≡ starts_number (between script start end)) where
-    pub word_integer : t ≡ true → {n : Number} {w : ℕ} → number_is n ≡ number start (between script start end)
-        → n ≡ Word w → Lexes script start (tokens.integer w) end
+    pub word_integer : t ≡ true → {w : ℕ} → number_is (Ok w) ≡ number start (between script start end) → Lexes script start (tokens.integer w) end
     unfolding ◌>>=◌
-    word_integer f {n} {w} g i = record {
-      lexes = word ∙ rw (run_number start (between script start end) t is f w (sym g ∙ ap number_is i)) refl;
+    word_integer f {w} g = record {
+      lexes = word ∙ rw (run_number start (between script start end) t is f w (sym g)) refl;
       past = some_word;
       inside = h;
     }
 
-    pub word_fault : t ≡ true → {n : Number} {x y : semantics.Fault} → number_is n ≡ number start (between script start end)
-        → n ≡ Fault x → y ≡ number_fault n → lex start (drop start script) ≡ fault y
+    pub word_fault : t ≡ true → {x : Fault} → number_is (Err x) ≡ number start (between script start end) → lex start (drop start script) ≡ fault x
     unfolding ◌>>=◌
-    word_fault f {n} {x} {y} g i q =
-        let same : y ≡ x = q ∙ ap number_fault i in
-        rw same (word ∙ rw (run_fault start (between script start end) t is f x (sym g ∙ ap number_is i)) refl)
+    word_fault f {x} g = word ∙ rw (run_fault start (between script start end) t is f x (sym g)) refl
 
     pub word_name : t ≡ false → end - start ≤ name_most → NameToken script start true 0 start (end - start) end
     unfolding ◌>>=◌
@@ -272,32 +261,23 @@ module _ {script : List ℕ} {start : ℕ} (C : ClassAt script start tokens.quot
   unfolding lex_as
   quote = lex_as_lem C ∙ rw (add-one start) refl
 
-  module _ {j : Judged} (is : JudgedAt script (start + 1) j) where
-    pub string_token : {size next : ℕ} → j ≡ judged.Closed size next → StringToken script start (start + 1) size next
-    unfolding ◌>>=◌
-    string_token {size} {next} e =
-        let J : JudgedAt script (start + 1) (judged.Closed size next) = subst (JudgedAt script (start + 1)) e is in
-        let past = J.1.past in
-        let n : suc (next - (start + 1)) ≡ next - start = omega arith in
-        record {
-          bytes = J.0;
-          token = record { lexes = quote ∙ rw (J.1.reads start) (ap (lexeme (tokens.string J.0)) n); past = omega arith; inside = J.1.inside };
-          own = J.1;
-          begins = refl;
-          holds = J.2;
-        }
+  pub string_token : {size next : ℕ} → JudgedAt script (start + 1) (Ok (size, next)) → StringToken script start (start + 1) size next
+  unfolding ◌>>=◌
+  string_token {size} {next} J =
+      let past = J.1.past in
+      let n : suc (next - (start + 1)) ≡ next - start = omega arith in
+      record {
+        bytes = J.0;
+        token = record { lexes = quote ∙ rw (J.1.reads start) (ap (lexeme (tokens.string J.0)) n); past = omega arith; inside = J.1.inside };
+        own = J.1;
+        begins = refl;
+        holds = J.2;
+      }
 
-    pub string_cut : j ≡ judged.Cut → lex start (drop start script) ≡ fault (OpenString start)
-    unfolding ◌>>=◌
-    string_cut e =
-        let b : CutAt script (start + 1) = subst (JudgedAt script (start + 1)) e is in
-        quote ∙ rw (b start) refl
+  pub string_cut : JudgedAt script (start + 1) (Err Cut) → lex start (drop start script) ≡ fault (OpenString start)
+  unfolding ◌>>=◌
+  string_cut b = quote ∙ rw (b start) refl
 
-    pub string_bad : {o : ℕ} → j ≡ judged.Bad o → lex start (drop start script) ≡ fault (BadEscape o)
-    unfolding ◌>>=◌
-    string_bad {o} e =
-        let b : BadAt script (start + 1) o = subst (JudgedAt script (start + 1)) e is in
-        quote ∙ rw (b.reads start) refl
-
-pub bad_inside : (script : List ℕ) (at : ℕ) {j : Judged} → JudgedAt script at j → {o : ℕ} → j ≡ judged.Bad o → o < length script
-bad_inside script at is {o} e = let b : BadAt script at o = subst (JudgedAt script at) e is in b.inside
+  pub string_bad : {o : ℕ} → JudgedAt script (start + 1) (Err (Bad o)) → lex start (drop start script) ≡ fault (BadEscape o)
+  unfolding ◌>>=◌
+  string_bad b = quote ∙ rw (b.reads start) refl

@@ -1,11 +1,10 @@
 -- The public reading: each answer of the code is the definition's, and the part lies inside the script.
 -- Assumes nothing.
-use mathlib.Core.Path.{◌≡◌, refl, sym, ap, subst, ◌∙◌}
-use mathlib.Core.List.{List, []}
-use Prim.Native.Nat.{ℕ, ◌+◌, ◌-◌, ◌≤◌, ◌<◌}
-use native.Mathlib.Nat.{add-sub_cancel_left}
+use mathlib.Core.Path.{◌≡◌, refl, sym, ◌∙◌}
+use mathlib.Core.List.{List}
+use Prim.Native.Nat.{ℕ, ◌≤◌, ◌<◌}
 use native.Mathlib.Omega.{arith}
-use lib.ListN.{length, take, drop}
+use lib.ListN.{length, drop}
 use borrow.Author.Tests.{lt-ltb, le-ltb}
 use Rattle.semantics.specs.Sizes.{script_most}
 use Rattle.semantics.specs.Values.{fault}
@@ -16,37 +15,25 @@ use Rattle.semantics.specs.Setup.{is_too_long, reading, reading_of}
 use Rattle.semantics.specs.Setup as setup
 use Rattle.semantics.specs.declared.Fault.{Fault}
 use Rattle.semantics.specs.declared.Kind.{Kind}
-use Rattle.token.specs.Lexing.{TokenAt, LexedAt, fault_of}
-use Rattle.token.specs.Reading.{LocatedAt, Within, Ordered, owned_by, answer_of, answer, located_is, part_of, refusal_of}
+use Rattle.token.specs.Lexing.{TokenAt}
+use Rattle.token.specs.Reading.{LocatedAt, Within, owned_by, located_is}
 use Rattle.token.specs.declared.Token.{Token}
 use Rattle.token.specs.declared.Token.TheVariants.{Integer, String, ExecutableName, LiteralName, OpenBrace, CloseBrace, End}
-use Rattle.token.specs.declared.Lexed.{Lexed}
-use Rattle.token.specs.declared.Lexed.TheVariants as lexed
-use Rattle.token.specs.declared.Reading.{Reading}
+use Rattle.std.specs.Prelude.{Ok, Err}
+use Rattle.token.specs.declared.Refused.TheVariants.{TooLong, PastEnd, Faulty}
 use Rattle.token.specs.declared.Located.{Located}
-use Rattle.token.specs.declared.Located.TheVariants.{TooLong, PastEnd, Faulty, At}
 
 -- ---- refusals
 
-pub too_long : {script : List ℕ} {offset : ℕ} → script_most < length script → LocatedAt script offset TooLong
+pub too_long : {script : List ℕ} {offset : ℕ} → script_most < length script → LocatedAt script offset (Err TooLong)
 unfolding reading is_too_long
 too_long {script} {offset} h = record { is = rw (lt-ltb script_most (length script) h, reading); inside = tt }
 
-pub past_end : {script : List ℕ} {offset : ℕ} → length script ≤ script_most → length script < offset → LocatedAt script offset PastEnd
+pub past_end : {script : List ℕ} {offset : ℕ} → length script ≤ script_most → length script < offset → LocatedAt script offset (Err PastEnd)
 unfolding reading is_too_long
 past_end {script} {offset} h k = record { is = rw (le-ltb script_most (length script) h, reading, lt-ltb (length script) offset k); inside = tt }
 
 -- ---- tokens
-
--- A token has its bytes between its ends.
-pub ordered : (script : List ℕ) (start next : ℕ) (t : Token) → TokenAt script start next t → Ordered start next t
-ordered script start next (Integer w) T = let h = T.past in omega arith
-ordered script start next (String at size) T = T.own.past
-ordered script start next (ExecutableName at size) T = tt
-ordered script start next (LiteralName at size) T = tt
-ordered script start next OpenBrace T = tt
-ordered script start next CloseBrace T = tt
-ordered script start next End T = tt
 
 same_reading : (k : Kind) {a a' b b' c c' : ℕ} → a ≡ a' → b ≡ b' → c ≡ c' → setup.read k a b c ≡ setup.read k a' b' c'
 same_reading k p q r = cc
@@ -68,13 +55,10 @@ module _ {script : List ℕ} {offset start : ℕ} (B : Begun script offset start
   answers_token t n g =
       rw (B.begins, le-ltb script_most (length script) B.short, reading, le-ltb (length script) offset B.known, rw B.begins at g)
 
-  pub located_fault : {x v : Fault} {l : Lexed} → LexedAt script start l → l ≡ lexed.Fault v → x ≡ fault_of l → LocatedAt script offset (Faulty x)
-  located_fault {x} {v} {l} L e f =
-      let g : lex start (drop start script) ≡ fault v = subst (LexedAt script start) e L in
-      let h : x ≡ v = f ∙ ap fault_of e in
-      record { is = ap setup.faulty h ∙ answers_fault g; inside = tt }
+  pub located_fault : {f : Fault} → lex start (drop start script) ≡ fault f → LocatedAt script offset (Err (Faulty f))
+  located_fault g = record { is = answers_fault g; inside = tt }
 
-  token_is : (next : ℕ) (t : Token) → TokenAt script start next t → located_is (owned_by start next t) ≡ reading script offset
+  token_is : (next : ℕ) (t : Token) → TokenAt script start next t → located_is (Ok (owned_by start next t)) ≡ reading script offset
   unfolding reading_of
   token_is next (Integer w) T =
       let p = T.past in
@@ -102,7 +86,7 @@ module _ {script : List ℕ} {offset start : ℕ} (B : Begun script offset start
       let e = T.ends in
       same_reading _ (omega arith) refl refl ∙ answers_token _ _ T.lexes
 
-  token_inside : (next : ℕ) (t : Token) → TokenAt script start next t → Within (length script) (owned_by start next t)
+  token_inside : (next : ℕ) (t : Token) → TokenAt script start next t → Within (length script) (Ok (owned_by start next t))
   token_inside next (Integer w) T = let p = T.past in let i = T.inside in omega arith
   token_inside next (String at size) T = let p = T.own.past in let i = T.own.inside in omega arith
   token_inside next (ExecutableName at size) T = let e = T.ends in let i = T.token.inside in omega arith
@@ -111,37 +95,5 @@ module _ {script : List ℕ} {offset start : ℕ} (B : Begun script offset start
   token_inside next CloseBrace T = let e = T.ends in let i = T.token.inside in omega arith
   token_inside next End T = let e = T.last in omega arith
 
-  pub located_token : (next : ℕ) (t : Token) (r : Located) → TokenAt script start next t → r ≡ owned_by start next t → LocatedAt script offset r
+  pub located_token : (next : ℕ) (t : Token) (r : Located Kind) → TokenAt script start next t → r ≡ owned_by start next t → LocatedAt script offset (Ok r)
   located_token next t r T e = rw e (record { is = token_is next t T; inside = token_inside next t T })
-
--- ---- what the public functions make of it
-
-module _ {script : List ℕ} {offset : ℕ} {r : Located} (L : LocatedAt script offset r) where
-  pub told : (s : Located) → r ≡ s → answer offset (located_is s) ≡ answer offset (reading script offset)
-  told s e = ap (answer offset) (ap located_is (sym e) ∙ L.is)
-
-  pub part_inside : {k : Kind} {n start size : ℕ} → r ≡ At k n start size → start + size ≤ length script
-  part_inside e = subst (Within (length script)) e L.inside
-
-  pub part_is : {k : Kind} {n start size : ℕ} → r ≡ At k n start size
-      → take (start + size - start) (drop start script) ≡ part_of script (reading script offset)
-  part_is {k} {n} {start} {size} e = rw (add-sub_cancel_left start size) (ap (part_of script) (ap located_is (sym e) ∙ L.is))
-
--- Where there is no token, the answer is a refusal or a fault.
-pub without_token : (P : Located → Type 0) → P TooLong → P PastEnd → ((f : Fault) → P (Faulty f))
-    → (r : Located) → ((k : Kind) (n start size : ℕ) → r ≡ At k n start size → ⊥) → P r
-without_token P a b f TooLong none = a
-without_token P a b f PastEnd none = b
-without_token P a b f (Faulty x) none = f x
-without_token P a b f (At k n start size) none = absurd (none k n start size refl)
-
-module _ (script : List ℕ) (offset : ℕ) (r : Located) (L : LocatedAt script offset r) (none : (k : Kind) (n start size : ℕ) → r ≡ At k n start size → ⊥) where
-  -- There is no part, and what is answered is the refusal or the fault.
-  pub part_none : [] ≡ part_of script (reading script offset)
-  part_none = without_token (λ l. [] ≡ part_of script (located_is l)) refl refl (λ x. refl) r none ∙ ap (part_of script) L.is
-
-  pub told_none : {t : Reading} → t ≡ refusal_of r → answer_of offset t ≡ answer offset (reading script offset)
-  told_none q =
-      ap (answer_of offset) q
-      ∙ without_token (λ l. answer_of offset (refusal_of l) ≡ answer offset (located_is l)) refl refl (λ x. refl) r none
-      ∙ ap (answer offset) L.is

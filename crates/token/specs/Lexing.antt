@@ -1,16 +1,13 @@
 -- What a token's answer means: the definition's `lex` at its offset.
 -- Assumes nothing.
-use Rattle.std.specs.Prelude.{◌≡◌, Bool, true, false, List, ℕ, ◌+◌, ◌-◌, ◌<◌, ◌≤◌, length, take, drop, get_or}
+use Rattle.std.specs.Prelude.{◌≡◌, Bool, true, false, List, ℕ, ◌+◌, ◌-◌, ◌<◌, ◌≤◌, length, take, drop, get_or, Result, Ok, Err}
 use Rattle.semantics.specs.Sizes.{name_most}
 use Rattle.semantics.specs.Values.{fault}
 use Rattle.semantics.specs.Tokens.{lex, lexeme, class_of}
 use Rattle.semantics.specs.Tokens as tokens
 use Rattle.semantics.specs.declared.Fault.{Fault}
-use Rattle.semantics.specs.declared.Fault.TheVariants.{OverLimit}
 use Rattle.token.specs.declared.Token.{Token}
 use Rattle.token.specs.declared.Token.TheVariants.{Integer, String, ExecutableName, LiteralName, OpenBrace, CloseBrace, End}
-use Rattle.token.specs.declared.Lexed.{Lexed}
-use Rattle.token.specs.declared.Lexed.TheVariants as lexed
 use Rattle.token.specs.Strings.{StringAt}
 
 -- The definition reads the token t at `start`, and `next` is the offset after it.
@@ -55,13 +52,9 @@ TokenAt script start next OpenBrace = BraceToken script start tokens.open_brace 
 TokenAt script start next CloseBrace = BraceToken script start tokens.close_brace next
 TokenAt script start next End = EndToken script start next
 
-abbrev pub LexedAt : List ℕ → ℕ → Lexed → Type 0
-LexedAt script start (lexed.Token t next) = TokenAt script start next t
-LexedAt script start (lexed.Fault f) = lex start (drop start script) ≡ fault f
-
-abbrev pub fault_of : Lexed → Fault
-fault_of (lexed.Token t next) = OverLimit
-fault_of (lexed.Fault f) = f
+abbrev pub LexedAt : List ℕ → ℕ → Result (Token × ℕ) Fault → Type 0
+LexedAt script start (Ok (t, next)) = TokenAt script start next t
+LexedAt script start (Err f) = lex start (drop start script) ≡ fault f
 
 -- A byte of a class stands at `start`.
 pub record ClassAt (script : List ℕ) (start : ℕ) (class : tokens.Class) : Type 0 where

@@ -1,6 +1,6 @@
 -- Strings: the reading machine's states and acts, and what is left of a string at an offset.
 -- Assumes nothing.
-use Rattle.std.specs.Prelude.{◌≡◌, List, [], ◌∷◌, ◌++◌, ℕ, ◌+◌, ◌*◌, ◌-◌, ◌^◌, ◌<◌, ◌≤◌, length, drop}
+use Rattle.std.specs.Prelude.{◌≡◌, List, [], ◌∷◌, ◌++◌, ℕ, ◌+◌, ◌*◌, ◌-◌, ◌^◌, ◌<◌, ◌≤◌, length, drop, Option, Some, None, Result, Ok, Err}
 use Rattle.semantics.specs.Values.{ok, fault}
 use Rattle.semantics.specs.Tokens.{Lexing, Quoted, quoted}
 use Rattle.semantics.specs.Tokens as tokens
@@ -11,10 +11,8 @@ use Rattle.token.specs.declared.quoted.Act.{Act}
 use Rattle.token.specs.declared.quoted.Act.TheVariants as act
 use Rattle.token.specs.declared.quoted.Piece.{Piece}
 use Rattle.token.specs.declared.quoted.Piece.TheVariants as piece
-use Rattle.token.specs.declared.quoted.Judged.{Judged}
-use Rattle.token.specs.declared.quoted.Judged.TheVariants as judged
-use Rattle.token.specs.declared.quoted.Unescaped.{Unescaped}
-use Rattle.token.specs.declared.quoted.Unescaped.TheVariants as unescaped
+use Rattle.token.specs.declared.quoted.StringFault.{StringFault}
+use Rattle.token.specs.declared.quoted.StringFault.TheVariants.{Cut, Bad}
 
 abbrev pub met_is : Met → tokens.Met
 met_is Nothing = tokens.nothing
@@ -63,21 +61,21 @@ pub record BadAt (script : List ℕ) (at i : ℕ) : Type 0 where
   pub reads : (quote : ℕ) → quoted quote at tokens.nothing (drop at script) ≡ fault (BadEscape i)
   pub inside : i < length script
 
-abbrev pub PieceAt : List ℕ → ℕ → Piece → Type 0
-PieceAt script at (piece.Byte b next) = Begins script at (b ∷ []) next
-PieceAt script at (piece.Closed next) = StringAt script at [] next
-PieceAt script at piece.Cut = CutAt script at
-PieceAt script at (piece.Bad i) = BadAt script at i
+abbrev pub PieceAt : List ℕ → ℕ → Result Piece StringFault → Type 0
+PieceAt script at (Ok (piece.Byte b next)) = Begins script at (b ∷ []) next
+PieceAt script at (Ok (piece.Closed next)) = StringAt script at [] next
+PieceAt script at (Err Cut) = CutAt script at
+PieceAt script at (Err (Bad i)) = BadAt script at i
 
-abbrev pub JudgedAt : List ℕ → ℕ → Judged → Type 0
-JudgedAt script at (judged.Closed size next) = (bs : List ℕ) × StringAt script at bs next × (length bs ≡ size)
-JudgedAt script at judged.Cut = CutAt script at
-JudgedAt script at (judged.Bad i) = BadAt script at i
+abbrev pub JudgedAt : List ℕ → ℕ → Result (ℕ × ℕ) StringFault → Type 0
+JudgedAt script at (Ok (size, next)) = (bs : List ℕ) × StringAt script at bs next × (length bs ≡ size)
+JudgedAt script at (Err Cut) = CutAt script at
+JudgedAt script at (Err (Bad i)) = BadAt script at i
 
 -- Of the bytes `bs` of the string at `at`, whose end is at `last`: the first, with the rest at an offset further on; or there are none.
-abbrev pub Gives : List ℕ → ℕ → List ℕ → ℕ → Unescaped → Type 0
-Gives script at bs last (unescaped.Byte b next) = (rest : List ℕ) × (bs ≡ b ∷ rest) × StringAt script next rest last × (at < next)
-Gives script at bs last unescaped.Closed = bs ≡ []
+abbrev pub Gives : List ℕ → ℕ → List ℕ → ℕ → Option (ℕ × ℕ) → Type 0
+Gives script at bs last (Some (b, next)) = (rest : List ℕ) × (bs ≡ b ∷ rest) × StringAt script next rest last × (at < next)
+Gives script at bs last None = bs ≡ []
 
-abbrev pub Unescapes : List ℕ → ℕ → Unescaped → Type 0
+abbrev pub Unescapes : List ℕ → ℕ → Option (ℕ × ℕ) → Type 0
 Unescapes script at r = (bs : List ℕ) (last : ℕ) → StringAt script at bs last → Gives script at bs last r

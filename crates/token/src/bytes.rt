@@ -1,10 +1,11 @@
 // Bytes of a script: what each may begin, the space and comment to pass over, and the end of a run of name bytes.
-ghost use Rattle.std.specs.Prelude.{◌≡◌, ◌+◌, ◌≤◌, length, drop};
+ghost use Rattle.std.specs.List.{position_or_len};
+ghost use Rattle.std.specs.Prelude.{◌≡◌, Bool, ℕ, ◌+◌, ◌≤◌, length, drop};
 ghost use Rattle.semantics.specs.Tokens as tokens;
 ghost use Rattle.token.specs.Bytes.{class_is};
 
 // What a token's first byte begins.
-#[derive(Clone, Copy)]
+#[derive(Clone, Copy, PartialEq, Eq, Debug)]
 pub enum Class {
     NameByte,
     Bracket,
@@ -18,10 +19,7 @@ pub enum Class {
 pub fn within(low: u8, high: u8, b: u8) -> bool
     ensures { result ≡ tokens.within low high b }
 {
-    if b < low {
-        return false;
-    }
-    b <= high
+    low <= b && b <= high
 }
 
 pub fn is_digit(b: u8) -> bool
@@ -39,34 +37,19 @@ pub fn is_octal(b: u8) -> bool
 pub fn is_break(b: u8) -> bool
     ensures { result ≡ tokens.is_break b }
 {
-    if b == b'\n' {
-        return true;
-    }
-    b == b'\r'
+    b == b'\n' || b == b'\r'
 }
 
 pub fn is_space(b: u8) -> bool
     ensures { result ≡ tokens.is_space b }
 {
-    if b == b'\t' {
-        return true;
-    }
-    if is_break(b) {
-        return true;
-    }
-    b == b' '
+    b == b'\t' || is_break(b) || b == b' '
 }
 
 pub fn is_name_byte(b: u8) -> bool
     ensures { result ≡ tokens.is_name_byte b }
 {
-    if !within(33, 126, b) {
-        return false;
-    }
-    match b {
-        b'[' | b']' | b'{' | b'}' | b'"' | b'#' | b'/' => false,
-        _ => true,
-    }
+    within(33, 126, b) && !matches!(b, b'[' | b']' | b'{' | b'}' | b'"' | b'#' | b'/')
 }
 
 pub fn class_of(b: u8) -> Class
@@ -86,26 +69,19 @@ pub fn class_of(b: u8) -> Class
 }
 
 // A byte of space or comment.
+#[tactic(auto, unfolding(semantics::specs::Tokens::is_blank))]
 fn is_blank(in_comment: bool, b: u8) -> bool
     ensures { result ≡ tokens.is_blank in_comment b }
 {
-    if in_comment {
-        return true;
-    }
-    if is_space(b) {
-        return true;
-    }
-    b == b'#'
+    in_comment || is_space(b) || b == b'#'
 }
 
 // Whether the byte after b is in a comment.
+#[tactic(auto, unfolding(semantics::specs::Tokens::comment_after))]
 fn comment_after(in_comment: bool, b: u8) -> bool
     ensures { result ≡ tokens.comment_after in_comment b }
 {
-    if !in_comment {
-        return b == b'#';
-    }
-    !is_break(b)
+    if in_comment { !is_break(b) } else { b == b'#' }
 }
 
 // How far the space and comment from `at` on reach.
@@ -114,17 +90,27 @@ pub fn blank_end(script: &[u8], at: usize) -> usize
     ensures value { result ≡ at + tokens.blanks (drop at script.now) }
     ensures upper_bound { result ≤ length script.now }
 {
-    let mut i = at;
     let mut comment = false;
-    while i < script.len() {
+    for i in at..script.len() {
         let b = script[i];
         if !is_blank(comment, b) {
             return i;
         }
         comment = comment_after(comment, b);
-        i += 1;
     }
-    i
+    script.len()
+}
+
+// The offset of the first byte from `at` on that passes a test, or the script's length.
+// Ruled out: a later byte that passes; the length where a byte passes.
+pub fn first_from<F: Fn(u8) -> bool>(script: &[u8], at: usize, test: F) -> usize
+    requires in_bounds { at ≤ length script.now }
+    requires callable { F.IsAlwaysCallable test }
+    ensures value { (p : ℕ → Bool) → ((b : ℕ) (r : Bool) → F.post test b r → r ≡ p b) → result ≡ at + position_or_len p (drop at script.now) }
+    ensures upper_bound { result ≤ length script.now }
+{
+    let rest = &script[at..];
+    at + rest.iter().position(|b| test(*b)).unwrap_or(rest.len())
 }
 
 // How far the name bytes from `at` on reach.
@@ -133,12 +119,5 @@ pub fn run_end(script: &[u8], at: usize) -> usize
     ensures value { result ≡ at + tokens.run (drop at script.now) }
     ensures upper_bound { result ≤ length script.now }
 {
-    let mut i = at;
-    while i < script.len() {
-        if !is_name_byte(script[i]) {
-            return i;
-        }
-        i += 1;
-    }
-    i
+    first_from(script, at, |b| !is_name_byte(b))
 }

@@ -1,20 +1,13 @@
 // Numbers: a run of name bytes that begins as a number does is judged whole, its form before its size.
 ghost use Rattle.std.specs.Prelude.{◌≡◌, ◌+◌, ◌≤◌, ◌<◌, ◌^◌, length, drop};
 ghost use Rattle.semantics.specs.Tokens as tokens;
-ghost use Rattle.token.specs.Numbers.{form_is, number_is, fault_of, with_digit, numeral, negation};
+ghost use Rattle.token.specs.Numbers.{form_is, number_is, with_digit, numeral};
 
 use crate::bytes::{is_digit, within};
 use semantics::Fault;
 
-// The 32 bits of a number, or its fault.
-#[derive(Clone, Copy)]
-pub enum Number {
-    Word(u32),
-    Fault(Fault),
-}
-
 // -12, 0xC, 12
-#[derive(Clone, Copy)]
+#[derive(Clone, Copy, PartialEq, Eq, Debug)]
 pub enum Form {
     Negative,
     Hexadecimal,
@@ -27,16 +20,6 @@ const NEGATIVE_LIMIT: u64 = 2147483648;
 const HEXADECIMAL_LIMIT: u64 = 4294967295;
 
 const PLAIN_LIMIT: u64 = 2147483647;
-
-// The fault of an answer that has one, for the branch of a `let .. else` that returns with its name.
-pub fn number_fault(n: Number) -> Fault
-    ensures { result ≡ fault_of n }
-{
-    match n {
-        Number::Word(_) => Fault::OverLimit,
-        Number::Fault(e) => e,
-    }
-}
 
 // A digit, or - and a digit.
 pub fn starts_number(s: &[u8]) -> bool
@@ -120,49 +103,37 @@ fn with_digit(limit: u64, base: u64, n: u64, d: u64) -> u64
 
 // The number that the digits from `at` on write, at most the limit, in a run whose first byte is at `start` in the script. Any number of digits is read, and all
 // are judged.
-pub fn numeral_at(s: &[u8], start: usize, at: usize, base: u64, limit: u64) -> Number
+pub fn numeral_at(s: &[u8], start: usize, at: usize, base: u64, limit: u64) -> Result<u32, Fault>
     requires { (limit < 2 ^ 32) × (0 < base) × (base ≤ 16) × (at ≤ length s.now) × (start + length s.now < 2 ^ 32) }
     ensures { number_is result ≡ numeral base limit (start + at) (drop at s.now) }
 {
     if s.len() <= at {
-        return Number::Fault(Fault::BadNumber((start + at) as u32));
+        return Err(Fault::BadNumber((start + at) as u32));
     }
-    let mut i = at;
     let mut n: u64 = 0;
-    while i < s.len() {
+    for i in at..s.len() {
         let d = digit(s[i]);
         if base <= d {
-            return Number::Fault(Fault::BadNumber((start + i) as u32));
+            return Err(Fault::BadNumber((start + i) as u32));
         }
         n = with_digit(limit, base, n, d);
-        i += 1;
     }
     if limit < n {
-        return Number::Fault(Fault::OverLimit);
+        return Err(Fault::OverLimit);
     }
-    Number::Word(n as u32)
-}
-
-// The 32 bits of a number's negation.
-pub fn negated(n: Number) -> Number
-    ensures { number_is result ≡ negation (number_is n) }
-{
-    let Number::Word(w) = n else {
-        return Number::Fault(number_fault(n));
-    };
-    if w == 0 {
-        return Number::Word(0);
-    }
-    Number::Word(4294967295 - (w - 1))
+    Ok(n as u32)
 }
 
 // The 32 bits of a run that starts as a number does, at `start` in the script, or its fault.
-pub fn number_of(s: &[u8], start: usize) -> Number
+pub fn number_of(s: &[u8], start: usize) -> Result<u32, Fault>
     requires { start + length s.now < 2 ^ 32 }
     ensures { number_is result ≡ tokens.number start s.now }
 {
     match form_of(s) {
-        Form::Negative => negated(numeral_at(s, start, 1, 10, NEGATIVE_LIMIT)),
+        Form::Negative => {
+            let n = numeral_at(s, start, 1, 10, NEGATIVE_LIMIT)?;
+            Ok(n.wrapping_neg())
+        }
         Form::Hexadecimal => numeral_at(s, start, 2, 16, HEXADECIMAL_LIMIT),
         Form::Plain => numeral_at(s, start, 0, 10, PLAIN_LIMIT),
     }

@@ -6,7 +6,7 @@ ghost use Rattle.token.specs.Strings.{met_is, act_is, Small, PieceAt, JudgedAt, 
 use crate::bytes::{is_break, is_octal, within};
 
 // What the reading of a string has just met: nothing, a backslash, a backslash and CR, or a backslash and one or two octal digits.
-#[derive(Clone, Copy)]
+#[derive(Clone, Copy, PartialEq, Eq, Debug)]
 pub enum Met {
     Nothing,
     Backslash,
@@ -16,7 +16,7 @@ pub enum Met {
 }
 
 // What the next byte does.
-#[derive(Clone, Copy)]
+#[derive(Clone, Copy, PartialEq, Eq, Debug)]
 pub enum Act {
     Byte(u8),
     Go(Met),
@@ -25,29 +25,18 @@ pub enum Act {
     Bad,
 }
 
-// What comes next in a string: a byte and the offset after it, its closing quote and the offset after that, a line break or the end too early, or a byte with
-// which no escape goes on, by its offset.
-#[derive(Clone, Copy)]
+// What comes next in a string: a byte and the offset after it, or its closing quote and the offset after that.
+#[derive(Clone, Copy, PartialEq, Eq, Debug)]
 pub enum Piece {
     Byte(u8, usize),
     Closed(usize),
-    Cut,
-    Bad(usize),
 }
 
-// How many bytes a string holds and the offset after its closing quote, or what is wrong with it.
-#[derive(Clone, Copy)]
-pub enum Judged {
-    Closed(usize, usize),
+// What is wrong with a string: a line break or the end too early, or a byte with which no escape goes on, by its offset.
+#[derive(Clone, Copy, PartialEq, Eq, Debug)]
+pub enum StringFault {
     Cut,
     Bad(usize),
-}
-
-// The next byte of a string and the offset after it, or no more.
-#[derive(Clone, Copy)]
-pub enum Unescaped {
-    Byte(u8, usize),
-    Closed,
 }
 
 // Outside an escape.
@@ -133,73 +122,63 @@ fn act_on(met: Met, b: u8) -> Act
 }
 
 // What comes next in a string, of which nothing is met at `at`.
-fn piece_at(script: &[u8], at: usize) -> Piece
+fn piece_at(script: &[u8], at: usize) -> Result<Piece, StringFault>
     requires { at ≤ length script.now }
     ensures { PieceAt script.now at result }
 {
-    let mut i = at;
     let mut met = Met::Nothing;
-    while i < script.len() {
-        let act = act_on(met, script[i]);
-        i += 1;
-        match act {
+    for i in at..script.len() {
+        match act_on(met, script[i]) {
             Act::Byte(b) => {
-                return Piece::Byte(b, i);
+                return Ok(Piece::Byte(b, i + 1));
             }
             Act::Go(next) => {
                 met = next;
             }
             Act::Close => {
-                return Piece::Closed(i);
+                return Ok(Piece::Closed(i + 1));
             }
             Act::Cut => {
-                return Piece::Cut;
+                return Err(StringFault::Cut);
             }
             Act::Bad => {
-                return Piece::Bad(i - 1);
+                return Err(StringFault::Bad(i));
             }
         }
     }
-    Piece::Cut
+    Err(StringFault::Cut)
 }
 
-// A string's judgment, from the byte after its opening quote.
-pub fn judge(script: &[u8], at: usize) -> Judged
+// How many bytes a string holds and the offset after its closing quote, or what is wrong with it, from the byte after its opening quote.
+pub fn judge(script: &[u8], at: usize) -> Result<(usize, usize), StringFault>
     requires { at ≤ length script.now }
     ensures { JudgedAt script.now at result }
 {
     let mut i = at;
     let mut size: usize = 0;
     loop {
-        match piece_at(script, i) {
+        match piece_at(script, i)? {
             Piece::Byte(_, next) => {
                 i = next;
                 size += 1;
             }
             Piece::Closed(next) => {
-                return Judged::Closed(size, next);
-            }
-            Piece::Cut => {
-                return Judged::Cut;
-            }
-            Piece::Bad(i) => {
-                return Judged::Bad(i);
+                return Ok((size, next));
             }
         }
     }
 }
 
-// The next byte of a string that is judged well, with the offset of the rest. A loop from the byte after the opening quote, at each
+// The next byte of a string that is judged well and the offset of the rest, or no more. A loop from the byte after the opening quote, at each
 // offset that is given, yields exactly the string's bytes.
 // Ruled out: to give an escape's bytes unread; to stop at a byte 0, or at a quote after a backslash.
-pub fn unescape(script: &[u8], at: usize) -> Unescaped
+pub fn unescape(script: &[u8], at: usize) -> Option<(u8, usize)>
     requires { (bs : List ℕ) × (next : ℕ) × StringAt script.now at bs next }
     ensures { Unescapes script.now at result }
 {
     match piece_at(script, at) {
-        Piece::Byte(b, next) => Unescaped::Byte(b, next),
-        Piece::Closed(_) => Unescaped::Closed,
-        Piece::Cut => Unescaped::Closed,
-        Piece::Bad(_) => Unescaped::Closed,
+        Ok(Piece::Byte(b, next)) => Some((b, next)),
+        Ok(Piece::Closed(_)) => None,
+        Err(_) => None,
     }
 }

@@ -2,12 +2,10 @@
 // length in front of it, four bytes, the lowest first.
 #![tactic(auto)]
 
-ghost use Rattle.std.specs.Prelude.{◌≤◌};
-
 use semantics::{Fault, Kind};
 use std::io;
 use std::io::{Read, Write};
-use token::Reading;
+use token::Refused;
 
 fn say_number<W: Write>(out: &mut W, n: usize) -> io::Result<()> {
     if n <= 0xFFFF_FFFF {
@@ -48,45 +46,28 @@ fn say_fault<W: Write>(out: &mut W, fault: Fault) -> io::Result<()> {
     }
 }
 
-fn is_end(kind: Kind) -> bool {
-    match kind {
-        Kind::End => true,
-        _ => false,
-    }
-}
-
-// Where a list goes on, or that it is at its end.
-#[derive(Clone, Copy)]
-enum Place {
-    At(usize),
-    Done,
-}
-
-// One line: the token from `offset` on.
-fn say_token<W: Write>(out: &mut W, script: &[u8], offset: usize) -> io::Result<Place> {
+// One line: the token from `offset` on. The list goes on at the offset after it, or is at its end.
+fn say_token<W: Write>(out: &mut W, script: &[u8], offset: usize) -> io::Result<Option<usize>> {
     match token::read(script, offset) {
-        Reading::TooLong => {
+        Err(Refused::TooLong) => {
             out.write_all(b"refused=1\n")?;
-            Ok(Place::Done)
+            Ok(None)
         }
-        Reading::PastEnd => {
+        Err(Refused::PastEnd) => {
             out.write_all(b"refused=10\n")?;
-            Ok(Place::Done)
+            Ok(None)
         }
-        Reading::Faulty(fault) => {
+        Err(Refused::Faulty(fault)) => {
             say_fault(out, fault)?;
-            Ok(Place::Done)
+            Ok(None)
         }
-        Reading::Read(kind, next) => {
+        Ok((kind, next)) => {
             say_kind(out, kind)?;
             say_number(out, next)?;
             out.write_all(b" part=")?;
             out.write_all(token::part(script, offset))?;
             out.write_all(b"\n")?;
-            if is_end(kind) {
-                return Ok(Place::Done);
-            }
-            Ok(Place::At(next))
+            Ok(if kind == Kind::End { None } else { Some(next) })
         }
     }
 }
@@ -97,28 +78,18 @@ fn list<W: Write>(out: &mut W, script: &[u8]) -> io::Result<()> {
     say_number(out, script.len())?;
     out.write_all(b"\n")?;
     let mut offset = 0;
-    let mut left = script.len();
-    loop {
-        let Place::At(next) = say_token(out, script, offset)? else {
+    for _ in 0..=script.len() {
+        let Some(next) = say_token(out, script, offset)? else {
             return Ok(());
         };
-        if left == 0 {
-            return Ok(());
-        }
-        left -= 1;
         offset = next;
     }
-}
-
-fn wide(b: u8) -> usize
-    ensures { result ≤ 255 }
-{
-    b as usize
+    Ok(())
 }
 
 // No script here is as long as the fourth byte could say.
 fn length_of(head: [u8; 4]) -> usize {
-    wide(head[0]) + 256 * wide(head[1]) + 65536 * wide(head[2])
+    u32::from_le_bytes([head[0], head[1], head[2], 0]) as usize
 }
 
 // A script of so many bytes, if there are so many.
@@ -145,9 +116,10 @@ fn list_next<R: Read, W: Write>(from: &mut R, out: &mut W, space: &mut [u8]) -> 
 
 // Nothing says that the input ends, so the turns are counted.
 fn list_all<R: Read, W: Write>(from: &mut R, out: &mut W, space: &mut [u8]) -> io::Result<()> {
-    let mut left: u32 = 100000;
-    while 0 < left && list_next(from, out, space)? {
-        left -= 1;
+    for _ in 0..100000 {
+        if !list_next(from, out, space)? {
+            return Ok(());
+        }
     }
     Ok(())
 }

@@ -1,5 +1,6 @@
 -- The test of room after a step on the topmost slot, and a promise from what the step does to each machine that the words stand for.
 -- Assumes nothing.
+use Rattle.std.specs.Prelude.{Ok, Err}
 use mathlib.Core.Path.{◌≡◌, refl, sym, ap, ◌∙◌, subst}
 use mathlib.Core.List.{List}
 use Prim.Native.Nat.{ℕ, suc, ◌+◌, ◌*◌, ◌/◌, ◌≤◌, ◌<◌}
@@ -13,8 +14,7 @@ use Rattle.semantics.specs.declared.Error.TheVariants.{ExecStackOverflow, StackO
 use Rattle.machine.specs.Rep.{Rep}
 use Rattle.machine.specs.Room.{lent, fitted}
 use Rattle.machine.specs.declared.Machine.{Machine}
-use Rattle.machine.specs.declared.Did.{Did}
-use Rattle.machine.specs.declared.Did.TheVariants.{Ok, Fail}
+use Rattle.machine.specs.Answers.{Did}
 use Rattle.machine.proofs.Items.{items_length}
 use Rattle.machine.proofs.Rooms.{frames_length, room_exec, room_stack, dictionary_fits}
 use Rattle.control_operators.specs.Promises.{DoesFrames}
@@ -55,7 +55,7 @@ pub record Done (r : Machine) (s e d c l : List ℕ) (μ : Floo.Machine) : Type 
 
 pub turn_fails : {m : Machine} {e c : List ℕ} {x : Error}
     → ((s d l : List ℕ) (μ : Floo.Machine) → Rep m s e d c l μ → fitted (lent s e d c l) resumed μ ≡ fault x)
-    → DoesTurn resumed m e e c c (Fail x)
+    → DoesTurn resumed m e e c c (Err x)
 turn_fails g = record { does = λ s d l μ R. (g s d l μ R, (refl, refl)) }
 
 pub turn_does : {m r : Machine} {e e' c c' : List ℕ}
@@ -71,7 +71,7 @@ turn_does {e = e} {c = c} long g =
 
 pub items_fails : {m : Machine} {s e : List ℕ} {x : Error}
     → ((d c l : List ℕ) (μ : Floo.Machine) → Rep m s e d c l μ → fitted (lent s e d c l) resumed μ ≡ fault x)
-    → DoesItems resumed m s s e (Fail x)
+    → DoesItems resumed m s s e (Err x)
 items_fails g = record { does = λ d c l μ R. (g d c l μ R, refl) }
 
 pub items_does : {m r : Machine} {s s' e : List ℕ}
@@ -87,7 +87,7 @@ items_does {s = s} {e = e} long g =
 
 pub frames_fails : {m : Machine} {s e c : List ℕ} {x : Error}
     → ((d l : List ℕ) (μ : Floo.Machine) → Rep m s e d c l μ → fitted (lent s e d c l) resumed μ ≡ fault x)
-    → DoesFrames resumed m s s e e c c (Fail x)
+    → DoesFrames resumed m s s e e c c (Err x)
 frames_fails g = record { does = λ d l μ R. (g d l μ R, (refl, refl, refl)) }
 
 pub frames_does : {m r : Machine} {s s' e e' c c' : List ℕ}
@@ -104,9 +104,9 @@ frames_does {s = s} {e = e} {c = c} stack exec g =
 
 -- A promise that leaves words out is one for all such words.
 pub turn_frames : {m : Machine} {e e' c c' : List ℕ} (r : Did) → DoesTurn resumed m e e' c c' r → (s : List ℕ) → DoesFrames resumed m s s e e' c c' r
-turn_frames (Fail x) D s = record { does = λ d l μ R. let a = D.does s d l μ R in (a.0, (refl, a.1.0, a.1.1)) }
+turn_frames (Err x) D s = record { does = λ d l μ R. let a = D.does s d l μ R in (a.0, (refl, a.1.0, a.1.1)) }
 turn_frames (Ok m') D s = record { does = λ d l μ R. D.does s d l μ R }
 
 pub items_frames : {m : Machine} {s s' e : List ℕ} (r : Did) → DoesItems resumed m s s' e r → (c : List ℕ) → DoesFrames resumed m s s' e e c c r
-items_frames (Fail x) D c = record { does = λ d l μ R. let a = D.does d c l μ R in (a.0, (a.1, refl, refl)) }
+items_frames (Err x) D c = record { does = λ d l μ R. let a = D.does d c l μ R in (a.0, (a.1, refl, refl)) }
 items_frames (Ok m') D c = record { does = λ d l μ R. D.does d c l μ R }

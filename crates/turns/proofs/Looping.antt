@@ -1,5 +1,6 @@
 -- The turns of `loop`, `repeat` and `for`: what each comes to, by the words of the topmost slot.
 -- Assumes nothing.
+use Rattle.std.specs.Prelude.{Ok, Err}
 use mathlib.Core.Path.{◌≡◌, refl, sym, ap, ◌∙◌, subst}
 use mathlib.Core.Bool.{Bool, true, false, ◌||◌, cond}
 use mathlib.Core.List.{List}
@@ -24,7 +25,6 @@ use Rattle.machine.specs.Words.{frame_kind, frame_tag, frame_payload, frame_next
 use Rattle.machine.specs.Operands.{Pushes, an_integer}
 use Rattle.machine.specs.Rep.{Rep, IsIn, FrameIs, a_repeating, a_counting, a_past}
 use Rattle.machine.specs.declared.Machine.{Machine}
-use Rattle.machine.specs.declared.Did.TheVariants.{Ok, Fail}
 use Rattle.machine.proofs.Rooms.{frames_length}
 use Rattle.machine.specs.FrameMoves.{top_value, frame_dropped, MovesFrames, Somewhere}
 use Rattle.frames.specs.Moves.{body_pended, reset_top, Resets, SomewhereAll}
@@ -52,7 +52,7 @@ module _ {m : Machine} {s e d c l : List ℕ} {μ : Floo.Machine} (R : Rep m s e
 -- ---- loop
 
 module _ {m : Machine} {e c : List ℕ} (some : 1 ≤ m.frames) (kind : frame_kind e (m.frames - 1) ≡ 2) where
-  pub loop_full : length e < 8 * m.frames + 8 → DoesTurn resumed m e e c c (Fail ExecStackOverflow)
+  pub loop_full : length e < 8 * m.frames + 8 → DoesTurn resumed m e e c c (Err ExecStackOverflow)
   unfolding body_pended enter with_exec
   loop_full full = turn_fails (λ s d l μ R. slots_over R (loop_resumed R (m.frames - 1) (omega (arith, some)) kind) refl full refl)
 
@@ -81,7 +81,7 @@ module _ {m : Machine} {e c : List ℕ} (some : 1 ≤ m.frames) (kind : frame_ki
   repeat_stands E w = (w.0, w.1, w.2, _, repeat_reset some E w.0 w.1 c w.2 w.3 w.4)
 
   module _ (left : frame_next e (m.frames - 1) ≡ 0 → ⊥) where
-    pub repeat_full : length e < 8 * m.frames + 8 → DoesTurn resumed m e e c c (Fail ExecStackOverflow)
+    pub repeat_full : length e < 8 * m.frames + 8 → DoesTurn resumed m e e c c (Err ExecStackOverflow)
     unfolding body_pended reset_top enter with_exec
     repeat_full full =
         turn_fails (λ s d l μ R. slots_over R (repeat_resumed R (m.frames - 1) (omega (arith, some)) kind left) refl full (ap suc (reset_length R some)))
@@ -191,12 +191,12 @@ module _ {m : Machine} {s e c : List ℕ} where
           })
 
       module _ (few : next m e < 2 ^ 32) (on : Over m e false) where
-        pub for_full : length e < 8 * m.frames + 8 → DoesFrames resumed m s s e e c c (Fail ExecStackOverflow)
+        pub for_full : length e < 8 * m.frames + 8 → DoesFrames resumed m s s e e c c (Err ExecStackOverflow)
         unfolding turned body_pended reset_top push enter with_exec with_stack
         for_full full =
             frames_fails (λ d l μ R. slots_over R (for_resumed R (m.frames - 1) (omega (arith, some)) (still_counts R some loops on) few (still_within m e on)) refl full (ap suc (reset_length R some)))
 
-        pub for_over : 8 * m.frames + 8 ≤ length e → length s < 2 * m.depth + 2 → DoesFrames resumed m s s e e c c (Fail StackOverflow)
+        pub for_over : 8 * m.frames + 8 ≤ length e → length s < 2 * m.depth + 2 → DoesFrames resumed m s s e e c c (Err StackOverflow)
         unfolding turned body_pended reset_top push enter with_exec with_stack
         for_over room full =
             frames_fails (λ d l μ R.

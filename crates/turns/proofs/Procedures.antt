@@ -1,6 +1,7 @@
 -- A pending literal is pushed, a pending procedure starts, a running one pushes its next element or goes: what each comes to, by the words of
 -- the topmost slot and of the element's cell.
 -- Assumes nothing.
+use Rattle.std.specs.Prelude.{Ok, Err}
 use mathlib.Core.Path.{◌≡◌, refl, sym, ap, ◌∙◌}
 use mathlib.Core.Bool.{Bool, true}
 use mathlib.Core.List.{List, ◌∷◌}
@@ -20,7 +21,6 @@ use Rattle.store.proofs.Standing.{is_procedure_lem}
 use Rattle.machine.specs.Words.{frame_kind, frame_tag, frame_payload, frame_cell, frame_left}
 use Rattle.machine.specs.Rep.{Rep, IsIn, FrameIs, a_pending, a_running, a_looping, a_repeating, a_counting, a_past}
 use Rattle.machine.specs.declared.Machine.{Machine}
-use Rattle.machine.specs.declared.Did.TheVariants.{Ok, Fail}
 use Rattle.machine.proofs.Rooms.{exec_fits}
 use Rattle.machine.specs.FrameMoves.{top_frame, top_value, frame_dropped, returned, MovesFrames, MovesItems, Somewhere}
 use Rattle.frames.specs.Moves.{reset_top, element_pushed, Starts, Advances, PushesElement, SomewhereAll}
@@ -140,7 +140,7 @@ module _ {m : Machine} {s e d c l : List ℕ} {μ : Floo.Machine} (R : Rep m s e
 
 module _ {m : Machine} {s e : List ℕ} (some : 1 ≤ m.frames) (kind : frame_kind e (m.frames - 1) ≡ 0)
     (quiet : Quiet (frame_tag e (m.frames - 1))) (literal : IsNot 10 (frame_tag e (m.frames - 1))) where
-  pub literal_over : length s < 2 * m.depth + 2 → DoesItems resumed m s s e (Fail StackOverflow)
+  pub literal_over : length s < 2 * m.depth + 2 → DoesItems resumed m s s e (Err StackOverflow)
   unfolding returned frame_dropped push with_exec with_stack
   literal_over full =
       items_fails (λ d c l μ R.
@@ -193,7 +193,7 @@ module _ {m : Machine} {e c : List ℕ} (some : 1 ≤ m.frames) (kind : frame_ki
         (omega (arith, some, same), rw same kind, rw same left, (s', w.0, w.1, _, P.moves w.0 w.1 w.2 w.3 x.0 x.1 x.2))
 
     module _ (quiet : Quiet (word c (frame_cell e (m.frames - 1)) 0)) where
-      pub next_over : length s < 2 * m.depth + 2 → DoesFrames resumed m s s e e c c (Fail StackOverflow)
+      pub next_over : length s < 2 * m.depth + 2 → DoesFrames resumed m s s e e c c (Err StackOverflow)
       unfolding element_pushed reset_top push with_exec with_stack
       next_over full =
           frames_fails (λ d l μ R.

@@ -7,7 +7,7 @@ use Rattle.semantics.specs.Steps.{resume}
 use Rattle.machine.specs.Rep.{Rep, Answer}
 use Rattle.machine.specs.Room.{lent, fitted}
 use Rattle.machine.specs.declared.Machine.{Machine}
-use Rattle.machine.specs.declared.Did.{Did}
+use Rattle.machine.specs.Answers.{Did}
 use Rattle.machine.specs.FrameMoves.{top_frame, frame_dropped}
 
 -- What the topmost slot does when it acts, as the definition has it.

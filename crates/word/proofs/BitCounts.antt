@@ -1,9 +1,9 @@
 -- The machine's counts of ones, trailing and leading zeros are the definition's, over any width k: both go by halves.
 -- Assumes nothing.
-use Rattle.std.proofs.Common.{◌≡◌, ℕ, zero, suc, ◌+◌, ◌/◌, ◌%◌, ◌^◌, ◌<◌, ◌≤◌, sym, refl, ap, ◌∙◌, ap₂, lt_of_lt_of_le, le_of_suc-le-suc, not-suc-le-zero, add_assoc, pow-suc, arith, pow_mono}
+use Rattle.std.proofs.Common.{◌≡◌, ℕ, zero, suc, ◌+◌, ◌*◌, ◌/◌, ◌%◌, ◌^◌, ◌<◌, ◌≤◌, sym, refl, ap, ◌∙◌, ap₂, lt_of_lt_of_le, le_of_suc-le-suc, not-suc-le-zero, add_assoc, pow-suc, arith, pow_mono}
 use mathlib.Core.Option.{some}
 use native.Mathlib.Nat.{div-eq_of_lt, div-eq_of_lt-le}
-use lib.Count.{ones, ones_step, under, count_trailing_zeros, count_leading_zeros, leading_top}
+use lib.Count.{ones, ones_step, under, count_trailing_zeros}
 use Rattle.semantics.specs.NumberOperators.{bit_of, ones_in, lowest_in, highest_in}
 use Rattle.semantics.specs.PegLaws.{Highest}
 use Rattle.semantics.proofs.PegLaws.{bit_zero, bit_suc, lowest_exactly, highest_exactly}
@@ -59,11 +59,5 @@ top_highest k w j i l h =
       clear = λ m n g. ap (λ (x : ℕ). x % 2) (div-eq_of_lt (lt_of_lt_of_le h (pow_mono g)));
     }
 
-pub leading_below : (k w : ℕ) → 0 < w → w < 2 ^ k → count_leading_zeros k w < k
-leading_below k w p h = let t = leading_top k w p h in omega (arith, t.1)
-
-pub leading_is : (k w r : ℕ) → 0 < w → w < 2 ^ k → r + suc (count_leading_zeros k w) ≡ k → some r ≡ highest_in k w
-leading_is k w r p h e =
-    let t = leading_top k w p h in
-    let s : t.0 ≡ r = omega (arith, t.1) in
-    ap some (sym s) ∙ sym ((highest_exactly k w t.0).1 (top_highest k w t.0 (omega (arith, t.1)) t.2 t.3))
+pub highest_is : (k w j : ℕ) → j < k → 2 ^ j ≤ w → w < 2 * 2 ^ j → some j ≡ highest_in k w
+highest_is k w j i l h = sym ((highest_exactly k w j).1 (top_highest k w j i l (omega (arith, pow-suc 2 j))))

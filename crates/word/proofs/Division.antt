@@ -1,34 +1,20 @@
--- The code's division against the definition's, for any operation f on signed integers: by zero, at the corner, and elsewhere, where the quotient fits.
+-- The words' division against the definition's: by zero there is none, and elsewhere the machine's quotient, which wraps at the corner, and its remainder are the definition's.
 -- Assumes nothing.
-use Rattle.std.proofs.Common.{◌≡◌, ℕ, zero, suc, ◌+◌, ◌-◌, ◌/◌, ◌^◌, ◌<◌, ◌≤◌, Bool, true, false, T, eqb, ◌≢◌, ℤ, pos, negsuc, neg_ℤ, nat_abs, sym, ap, ◌∙◌, subst, true≢false, div-le_self, arith, w32, Fits, SFits, to_z, of_z, ne_eqb}
-use native.Mathlib.Nat.{div-lt_self}
+use Rattle.std.proofs.Common.{◌≡◌, ℕ, zero, suc, ◌/◌, ◌^◌, ◌<◌, ◌≤◌, ◌≢◌, ℤ, pos, negsuc, neg_ℤ, nat_abs, ap, ◌∙◌, div-le_self, arith, w32, Fits, SFits, to_z, of_z, ne_eqb}
 use lib.Signed.{quot_z, rem_z, mag, mag_rem}
-use mir.ValLaws.{to_z-of_z, of_z-to_z, to_z-Fits, sfits_le}
-use mir.Facts.{and_yes, eqb_yes}
+use mir.ValLaws.{to_z-of_z, to_z-Fits, sfits_le}
+use Rattle.std.proofs.lemmas.Int.{of_z-to_z}
 use Rattle.semantics.specs.Values.{ok, fault, check, ◌>>=◌}
 use Rattle.semantics.specs.Words.{signed, word}
 use Rattle.semantics.specs.NumberOperators.{division}
 use Rattle.semantics.specs.declared.Error.TheVariants.{UndefinedResult}
-use Rattle.word.specs.Answers.{divided_words, is_corner}
+use Rattle.word.specs.Answers.{divided_words}
 use Rattle.word.proofs.Words.{Sign, low, high, sign}
-use Rattle.word.proofs.Signed.{on_signed}
+use Rattle.word.proofs.Signed.{on_signed, word_is, bits_fit}
 
 pub by_zero : (f : ℤ → ℤ → ℤ) (a b : ℕ) → b ≡ 0 → fault UndefinedResult ≡ divided_words f a b
 unfolding divided_words division check ◌>>=◌ signed
 by_zero f a b e = rw e
-
--- ---- the corner
-
-pub at_corner : (f : ℤ → ℤ → ℤ) (a b : ℕ) (t : Bool) → t ≡ is_corner a b → t ≡ true → ok (word (f (negsuc (2 ^ 31 - 1)) (negsuc 0))) ≡ divided_words f a b
-unfolding divided_words division check ◌>>=◌ signed
-at_corner f a b t e h =
-    let p = and_yes (eqb a (2 ^ 31)) (eqb b (2 ^ 32 - 1)) (subst T (sym h ∙ e) tt) in
-    rw (eqb_yes {a = a} {b = 2 ^ 31} p.0, eqb_yes {a = b} {b = 2 ^ 32 - 1} p.1)
-
-off_corner : (a b : ℕ) (t : Bool) → t ≡ is_corner a b → t ≡ false → a ≡ 2 ^ 31 → b ≡ 2 ^ 32 - 1 → ⊥
-off_corner a b t e h p q = true≢false (sym (e ∙ rw (p, q)) ∙ h)
-
--- ---- elsewhere
 
 pub nonzero : (w : ℕ) → Fits w32 w → w ≢ 0 → nat_abs (signed w) ≢ 0
 nonzero w h n = by (sign w h.fits)
@@ -37,56 +23,36 @@ nonzero w h n = by (sign w h.fits)
     by (low l e) = rw e n
     by (high k l s e) = rw e (λ (z : suc k ≡ 0). omega arith)
 
-fits : (a b : ℕ) → Fits w32 a → Fits w32 b → (a ≡ 2 ^ 31 → b ≡ 2 ^ 32 - 1 → ⊥) → SFits w32 (quot_z (signed a) (signed b))
-fits a b g h corner = by (sign a g.fits) (sign b h.fits)
-  where
-    mag_neg : (r : ℕ) → r ≤ 2 ^ 31 → mag (neg_ℤ (pos r)) < 2 ^ 31
-    mag_neg zero l = omega arith
-    mag_neg (suc r) l = omega arith
+mag_neg : (r : ℕ) → r ≤ 2 ^ 31 → mag (neg_ℤ (pos r)) ≤ 2 ^ 31
+mag_neg zero l = omega arith
+mag_neg (suc r) l = omega arith
 
-    both : (k j : ℕ) → a + suc k ≡ 2 ^ 32 → b + suc j ≡ 2 ^ 32 → k < 2 ^ 31 → suc k / suc j < 2 ^ 31
-    both k zero r s l =
-        let n : a ≢ 2 ^ 31 = λ e. corner e (omega arith) in
-        omega (arith, div-le_self (suc k) 1)
-    both k (suc j) r s l = omega (arith, div-lt_self {n = suc k} {k = suc (suc j)} (omega arith) (omega arith))
+mag_quot : (x y : ℤ) → mag x < 2 ^ 31 → mag (quot_z x y) ≤ 2 ^ 31
+mag_quot (pos a) (pos b) h = omega (arith, div-le_self a b)
+mag_quot (pos a) (negsuc b) h = mag_neg (a / suc b) (omega (arith, div-le_self a (suc b)))
+mag_quot (negsuc a) (pos b) h = mag_neg (suc a / b) (omega (arith, div-le_self (suc a) b))
+mag_quot (negsuc a) (negsuc b) h = omega (arith, div-le_self (suc a) (suc b))
 
-    by : Sign a → Sign b → SFits w32 (quot_z (signed a) (signed b))
-    by (low l e) (low m f) = rw (e, f) (record { sfits = omega (arith, div-le_self a b) })
-    by (low l e) (high j m s f) = rw (e, f) (record { sfits = mag_neg (a / suc j) (omega (arith, div-le_self a (suc j))) })
-    by (high k l r e) (low m f) = rw (e, f) (record { sfits = mag_neg (suc k / b) (omega (arith, div-le_self (suc k) b)) })
-    by (high k l r e) (high j m s f) = rw (e, f) (record { sfits = both k j r s l })
+-- Two words, read as the integers x and y, the second not 0.
+module _ {a b : ℕ} {x y : ℤ} (g : Fits w32 a) (h : Fits w32 b) (d : x ≡ signed a) (e : y ≡ signed b) (n : b ≢ 0) where
+  read : (f : ℤ → ℤ → ℤ) → f (to_z w32 (of_z w32 x)) (to_z w32 (of_z w32 y)) ≡ f (signed a) (signed b)
+  read f = on_signed f a b x y g h d e
 
--- What the machine divides: two words, read as the signed integers x and y, past the tests for zero and for the corner.
-pub record Operands (a b : ℕ) (x y : ℤ) : Type 0 where
-  pub a_fits : Fits w32 a
-  pub b_fits : Fits w32 b
-  pub x_is : x ≡ signed a
-  pub y_is : y ≡ signed b
-  pub not_zero : b ≢ 0
-  pub apart : a ≡ 2 ^ 31 → b ≡ 2 ^ 32 - 1 → ⊥
-
-pub operands : {a b : ℕ} {x y : ℤ} {t : Bool} → Fits w32 a → Fits w32 b → x ≡ signed a → y ≡ signed b → b ≢ 0 → t ≡ is_corner a b → t ≡ false → Operands a b x y
-operands g h e f n corner k = record { a_fits = g; b_fits = h; x_is = e; y_is = f; not_zero = n; apart = off_corner _ _ _ corner k }
-
-module _ {a b : ℕ} {x y : ℤ} (o : Operands a b x y) where
-  read : {A : Type 0} (f : ℤ → ℤ → A) → f (to_z w32 (of_z w32 x)) (to_z w32 (of_z w32 y)) ≡ f (signed a) (signed b)
-  read f = on_signed f a b x y o.a_fits o.b_fits o.x_is o.y_is
-
-  pub quot_fits : SFits w32 (quot_z (signed a) (signed b))
-  quot_fits = fits a b o.a_fits o.b_fits o.apart
-
-  pub rem_fits : SFits w32 (rem_z (signed a) (signed b))
-  unfolding signed
-  rem_fits = sfits_le (mag_rem (signed a) (signed b)) (to_z-Fits w32 a o.a_fits)
-
-  -- What the machine asks, of a division and of a remainder.
-  pub defined : (0 < of_z w32 y) × SFits w32 (quot_z (to_z w32 (of_z w32 x)) (to_z w32 (of_z w32 y)))
-  unfolding signed
-  defined = (rw (o.y_is, of_z-to_z w32 b o.b_fits) (omega (arith, o.not_zero)), rw (read quot_z) quot_fits)
-
-  exact : (f : ℤ → ℤ → ℤ) → divided_words f a b ≡ ok (word (f (signed a) (signed b)))
+  exact : (f : ℤ → ℤ → ℤ) → ok (word (f (signed a) (signed b))) ≡ divided_words f a b
   unfolding divided_words division check ◌>>=◌
-  exact f = rw (ne_eqb (nat_abs (signed b)) 0 (nonzero b o.b_fits o.not_zero))
+  exact f = rw (ne_eqb (nat_abs (signed b)) 0 (nonzero b h n))
 
-  pub divided : (f : ℤ → ℤ → ℤ) → SFits w32 (f (signed a) (signed b)) → (r : ℕ) → r ≡ word (to_z w32 (of_z w32 (f (to_z w32 (of_z w32 x)) (to_z w32 (of_z w32 y))))) → ok r ≡ divided_words f a b
-  divided f s r e = ap ok (e ∙ ap (λ z. word (to_z w32 (of_z w32 z))) (read f) ∙ ap word (to_z-of_z w32 _ s)) ∙ sym (exact f)
+  pub quotient : {q : ℤ} {r : ℕ} → q ≡ to_z w32 (of_z w32 (quot_z (to_z w32 (of_z w32 x)) (to_z w32 (of_z w32 y)))) → r ≡ of_z w32 (to_z w32 (of_z w32 q)) → ok r ≡ divided_words quot_z a b
+  unfolding signed
+  quotient {q} {r} s t =
+      let z = quot_z (signed a) (signed b) in
+      let m : mag z ≤ 2 ^ 31 = mag_quot (signed a) (signed b) (to_z-Fits w32 a g).sfits in
+      let l : of_z w32 z < 2 ^ 32 = bits_fit z m in
+      ap ok (t ∙ ap (λ w. of_z w32 (to_z w32 (of_z w32 w))) (s ∙ ap (λ w. to_z w32 (of_z w32 w)) (read quot_z)) ∙ ap (λ w. of_z w32 (to_z w32 w)) (of_z-to_z w32 (of_z w32 z) l) ∙ of_z-to_z w32 (of_z w32 z) l ∙ word_is z m) ∙ exact quot_z
+
+  pub remainder : {q : ℤ} {r : ℕ} → q ≡ rem_z (to_z w32 (of_z w32 x)) (to_z w32 (of_z w32 y)) → r ≡ of_z w32 (to_z w32 (of_z w32 q)) → ok r ≡ divided_words rem_z a b
+  unfolding signed
+  remainder {q} {r} s t =
+      let z = rem_z (signed a) (signed b) in
+      let f : SFits w32 z = sfits_le (mag_rem (signed a) (signed b)) (to_z-Fits w32 a g) in
+      ap ok (t ∙ ap (λ w. of_z w32 (to_z w32 (of_z w32 w))) (s ∙ read rem_z) ∙ ap (of_z w32) (to_z-of_z w32 z f) ∙ word_is z (omega (arith, f.sfits))) ∙ exact rem_z

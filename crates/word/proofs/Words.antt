@@ -1,6 +1,6 @@
 -- Laws of 32-bit words: what the machine's unsigned operations give is what the definition asks. By cases on the operands' signs; the rest is arithmetic.
 -- Assumes nothing.
-use Rattle.std.proofs.Common.{◌≡◌, ℕ, zero, suc, ◌+◌, ◌-◌, ◌*◌, ◌/◌, ◌%◌, ◌^◌, ◌<◌, ◌≤◌, Bool, true, false, cond, not, T, ltb, ℤ, pos, negsuc, ◌+ℤ◌, ◌-ℤ◌, ◌*ℤ◌, neg_ℤ, nat_abs, sym, ap, ◌∙◌, lt_of_le_of_lt, le_of_lt, mod-eq_of_lt, mul_comm, add-mul, mul-le-mul_left, mul-add, arith, ltb→lt, nltb→le, shl_lt, ltb-true, le-ltb, lt-ltb}
+use Rattle.std.proofs.Common.{◌≡◌, ℕ, zero, suc, ◌+◌, ◌-◌, ◌*◌, ◌/◌, ◌%◌, ◌^◌, ◌<◌, ◌≤◌, Bool, true, false, cond, not, T, ltb, ℤ, pos, negsuc, ◌+ℤ◌, ◌-ℤ◌, ◌*ℤ◌, neg_ℤ, sym, ap, ◌∙◌, mod-eq_of_lt, mul_comm, add-mul, mul-add, arith, ltb→lt, nltb→le, ltb-true, le-ltb, lt-ltb}
 use lib.IntN.{sub_ℕ, +ℤ_idl}
 use Rattle.semantics.specs.Words.{signed, word, in_range, shift}
 pub use Rattle.semantics.specs.WordLaws.{signed_low, signed_high, Sign, low, high, sign}
@@ -70,18 +70,11 @@ word_sub a b r g h i w = by (sign a g) (sign b h)
 pub word_neg : (a r : ℕ) → a < 2 ^ 32 → r < 2 ^ 32 → (r + a) % 2 ^ 32 ≡ 0 → word (neg_ℤ (signed a)) ≡ r
 word_neg a r h i w = ap word (rw (signed_low 0 (omega arith)) (sym (+ℤ_idl (neg_ℤ (signed a))))) ∙ word_sub 0 a r (omega arith) h i w
 
-pub abs_low : (a : ℕ) → a < 2 ^ 31 → a ≡ word (pos (nat_abs (signed a)))
+pub abs_is : (n r : ℕ) → r ≡ n → r ≤ 2 ^ 31 → r ≡ word (pos n)
 unfolding word
-abs_low a l = rw (signed_low a l) (omega arith)
-
-pub abs_high : (a : ℕ) → 2 ^ 31 ≤ a → a < 2 ^ 32 → word (neg_ℤ (signed a)) ≡ word (pos (nat_abs (signed a)))
-abs_high a l h = rw (signed_high a l h)
+abs_is n r e h = omega arith
 
 -- ---- products
-
--- The product of two words fits twice the bits.
-pub product_fits : (k a b : ℕ) → a < 2 ^ k → b < 2 ^ k → a * b < 2 ^ (k + k)
-product_fits k a b g h = lt_of_le_of_lt (mul-le-mul_left a (le_of_lt h)) (shl_lt k k g)
 
 -- The word of -n, where u + n is some times 2 ^ 32.
 word_opposite : (n u q : ℕ) → u + n ≡ q * 2 ^ 32 → word (neg_ℤ (pos n)) ≡ u % 2 ^ 32

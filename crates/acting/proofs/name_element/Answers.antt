@@ -22,6 +22,6 @@ pub returns-in-Ok : goal.returns-in-Ok
 returns-in-Ok c = let pre = c.requires in
     element_named _ _ _ _ _ _ _ pre.0 pre.1 pre.2 c.advance.ensures.turned c.advance.auto.exec c.advance.ensures.advances pre.3 c.get-slot.ensures c.in-Ok.is c.take_name.ensures
 
-pub returns-in-Fail : goal.returns-in-Fail
-returns-in-Fail c = let pre = c.requires in
-    element_unnamed _ _ _ _ _ _ _ pre.0 pre.1 pre.2 c.advance.ensures.turned c.advance.auto.exec c.advance.ensures.advances pre.3 c.get-slot.ensures c.in-Fail.is c.take_name.ensures c.reset_top.ensures.words
+pub returns-in-Err : goal.returns-in-Err
+returns-in-Err c = let pre = c.requires in
+    element_unnamed _ _ _ _ _ _ _ pre.0 pre.1 pre.2 c.advance.ensures.turned c.advance.auto.exec c.advance.ensures.advances pre.3 c.get-slot.ensures c.in-Err.is c.take_name.ensures c.reset_top.ensures.words

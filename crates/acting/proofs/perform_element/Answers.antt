@@ -19,5 +19,5 @@ reset_top-requires c = (c.requires.0, omega (arith, c.advance.auto.exec, c.requi
 pub returns-in-Ok : goal.returns-in-Ok
 returns-in-Ok c = element_performs _ _ _ _ _ _ _ c.requires.0 c.requires.1 c.requires.2 c.advance.ensures.turned c.advance.auto.exec c.advance.ensures.advances c.requires.3 c.get-number.ensures _ _ _ _ _ c.in-Ok.is c.rare.ensures
 
-pub returns-in-Fail : goal.returns-in-Fail
-returns-in-Fail c = element_fails _ _ _ _ _ _ _ c.requires.0 c.requires.1 c.requires.2 c.advance.ensures.turned c.advance.auto.exec c.advance.ensures.advances c.requires.3 c.get-number.ensures _ _ _ _ _ c.in-Fail.is c.rare.ensures c.reset_top.ensures.words
+pub returns-in-Err : goal.returns-in-Err
+returns-in-Err c = element_fails _ _ _ _ _ _ _ c.requires.0 c.requires.1 c.requires.2 c.advance.ensures.turned c.advance.auto.exec c.advance.ensures.advances c.requires.3 c.get-number.ensures _ _ _ _ _ c.in-Err.is c.rare.ensures c.reset_top.ensures.words

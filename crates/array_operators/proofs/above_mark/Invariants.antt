@@ -1,11 +1,7 @@
--- `above_mark` meets its contract: the loop keeps `Searched`, that no item so far is a mark. The measure is what is left of the stack.
+-- `above_mark` meets its contract: the loop keeps `Searched`, that no item so far is a mark.
 -- Assumes nothing.
-use Prim.Native.Nat.{◌-◌}
 use Rattle.array_operators.proofs.Marks.{Searched}
 use Rattle.array_operators.proofs.above_mark.Given as goal
 
 abbrev pub invariant-loop-n : goal.invariant-loop-n
 invariant-loop-n l = Searched l.m l.stack l.n
-
-abbrev pub decreases-loop-n : goal.decreases-loop-n
-decreases-loop-n l = l.m.depth - l.n

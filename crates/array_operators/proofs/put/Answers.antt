@@ -2,21 +2,29 @@
 -- Assumes nothing.
 use Rattle.elements.specs.Elements.{ItemTag}
 use mathlib.Core.Path.{subst}
-use Rattle.array_operators.proofs.Objects.{got_item, array_tag_lem}
+use Rattle.array_operators.proofs.Objects.{an_integer_is, no_integer, array_tag_lem}
 use Rattle.array_operators.proofs.Putting.{put_short, put_type, put_index}
+use Rattle.std.proofs.lemmas.Result.{err_from_is_err_and}
+use mathlib.Core.Path.{refl}
+use native.Mathlib.Omega.{arith}
 use Rattle.array_operators.proofs.put.Goals as goal
 
-pub returns-then-m-lt3 : goal.returns-then-m-lt3
-returns-then-m-lt3 c = put_short c.if-m-lt3.true
+pub returns-in_err-needs : goal.returns-in_err-needs
+returns-in_err-needs c =
+    let p = err_from_is_err_and c.from_residual.result c.from_residual.ensures.1 in
+    rw (p.1, p.2, c.in_err-needs.ensures.1) (put_short c.in_err-needs.ensures.0)
 
 pub returns-then-tag-lt-TAG_STRING : goal.returns-then-tag-lt-TAG_STRING
-returns-then-tag-lt-TAG_STRING c = put_type c.if-m-lt3.false c.tag_of-tag.ensures c.if-tag-lt-TAG_STRING.true
+returns-then-tag-lt-TAG_STRING c = put_type c.in_ok-needs.ensures c.tag_of-tag.ensures c.if-tag-lt-TAG_STRING.true
 
 pub put_in_string-requires : goal.put_in_string-requires
-put_in_string-requires c = (c.if-m-lt3.false, subst (ItemTag _ _ _) c.if-tag-eq-TAG_STRING.true c.tag_of-tag.ensures, got_item c.integer_at.ensures c.in-Got.is, c.requires)
+put_in_string-requires c = (c.in_ok-needs.ensures, subst (ItemTag _ _ _) c.if-tag-eq-TAG_STRING.true c.tag_of-tag.ensures, an_integer_is _ (omega (arith, c.in_ok-needs.ensures)) c.in_ok-n.ensures.0 c.in_ok-n.ensures.1, c.requires)
 
 pub put_in_array-requires : goal.put_in_array-requires
-put_in_array-requires c = (c.if-m-lt3.false, array_tag_lem c.tag_of-tag.ensures c.if-tag-lt-TAG_STRING.false c.if-tag-eq-TAG_STRING.false, got_item c.integer_at.ensures c.in-Got.is, c.requires)
+put_in_array-requires c = (c.in_ok-needs.ensures, array_tag_lem c.tag_of-tag.ensures c.if-tag-lt-TAG_STRING.false c.if-tag-eq-TAG_STRING.false, an_integer_is _ (omega (arith, c.in_ok-needs.ensures)) c.in_ok-n.ensures.0 c.in_ok-n.ensures.1, c.requires)
 
-pub returns-in-Bad : goal.returns-in-Bad
-returns-in-Bad c = put_index c.if-m-lt3.false c.tag_of-tag.ensures c.if-tag-lt-TAG_STRING.false c.integer_at.ensures c.in-Bad.is
+pub returns-in_err-n : goal.returns-in_err-n
+returns-in_err-n c =
+    let p = err_from_is_err_and c.from_residual-in_err-n.result c.from_residual-in_err-n.ensures.1 in
+    rw (p.1, p.2, c.in_err-n.ensures.1) (put_index c.in_ok-needs.ensures c.tag_of-tag.ensures c.if-tag-lt-TAG_STRING.false (no_integer _ (omega (arith, c.in_ok-needs.ensures)) c.in_err-n.ensures.0) refl
+    )

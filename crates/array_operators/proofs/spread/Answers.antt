@@ -1,4 +1,4 @@
--- `spread` meets its contract: the loop keeps `Spread`, the elements below the array so far. The measure is what is left of n.
+-- `spread` meets its contract: the loop keeps `Spread`, the elements below the array so far.
 -- Assumes nothing.
 use native.Mathlib.Omega.{arith}
 use mathlib.Core.Path.{◌∙◌}
@@ -20,20 +20,8 @@ overflow_cast-q c = omega (arith, c.loop-q-test.true, c.requires.1, c.requires.2
 pub copy_element-r-requires : goal.copy_element-r-requires
 copy_element-r-requires c = (omega (arith, c.swap-r.ensures.depth_value, c.push_scalar-r.ensures.depth_value), omega (arith, c.swap-r.ensures.depth_value, c.push_scalar-r.ensures.depth_value, c.loop-q.invariant.deep, c.requires.0), next_element c.requires.0 c.requires.2 c.loop-q.invariant c.loop-q-test.true c.push_scalar-r.ensures.pushes c.swap-r.ensures.moves_stack)
 
-pub overflow_add-q : goal.overflow_add-q
-overflow_add-q c = omega (arith, c.loop-q-test.true, c.ranges.n)
-
-pub loop-q-smaller : goal.loop-q-smaller
-loop-q-smaller c = omega (arith, c.loop-q-test.true)
-
 pub loop-q-preserved : goal.loop-q-preserved
 loop-q-preserved c = again c.requires.0 c.requires.2 c.loop-q.invariant c.loop-q-test.true c.push_scalar-r.ensures.pushes c.swap-r.ensures.moves_stack c.copy_element-r.ensures.moves_heap c.push_scalar-r.ensures.depth_value c.swap-r.ensures.depth_value c.copy_element-r.ensures.depth_value (c.copy_element-r.auto.stack ∙ c.swap-r.auto.stack ∙ c.push_scalar-r.auto.stack) c.copy_element-r.auto.cells
-
-pub shape_of-stack : goal.shape_of-stack
-shape_of-stack c = c.loop-q.invariant.long
-
-pub shape_of-cells : goal.shape_of-cells
-shape_of-cells c = c.loop-q.invariant.cells_long
 
 pub returns : goal.returns
 returns c = finish c.loop-q.invariant c.loop-q-test.false

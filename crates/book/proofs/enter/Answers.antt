@@ -1,30 +1,36 @@
 -- `enter` meets its contract: it replaces, adds, or leaves the book as it was (Entering).
-use Rattle.std.proofs.Common.{length}
-use Rattle.book.specs.Books.{room_of}
-use Rattle.book.proofs.Entering.{few_counted, replaced, added, untouched}
+use Rattle.std.proofs.Common.{rules}
+use Rattle.std.proofs.Math.Logic.{inl, inr}
+use Rattle.book.proofs.Entering.{replaced_at, replaced, added_at, added, late, full}
 use Rattle.book.proofs.enter.Goals as goal
 
-pub replace-requires : goal.replace-requires
-replace-requires c =
-    let few = few_counted c.args.live c.args.count c.counted-n.result (room_of (length c.args.book.now)) c.counted-n.ensures c.requires in
-    (replaced c.args.book.now c.args.entry c.args.count c.counted-n.result c.judge-judged.result few c.judge-judged.ensures c.args.live c.is_replacing.result c.counted-n.ensures c.is_replacing.ensures c.if-is_replacing.true).0
+pub bounds-book-judged : goal.bounds-book-judged
+bounds-book-judged c = replaced_at c.args.book.now c.in_ok-entry.entry c.args.count c.args.entry c.judge-judged.result c.in_ok-entry.was (c.requires c.in_ok-entry.entry c.in_ok-entry.was) c.judge-judged.ensures c.in-Replaces.is
 
-pub returns-then-is_replacing : goal.returns-then-is_replacing
-returns-then-is_replacing c =
-    let few = few_counted c.args.live c.args.count c.counted-n.result (room_of (length c.args.book.now)) c.counted-n.ensures c.requires in
-    (replaced c.args.book.now c.args.entry c.args.count c.counted-n.result c.judge-judged.result few c.judge-judged.ensures c.args.live c.is_replacing.result c.counted-n.ensures c.is_replacing.ensures c.if-is_replacing.true).1 c.replace.new.book c.replace.ensures
+pub offset_bounds-book-judged : goal.offset_bounds-book-judged
+offset_bounds-book-judged c =
+    let l = replaced_at c.args.book.now c.in_ok-entry.entry c.args.count c.args.entry c.judge-judged.result c.in_ok-entry.was (c.requires c.in_ok-entry.entry c.in_ok-entry.was) c.judge-judged.ensures c.in-Replaces.is in
+    search (rules, l)
 
-pub append-after-requires : goal.append-after-requires
-append-after-requires c =
-    let few = few_counted c.args.live c.args.count c.counted-n.result (room_of (length c.args.book.now)) c.counted-n.ensures c.requires in
-    (added c.args.book.now c.args.entry c.args.count c.counted-n.result c.judge-judged.result few c.judge-judged.ensures c.args.live c.is_adding.result c.counted-n.ensures c.is_adding.ensures c.if-is_adding.true).0
+pub bounds-book-count : goal.bounds-book-count
+bounds-book-count c = added_at c.args.book.now c.in_ok-entry.entry c.args.count c.args.entry c.judge-judged.result c.in_ok-entry.was (c.requires c.in_ok-entry.entry c.in_ok-entry.was) c.judge-judged.ensures c.in-Adds.is
 
-pub returns-then-is_adding : goal.returns-then-is_adding
-returns-then-is_adding c =
-    let few = few_counted c.args.live c.args.count c.counted-n.result (room_of (length c.args.book.now)) c.counted-n.ensures c.requires in
-    (added c.args.book.now c.args.entry c.args.count c.counted-n.result c.judge-judged.result few c.judge-judged.ensures c.args.live c.is_adding.result c.counted-n.ensures c.is_adding.ensures c.if-is_adding.true).1 c.append-after.new.book c.append-after.result c.added.result c.append-after.ensures.1 c.append-after.ensures.0 c.added.ensures
+pub offset_bounds-book-count : goal.offset_bounds-book-count
+offset_bounds-book-count c =
+    let l = added_at c.args.book.now c.in_ok-entry.entry c.args.count c.args.entry c.judge-judged.result c.in_ok-entry.was (c.requires c.in_ok-entry.entry c.in_ok-entry.was) c.judge-judged.ensures c.in-Adds.is in
+    search (rules, l)
 
-pub returns : goal.returns
-returns c =
-    let few = few_counted c.args.live c.args.count c.counted-n.result (room_of (length c.args.book.now)) c.counted-n.ensures c.requires in
-    untouched c.args.book.now c.args.entry c.args.count c.counted-n.result c.judge-judged.result few c.judge-judged.ensures c.args.live c.is_replacing.result c.is_adding.result c.counted-n.ensures c.is_replacing.ensures c.if-is_replacing.false c.is_adding.ensures c.if-is_adding.false
+pub overflow_add-result : goal.overflow_add-result
+overflow_add-result c =
+    let l = added_at c.args.book.now c.in_ok-entry.entry c.args.count c.args.entry c.judge-judged.result c.in_ok-entry.was (c.requires c.in_ok-entry.entry c.in_ok-entry.was) c.judge-judged.ensures c.in-Adds.is in
+    search (rules, l)
+
+pub returns-in-Replaces : goal.returns-in-Replaces
+returns-in-Replaces c = replaced c.args.book.now c.in_ok-entry.entry c.args.count c.args.entry c.judge-judged.result c.in_ok-entry.was (c.requires c.in_ok-entry.entry c.in_ok-entry.was) c.judge-judged.ensures c.in-Replaces.is
+
+pub returns-in-Adds : goal.returns-in-Adds
+returns-in-Adds c = added c.args.book.now c.in_ok-entry.entry c.args.count c.args.entry c.judge-judged.result c.in_ok-entry.was (c.requires c.in_ok-entry.entry c.in_ok-entry.was) c.judge-judged.ensures c.in-Adds.is
+
+pub returns-in-Late : goal.returns-in-Late
+returns-in-Late c =
+    elim c.in-Late.is [ inl is ↦ late c.args.book.now c.in_ok-entry.entry c.args.count c.args.entry c.judge-judged.result c.in_ok-entry.was (c.requires c.in_ok-entry.entry c.in_ok-entry.was) c.judge-judged.ensures is | inr is ↦ full c.args.book.now c.in_ok-entry.entry c.args.count c.args.entry c.judge-judged.result c.in_ok-entry.was (c.requires c.in_ok-entry.entry c.in_ok-entry.was) c.judge-judged.ensures is ]

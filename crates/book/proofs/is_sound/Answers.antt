@@ -8,10 +8,10 @@ returns-then-room_of-count c = sym (past_room c.args.book.now c.args.count (omeg
 
 pub is_sound_at-requires : goal.is_sound_at-requires
 is_sound_at-requires c =
-    omega (arith, (room_within (length c.args.book.now)).0, c.loop-i.invariant.1.0)
+    omega (arith, (room_within (length c.args.book.now)).0)
 
-pub returns-else-is_sound_at : goal.returns-else-is_sound_at
-returns-else-is_sound_at c = sym (one_bad c.args.book.now c.args.count c.loop-i.i c.loop-i-test.true (sym c.is_sound_at.ensures ∙ c.if-is_sound_at.false))
+pub returns-then-not-is_sound_at : goal.returns-then-not-is_sound_at
+returns-then-not-is_sound_at c = sym (one_bad c.args.book.now c.args.count c.loop-i.i (omega arith) (sym c.is_sound_at.ensures ∙ c.if-not-is_sound_at.true))
 
 pub returns : goal.returns
-returns c = sym (each_sound c.args.book.now c.args.count c.loop-i.invariant.1.0 (λ j l. c.loop-i.invariant.1.1 j (omega (arith, l))))
+returns c = sym (each_sound c.args.book.now c.args.count c.loop-i.invariant.0 (λ j l. c.loop-i.invariant.1 j (omega (arith, l))))

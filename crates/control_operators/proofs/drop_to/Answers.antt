@@ -1,27 +1,20 @@
--- `control_operators::drop_to` meets its contract: each turn drops one slot.
+-- `control_operators::drop_to` meets its contract: each turn of the loop takes the topmost slot away.
 -- Assumes nothing.
-use Rattle.control_operators.proofs.Leaving.{cut_none, cut_one, cut_same}
-use mathlib.Core.Path.{refl, ◌∙◌}
+use Rattle.control_operators.proofs.Leaving.{begin, again, finish}
+use Rattle.std.proofs.Common.{rules}
 use native.Mathlib.Omega.{arith}
 use Rattle.control_operators.proofs.drop_to.Goals as goal
 
-pub loop-r-init : goal.loop-r-init
-loop-r-init c = (c.requires.0, omega arith, c.requires.1, cut_none c.args.m.frames, refl)
+pub loop-init : goal.loop-init
+loop-init c = begin _ _ _ _
 
 pub drop_frame-r-requires : goal.drop_frame-r-requires
-drop_frame-r-requires c = (omega (arith, c.loop-r-test.true), c.loop-r.invariant.2)
+drop_frame-r-requires c =
+    let W = c.requires.1 in
+    (omega (arith, c.loop.invariant.left, c.loop-test.true, c.requires.0), (W.0, W.1, W.2, _, c.loop.invariant.moves.moves W.0 W.1 W.2 W.3 W.4))
 
-pub loop-r-smaller : goal.loop-r-smaller
-loop-r-smaller c = omega (arith, c.loop-r-test.true, c.drop_frame-r.ensures.depth_value.1)
-
-pub loop-r-preserved : goal.loop-r-preserved
-loop-r-preserved c = let I = c.loop-r.invariant in
-    let D = c.drop_frame-r.ensures in
-    let W = I.2 in
-    (omega (arith, c.loop-r-test.true, D.depth_value.1), omega (arith, D.depth_value.1, I.1), (W.0, W.1, W.2, _, D.moves_frames.moves W.0 W.1 W.2 W.3 W.4), cut_one _ _ I.3 D.moves_frames (omega (arith, c.loop-r-test.true, D.depth_value.1, I.1)), c.drop_frame-r.auto.cells ∙ I.4)
-
-pub shape_of-cells : goal.shape_of-cells
-shape_of-cells c = c.loop-r.invariant.4
+pub loop-preserved : goal.loop-preserved
+loop-preserved c = again c.loop.invariant (search rules) c.loop-test.true c.drop_frame-r.ensures.moves_frames c.drop_frame-r.ensures.depth_value.1
 
 pub returns : goal.returns
-returns c = let I = c.loop-r.invariant in cut_same _ _ I.3 (omega (arith, c.loop-r-test.false, I.0))
+returns c = finish c.loop.invariant (search rules) c.loop-test.false (search rules)

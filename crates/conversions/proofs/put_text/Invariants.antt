@@ -1,12 +1,7 @@
--- `put_text` meets its contract: the loop keeps `Putting`, that the first q bytes of the text stand in front. The measure is what is left of the text.
+-- `put_text` meets its contract: the loop keeps `Putting`, that the first q bytes of the text stand in front.
 -- Assumes nothing.
 use Rattle.conversions.proofs.Putting.{Putting}
-use lib.ListN.{length}
-use Prim.Native.Nat.{◌-◌}
 use Rattle.conversions.proofs.put_text.Given as goal
 
 abbrev pub invariant-loop-q : goal.invariant-loop-q
 invariant-loop-q l = Putting l.text l.q l.m l.stack l.initial.cells l.cells
-
-abbrev pub decreases-loop-q : goal.decreases-loop-q
-decreases-loop-q l = length l.text - l.q

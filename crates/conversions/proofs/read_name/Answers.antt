@@ -1,4 +1,4 @@
--- `read_name` meets its contract: the loop keeps `Reads`, that the first j bytes are the name's. The measure is what is left of the name.
+-- `read_name` meets its contract: the loop keeps `Reads`, that the first j bytes are the name's.
 -- Assumes nothing.
 use Rattle.conversions.proofs.Reading.{few, begin, again, finish}
 use Rattle.names.proofs.Spelling.{named_inside}
@@ -16,12 +16,6 @@ name_byte-requires c = (named_inside c.requires.1, omega (arith, c.loop-j-test.t
 
 pub bounds-out-j : goal.bounds-out-j
 bounds-out-j c = omega (arith, c.requires.0, c.loop-j-test.true, few c.name_size-n.ensures c.requires.1, c.loop-j.invariant.long)
-
-pub overflow_add-j : goal.overflow_add-j
-overflow_add-j c = omega (arith, c.loop-j-test.true, few c.name_size-n.ensures c.requires.1)
-
-pub loop-j-smaller : goal.loop-j-smaller
-loop-j-smaller c = omega (arith, c.loop-j-test.true)
 
 pub loop-j-preserved : goal.loop-j-preserved
 loop-j-preserved c = again c.loop-j.invariant (omega (arith, c.requires.0, c.loop-j-test.true, few c.name_size-n.ensures c.requires.1)) c.name_byte.ensures

@@ -3,13 +3,14 @@
 use Rattle.conversions.proofs.Valuing.{integer_text_lem, true_text, false_text, nothing_text, literal_named, executable_named, literal_text, executable_text}
 use Rattle.text.proofs.Decimals.{integer_short}
 use native.Mathlib.Omega.{arith}
+use borrow.Author.Rules.{rules}
 use Rattle.conversions.proofs.write_value.Goals as goal
 
 pub write_integer-requires : goal.write_integer-requires
-write_integer-requires c = omega (arith, c.requires.0, integer_short c.args.pay c.ranges.pay.fits)
+write_integer-requires c = omega (arith, c.requires.0, integer_short c.args.value.pay (search rules))
 
 pub returns-then-tag-eq-TAG_INTEGER : goal.returns-then-tag-eq-TAG_INTEGER
-returns-then-tag-eq-TAG_INTEGER c = let clauses = integer_text_lem c.requires.0 c.if-tag-eq-TAG_INTEGER.true (integer_short c.args.pay c.ranges.pay.fits) c.write_integer.ensures in record { text_of = clauses.0; upper_bound = clauses.1 }
+returns-then-tag-eq-TAG_INTEGER c = let clauses = integer_text_lem c.requires.0 c.if-tag-eq-TAG_INTEGER.true (integer_short c.args.value.pay (search rules)) c.write_integer.ensures in record { text_of = clauses.0; upper_bound = clauses.1 }
 
 pub returns-then-pay-eq1 : goal.returns-then-pay-eq1
 returns-then-pay-eq1 c = let clauses = true_text c.requires.0 c.if-tag-eq-TAG_BOOLEAN.true c.if-pay-eq1.true c.copy.ensures in record { text_of = clauses.0; upper_bound = clauses.1 }

@@ -16,9 +16,6 @@ offset_bounds-words-at c = omega (arith, c.loop-i-test.true, c.requires.0, c.req
 pub bounds-words-at : goal.bounds-words-at
 bounds-words-at c = pack_inside c.loop-i.invariant c.requires.0 c.loop-i-test.true
 
-pub loop-i-smaller : goal.loop-i-smaller
-loop-i-smaller c = omega (arith, c.loop-i-test.true)
-
 pub loop-i-preserved : goal.loop-i-preserved
 loop-i-preserved c = pack_again c.loop-i.invariant c.requires.0 c.loop-i-test.true c.packed.ensures
 

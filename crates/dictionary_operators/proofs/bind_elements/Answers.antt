@@ -14,9 +14,6 @@ loop-q-init c = begin (c.args.m.depth - 1) (omega (arith, c.requires.0)) c.size_
 pub bind_element-r-requires : goal.bind_element-r-requires
 bind_element-r-requires c = (omega (arith, c.requires.0, c.loop-q.invariant.deep), element_left (c.args.m.depth - 1) (omega (arith, c.requires.0)) c.size_of-n.ensures c.loop-q.invariant c.loop-q-test.true c.requires.1)
 
-pub loop-q-smaller : goal.loop-q-smaller
-loop-q-smaller c = omega (arith, c.loop-q-test.true)
-
 pub loop-q-preserved : goal.loop-q-preserved
 loop-q-preserved c = again (c.args.m.depth - 1) (omega (arith, c.requires.0)) c.size_of-n.ensures c.loop-q.invariant c.loop-q-test.true c.bind_element-r.ensures.binds_element c.bind_element-r.ensures.depth_value c.bind_element-r.auto.cells
 

@@ -1,31 +1,26 @@
--- `copy_element` meets its contract: the words of the cell found are the element, and take the item's place (`element_moves`).
+-- `copy_element` meets its contract: the words of the cell found are the element, to which the item gives way (`element_moves`).
 -- Assumes nothing.
-use Rattle.elements.proofs.Taking.{element_placed, element_moves}
+use Rattle.elements.proofs.Taking.{element_held, element_moves}
 use Rattle.elements.proofs.Arrays.{sought, at_cell}
 use Rattle.heap.proofs.Shapes.{room}
-use lib.ListN.{length-set}
 use native.Mathlib.Omega.{arith}
 use mathlib.Core.Path.{refl}
 use Rattle.elements.proofs.copy_element.Goals as goal
 
 pub seek-c-requires : goal.seek-c-requires
 seek-c-requires c = let R = c.requires.2.4 in
-    sought R c.args.i _ c.args.q (omega (arith, c.requires.0)) c.requires.2.5
+    rw c.header_of-h.ensures (sought R c.args.i _ c.args.q (omega (arith, c.requires.0)) c.requires.2.5)
 
-pub get-tag-requires : goal.get-tag-requires
-get-tag-requires c = let R = c.requires.2.4 in
-    (omega arith, room R.stored.full.heap.shape _ (at_cell R c.args.i _ c.args.q (omega (arith, c.requires.0)) c.requires.2.5 _ c.seek-c.ensures) refl)
+pub value_of-value-requires : goal.value_of-value-requires
+value_of-value-requires c = let R = c.requires.2.4 in
+    room R.stored.full.heap.shape _ (at_cell R c.args.i _ c.args.q (omega (arith, c.requires.0)) c.requires.2.5 _ (rw c.header_of-h.ensures at c.seek-c.ensures)) refl
 
-pub get-pay-requires : goal.get-pay-requires
-get-pay-requires c = let R = c.requires.2.4 in
-    (omega arith, room R.stored.full.heap.shape _ (at_cell R c.args.i _ c.args.q (omega (arith, c.requires.0)) c.requires.2.5 _ c.seek-c.ensures) refl)
-
-pub recount-left-requires : goal.recount-left-requires
-recount-left-requires c = let R = c.requires.2.4 in
-    element_placed R c.args.i _ c.args.q (omega (arith, c.requires.0)) c.requires.2.5 _ c.seek-c.ensures c.args.j _ (omega (arith, c.requires.1)) _ _ c.get-tag.ensures c.get-pay.ensures
-
-pub bounds-stack-o-4 : goal.bounds-stack-o-4
-bounds-stack-o-4 c = simp length-set (omega (arith, c.requires.1, c.requires.2.4.rooms.stack_fits))
+pub put_value-requires : goal.put_value-requires
+put_value-requires c = let V = c.value_of-value.ensures in
+    (c.requires.1, element_held c.requires.2.4 c.args.i _ c.args.q (omega (arith, c.requires.0)) c.requires.2.5 _ (rw c.header_of-h.ensures at c.seek-c.ensures) _ _ V.0 V.1)
 
 pub returns : goal.returns
-returns c = record { moves_heap = element_moves c.requires.2.4 c.args.i _ c.args.q (omega (arith, c.requires.0)) c.requires.2.5 _ c.seek-c.ensures c.args.j _ (omega (arith, c.requires.1)) _ _ c.get-tag.ensures c.get-pay.ensures c.recount-left.ensures; depth_value = refl }
+returns c = let V = c.value_of-value.ensures in record {
+  moves_heap = element_moves c.requires.2.4 c.args.i _ c.args.q (omega (arith, c.requires.0)) c.requires.2.5 _ (rw c.header_of-h.ensures at c.seek-c.ensures) _ _ V.0 V.1 c.args.j c.put_value.ensures.puts_value;
+  depth_value = c.put_value.ensures.depth_value;
+}

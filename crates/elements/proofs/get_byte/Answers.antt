@@ -10,11 +10,11 @@ use Rattle.elements.proofs.get_byte.Goals as goal
 
 pub seek-c-requires : goal.seek-c-requires
 seek-c-requires c = let R = c.requires.1.4 in
-    byte_sought R c.args.i _ c.args.q (omega (arith, c.requires.0)) c.requires.1.5
+    rw c.header_of-h.ensures (byte_sought R c.args.i _ c.args.q (omega (arith, c.requires.0)) c.requires.1.5)
 
 pub get-w-requires : goal.get-w-requires
 get-w-requires c = let R = c.requires.1.4 in
-    (omega arith, room R.stored.full.heap.shape _ (byte_cell R c.args.i _ c.args.q (omega (arith, c.requires.0)) c.requires.1.5 _ c.seek-c.ensures) refl)
+    (omega arith, room R.stored.full.heap.shape _ (byte_cell R c.args.i _ c.args.q (omega (arith, c.requires.0)) c.requires.1.5 _ (rw c.header_of-h.ensures at c.seek-c.ensures)) refl)
 
 pub returns : goal.returns
-returns c = record { says = λ e d l μ R id x. c.byte_of.ensures ∙ ap (λ y. byte_of y (c.args.q % 8 % 4)) c.get-w.ensures ∙ byte_says c.requires.1.4 c.args.i _ c.args.q (omega (arith, c.requires.0)) c.requires.1.5 _ c.seek-c.ensures R id x }
+returns c = record { says = λ e d l μ R id x. c.byte_of.ensures ∙ ap (λ y. byte_of y (c.args.q % 8 % 4)) c.get-w.ensures ∙ byte_says c.requires.1.4 c.args.i _ c.args.q (omega (arith, c.requires.0)) c.requires.1.5 _ (rw c.header_of-h.ensures at c.seek-c.ensures) R id x }

@@ -1,17 +1,15 @@
 -- `new_array` meets its contract: the object that is made takes the item's place (`array_moves`).
 -- Assumes nothing.
-use Rattle.elements.proofs.Making.{array_moves, room_to_make, cells_used}
-use lib.ListN.{length-set}
+use Rattle.elements.proofs.Making.{array_moves}
 use native.Mathlib.Omega.{arith}
-use mathlib.Core.Path.{refl}
 use Rattle.elements.proofs.new_array.Goals as goal
 
-pub allocate-t-requires : goal.allocate-t-requires
-allocate-t-requires c = let R = c.requires.2.4 in record { full = (_, R.world.ghost, R.stored.full); room = room_to_make R _ c.requires.1 }
-
-pub bounds-stack-k-2 : goal.bounds-stack-k-2
-bounds-stack-k-2 c = simp length-set (omega (arith, c.requires.0, c.requires.2.4.rooms.stack_fits))
+pub new_object-requires : goal.new_object-requires
+new_object-requires c = let P = c.requires.2 in (c.requires.0, c.requires.1, (P.0, P.1, P.2, P.3, P.4))
 
 pub returns : goal.returns
-returns c = let made = c.allocate-t.ensures in
-    let R = c.requires.2.4 in record { moves_heap = array_moves R c.args.i _ (omega (arith, c.requires.0)) c.requires.2.5 c.args.n _ made.2 made.1; depth_value = refl; room = cells_used R made.1 made.0 }
+returns c = let N = c.new_object.ensures in record {
+  moves_heap = array_moves c.requires.2.4 c.args.i (omega (arith, c.requires.0)) c.requires.2.5 c.args.n N.makes_object;
+  depth_value = N.depth_value;
+  room = N.room;
+}

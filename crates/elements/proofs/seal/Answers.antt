@@ -5,7 +5,7 @@ use Rattle.elements.proofs.Marking.{object_room, mark_moves}
 use Rattle.elements.proofs.seal.Goals as goal
 
 pub seal-requires : goal.seal-requires
-seal-requires c = object_room c.requires.1.4 c.args.i _ (omega (arith, c.requires.0)) c.requires.1.5.item
+seal-requires c = rw c.header_of-h.ensures (object_room c.requires.1.4 c.args.i _ (omega (arith, c.requires.0)) c.requires.1.5.item)
 
 pub returns : goal.returns
-returns c = mark_moves c.requires.1.4 c.args.i _ (omega (arith, c.requires.0)) c.requires.1.5 c.seal.ensures
+returns c = mark_moves c.requires.1.4 c.args.i _ (omega (arith, c.requires.0)) c.requires.1.5 (rw c.header_of-h.ensures at c.seal.ensures)

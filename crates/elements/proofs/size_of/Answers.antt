@@ -8,7 +8,7 @@ use Rattle.elements.proofs.size_of.Goals as goal
 
 pub size-requires : goal.size-requires
 size-requires c = let R = c.requires.1.4 in
-    room R.stored.full.heap.shape _ (array_item R c.args.i _ (omega (arith, c.requires.0)) c.requires.1.5.item).lives refl
+    rw c.header_of-h.ensures (room R.stored.full.heap.shape _ (array_item R c.args.i _ (omega (arith, c.requires.0)) c.requires.1.5.item).lives refl)
 
 pub returns : goal.returns
-returns c = record { says = λ e d l μ R x id q. c.size.ensures ∙ size_read R c.args.i _ (omega (arith, c.requires.0)) q }
+returns c = record { says = λ e d l μ R x id q. (rw c.header_of-h.ensures at c.size.ensures) ∙ size_read R c.args.i _ (omega (arith, c.requires.0)) q }

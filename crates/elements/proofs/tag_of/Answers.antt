@@ -2,7 +2,8 @@
 -- Assumes nothing.
 use Rattle.elements.proofs.Tags.{item_tag_lem}
 use native.Mathlib.Omega.{arith}
+use mathlib.Core.Path.{◌∙◌}
 use Rattle.elements.proofs.tag_of.Goals as goal
 
 pub returns : goal.returns
-returns c = record { says = λ e d x l μ R. item_tag_lem R c.args.i _ (omega (arith, c.requires.0)) }
+returns c = record { says = λ e d x l μ R. c.item.ensures.0 ∙ item_tag_lem R c.args.i _ (omega (arith, c.requires.0)) }

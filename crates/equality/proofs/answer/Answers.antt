@@ -1,8 +1,7 @@
--- `answer` meets its contract: the drops and the push in turn.
+-- `equality::answer` meets its contract: two items go, and the truth value is pushed.
 -- Assumes nothing.
+use mathlib.Core.Path.{refl}
 use native.Mathlib.Omega.{arith}
-use mathlib.Core.Path.{ap, sym}
-use Rattle.store.specs.Rep.{bit}
 use Rattle.machine.proofs.Outcomes.{elsewhere}
 use Rattle.equality.proofs.Answers.{room_after, answers}
 use Rattle.equality.proofs.answer.Goals as goal
@@ -16,11 +15,5 @@ drop-two-requires c = (omega (arith, c.requires.0, c.drop-one.ensures.depth_valu
 pub push_scalar-requires : goal.push_scalar-requires
 push_scalar-requires c = room_after c.requires.0 c.requires.1 (omega (arith, c.drop-one.ensures.depth_value, c.drop-two.ensures.depth_value))
 
-pub returns-then-truth : goal.returns-then-truth
-returns-then-truth c = answers _ (sym (ap bit c.if-truth.true)) c.drop-one.ensures.moves_heap c.drop-two.ensures.moves_heap c.push_scalar.ensures.pushes
-
-pub push_scalar-requires-2 : goal.push_scalar-requires-2
-push_scalar-requires-2 c = room_after c.requires.0 c.requires.1 (omega (arith, c.drop-one.ensures.depth_value, c.drop-two.ensures.depth_value))
-
 pub returns : goal.returns
-returns c = answers _ (sym (ap bit c.if-truth.false)) c.drop-one.ensures.moves_heap c.drop-two.ensures.moves_heap c.push_scalar-2.ensures.pushes
+returns c = answers _ refl c.drop-one.ensures.moves_heap c.drop-two.ensures.moves_heap c.push_scalar.ensures.pushes

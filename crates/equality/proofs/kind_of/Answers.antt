@@ -1,18 +1,19 @@
--- `kind_of` meets its contract: each test decides a choice of `tag_as`.
+-- `equality::kind_of` meets its contract: by the tag.
 -- Assumes nothing.
+use Rattle.std.proofs.Common.{rules}
 use mathlib.Core.Path.{refl}
 use borrow.Author.Tests.{ne_eqb}
 use Rattle.machine.specs.Moves.{tag_as}
 use Rattle.equality.proofs.kind_of.Goals as goal
 
-pub returns-then-tag-eq-TAG_EXECUTABLE : goal.returns-then-tag-eq-TAG_EXECUTABLE
+pub returns-in-6 : goal.returns-in-6
 unfolding tag_as
-returns-then-tag-eq-TAG_EXECUTABLE c = rw c.if-tag-eq-TAG_EXECUTABLE.true refl
+returns-in-6 c = rw c.in-6.is refl
 
-pub returns-then-tag-eq-TAG_PROCEDURE : goal.returns-then-tag-eq-TAG_PROCEDURE
+pub returns-in-10 : goal.returns-in-10
 unfolding tag_as
-returns-then-tag-eq-TAG_PROCEDURE c = rw c.if-tag-eq-TAG_PROCEDURE.true refl
+returns-in-10 c = rw c.in-10.is refl
 
-pub returns : goal.returns
+pub returns-in_default : goal.returns-in_default
 unfolding tag_as
-returns c = rw (ne_eqb _ 6 c.if-tag-eq-TAG_EXECUTABLE.false, ne_eqb _ 10 c.if-tag-eq-TAG_PROCEDURE.false) refl
+returns-in_default c = rw (ne_eqb c.args.tag 6 (search rules), ne_eqb c.args.tag 10 (search rules)) refl

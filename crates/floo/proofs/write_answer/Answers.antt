@@ -6,25 +6,25 @@ use Rattle.floo.proofs.Printing.{within_run, parts, told_refusal, told_run}
 use native.Mathlib.Omega.{arith}
 use Rattle.floo.proofs.write_answer.Goals as goal
 
-pub slice_bounds-copy-end-in-Ran : goal.slice_bounds-copy-end-in-Ran
-slice_bounds-copy-end-in-Ran c = sym (parts c.args.log.now c.args.outcome.now c.in-Ran.is c.requires).0
+pub slice_bounds-copy-end-in-Ok : goal.slice_bounds-copy-end-in-Ok
+slice_bounds-copy-end-in-Ok c = sym (parts c.args.log.now c.args.outcome.now c.in-Ok.is c.requires).0
 
 pub copy-next-requires : goal.copy-next-requires
-copy-next-requires c = let few = within_run c.args.log.now c.args.outcome.now c.in-Ran.is c.requires in
-    let long = parts c.args.log.now c.args.outcome.now c.in-Ran.is c.requires in
+copy-next-requires c = let few = within_run c.args.log.now c.args.outcome.now c.in-Ok.is c.requires in
+    let long = parts c.args.log.now c.args.outcome.now c.in-Ok.is c.requires in
     omega (arith, few.2, long.0)
 
-pub slice_bounds-copy-end-in-Ran-3 : goal.slice_bounds-copy-end-in-Ran-3
-slice_bounds-copy-end-in-Ran-3 c = sym (parts c.args.log.now c.args.outcome.now c.in-Ran.is c.requires).1
+pub slice_bounds-copy-end-in-Ok-3 : goal.slice_bounds-copy-end-in-Ok-3
+slice_bounds-copy-end-in-Ok-3 c = sym (parts c.args.log.now c.args.outcome.now c.in-Ok.is c.requires).1
 
 pub copy-requires : goal.copy-requires
-copy-requires c = let few = within_run c.args.log.now c.args.outcome.now c.in-Ran.is c.requires in
-    let long = parts c.args.log.now c.args.outcome.now c.in-Ran.is c.requires in
+copy-requires c = let few = within_run c.args.log.now c.args.outcome.now c.in-Ok.is c.requires in
+    let long = parts c.args.log.now c.args.outcome.now c.in-Ok.is c.requires in
     omega (arith, c.copy-next.ensures.end, c.copy-next.auto.out, few.2, long.0, long.1)
 
-pub returns-in-Refused : goal.returns-in-Refused
+pub returns-in-Err : goal.returns-in-Err
 unfolding bytes
-returns-in-Refused c = told_refusal c.args.log.now c.args.outcome.now c.in-Refused.is c.write_number.ensures
+returns-in-Err c = told_refusal c.args.log.now c.args.outcome.now c.in-Err.is c.number.ensures c.write_number.ensures
 
-pub returns-in-Ran : goal.returns-in-Ran
-returns-in-Ran c = told_run c.args.log.now c.args.outcome.now c.in-Ran.is c.copy-next.ensures c.copy.ensures
+pub returns-in-Ok : goal.returns-in-Ok
+returns-in-Ok c = told_run c.args.log.now c.args.outcome.now c.in-Ok.is c.copy-next.ensures c.copy.ensures

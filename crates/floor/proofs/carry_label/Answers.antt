@@ -12,12 +12,12 @@ carry_out-done-requires c = c.requires
 
 pub returns-then-not-is_final : goal.returns-then-not-is_final
 unfolding textual
-returns-then-not-is_final c = not_final c.carry_out-done.ensures c.is_final.ensures (ap not c.if-not-is_final.true) c.no_record.ensures
+returns-then-not-is_final c = not_final c.carry_out-done.ensures c.is_final.ensures (ap not c.if-not-is_final.true)
 
-pub read_entry-read-requires : goal.read_entry-read-requires
+pub read_entry-entry-requires : goal.read_entry-entry-requires
 unfolding textual
-read_entry-read-requires c = stack_there c.carry_out-done.ensures
+read_entry-entry-requires c = stack_there c.carry_out-done.ensures
 
 pub returns : goal.returns
 unfolding textual
-returns c = final c.carry_out-done.ensures c.is_final.ensures (ap not c.if-not-is_final.false) c.read_entry-read.ensures
+returns c = final c.carry_out-done.ensures c.is_final.ensures (ap not c.if-not-is_final.false) c.read_entry-entry.ensures

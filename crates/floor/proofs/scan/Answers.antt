@@ -7,4 +7,4 @@ pub enter-entered-requires : goal.enter-entered-requires
 enter-entered-requires c = may_enter c.args.book.now c.args.count c.is_sound-sound.ensures c.run_labelled-ran.ensures
 
 pub returns : goal.returns
-returns c = scanned c.is_sound-sound.ensures c.run_labelled-ran.ensures c.enter-entered.ensures c.answered.ensures
+returns c = scanned _ c.is_sound-sound.ensures c.run_labelled-ran.ensures c.enter-entered.ensures c.answered.ensures

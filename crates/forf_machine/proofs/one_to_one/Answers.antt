@@ -1,27 +1,26 @@
--- `forf_machine::one_to_one` meets its contract: each way to an answer by its law.
+-- `forf_machine::one_to_one` meets its contract: an integer or what is wrong with it, and what the function that is given makes of it.
 -- Assumes nothing.
-use Rattle.semantics.specs.Values.{ok}
 use mathlib.Core.List.{[]}
 use mathlib.Core.Path.{ap, sym}
 use native.Mathlib.Omega.{arith}
-use Rattle.forf_machine.proofs.Calculating.{one_number}
-use Rattle.forf_machine.proofs.Operating.{one_fails, one_depth, one_done}
+use Rattle.std.proofs.Common.{rules}
+use Rattle.std.proofs.lemmas.Result.{err_from_is_err_and}
+use Rattle.semantics.specs.Values.{ok}
+use Rattle.forf_machine.proofs.Operating.{unary_shape, one_fails, one_depth, one_done}
 use Rattle.forf_machine.proofs.one_to_one.Goals as goal
 
+pub returns-in_err-a : goal.returns-in_err-a
+returns-in_err-a g c = let p = err_from_is_err_and c.from_residual.result c.from_residual.ensures.1 in
+    rw (p.1, p.2) (record { does = λ f h e mem. one_fails (unary_shape f) _ _ c.one_int.result c.one_int.ensures e mem c.in_err-a.was })
+
 pub overflow_sub-m : goal.overflow_sub-m
-overflow_sub-m c = let pre = c.requires in
-    let args = c.args in
-    one_depth (one_number _ pre.0) args.m args.stack.now c.one_int.result c.one_int.ensures [] [] c.in-Got.is
+overflow_sub-m g c = one_depth (unary_shape (λ a. a)) c.args.m c.args.stack.now c.one_int.result c.one_int.ensures [] [] c.in_ok-a.was
 
 pub put-requires : goal.put-requires
-put-requires c = let pre = c.requires in
-    let args = c.args in
-    let d = one_depth (one_number _ pre.0) args.m args.stack.now c.one_int.result c.one_int.ensures [] [] c.in-Got.is in omega (arith, pre.1)
+put-requires g c = let d = one_depth (unary_shape (λ a. a)) c.args.m c.args.stack.now c.one_int.result c.one_int.ensures [] [] c.in_ok-a.was in
+    omega (arith, c.requires.deep)
 
-pub returns-in-Bad : goal.returns-in-Bad
-returns-in-Bad c = let pre = c.requires in
-    λ e mem. one_fails (one_number _ pre.0) _ _ c.one_int.result c.one_int.ensures e mem c.in-Bad.is
-
-pub returns-in-Got : goal.returns-in-Got
-returns-in-Got c = let pre = c.requires in
-    λ e mem. one_done (one_number _ pre.0) _ _ c.one_int.result c.one_int.ensures e mem c.in-Got.is (ap ok (sym c.unary.ensures)) c.put.ensures c.put.auto.words
+pub returns : goal.returns
+returns g c = record {
+  does = λ f h e mem. one_done (unary_shape f) _ _ c.one_int.result c.one_int.ensures e mem c.in_ok-a.was (ap ok (sym (h _ _ (search rules) c.f.ensures))) c.put.ensures c.put.auto.words;
+}

@@ -1,7 +1,6 @@
 -- `forf_outcome::write_items` meets its contract: each way to an answer by its law.
 -- Assumes nothing.
 use Rattle.forf_outcome.proofs.Lining.{list_begin, list_room, list_again, list_ends}
-use native.Mathlib.Omega.{arith}
 use Rattle.forf_outcome.proofs.write_items.Goals as goal
 
 pub loop-i-init : goal.loop-i-init
@@ -9,12 +8,6 @@ loop-i-init c = list_begin _ _ _ _ _
 
 pub write_item-next-requires : goal.write_item-next-requires
 write_item-next-requires c = list_room c.loop-i.invariant c.requires.0 c.requires.1 c.loop-i-test.true
-
-pub overflow_add-i : goal.overflow_add-i
-overflow_add-i c = omega arith
-
-pub loop-i-smaller : goal.loop-i-smaller
-loop-i-smaller c = omega arith
 
 pub loop-i-preserved : goal.loop-i-preserved
 loop-i-preserved c = list_again c.loop-i.invariant c.requires.0 c.requires.1 c.loop-i-test.true c.write_item-next.ensures c.write_item-next.auto.out

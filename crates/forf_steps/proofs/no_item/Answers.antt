@@ -1,8 +1,7 @@
 -- `forf_steps::no_item` meets its contract: each way to an answer by its law.
 -- Assumes nothing.
 use Rattle.forf_steps.proofs.Choosing.{none, some}
-use Rattle.forf_steps.specs.declared.Command.TheVariants.{Nothing}
-use Rattle.forf_steps.specs.declared.Stepped.TheVariants.{Went, Failed}
+use Rattle.std.specs.Prelude.{None, Ok, Err}
 use Rattle.forf_steps.specs.Stepping.{without_item}
 use Rattle.forf_semantics.specs.declared.Error.TheVariants.{SyntaxError}
 use mathlib.Core.Path.{ap, ◌∙◌}
@@ -10,8 +9,8 @@ use Rattle.forf_steps.proofs.no_item.Goals as goal
 
 pub returns-then-m-eq0 : goal.returns-then-m-eq0
 unfolding without_item
-returns-then-m-eq0 c = ap (Failed SyntaxError Nothing) c.failed.ensures ∙ none _ c.if-m-eq0.true
+returns-then-m-eq0 c = ap (λ τ. Err (record { error = SyntaxError; command = None; state = τ })) c.failed.ensures ∙ none _ c.if-m-eq0.true
 
 pub returns : goal.returns
 unfolding without_item
-returns c = ap Went c.after.ensures ∙ some _ c.if-m-eq0.false
+returns c = ap Ok c.after.ensures ∙ some _ c.if-m-eq0.false

@@ -42,27 +42,27 @@ shape_of-memory-then-st-fuel c = c.loop-st.invariant.lm
 pub returns-then-st-fuel : goal.returns-then-st-fuel
 returns-then-st-fuel c = end_spent c.loop-st.invariant c.is_finished.ensures c.if-is_finished.false c.if-st-fuel.true c.spent.ensures
 
-pub step-stepped-requires : goal.step-stepped-requires
-step-stepped-requires c = let pre = c.requires in
+pub step-requires : goal.step-requires
+step-requires c = let pre = c.requires in
     ready c.loop-st.invariant c.is_finished.ensures c.if-is_finished.false c.if-st-fuel.false pre.short pre.fueled
 
 pub loop-st-smaller : goal.loop-st-smaller
-loop-st-smaller c = omega (arith, step_counts c.loop-st.invariant c.is_finished.ensures c.if-is_finished.false c.if-st-fuel.false c.step-stepped.ensures c.in-Went.is, c.if-st-fuel.false, c.loop-st.invariant.few)
+loop-st-smaller c = omega (arith, step_counts c.loop-st.invariant c.is_finished.ensures c.if-is_finished.false c.if-st-fuel.false c.step.ensures c.in-Ok.is, c.if-st-fuel.false, c.loop-st.invariant.few)
 
 pub loop-st-preserved : goal.loop-st-preserved
-loop-st-preserved c = go_on_lem c.loop-st.invariant c.is_finished.ensures c.if-is_finished.false c.if-st-fuel.false c.step-stepped.ensures c.in-Went.is c.step-stepped.auto.stack c.step-stepped.auto.exec c.step-stepped.auto.memory
+loop-st-preserved c = go_on_lem c.loop-st.invariant c.is_finished.ensures c.if-is_finished.false c.if-st-fuel.false c.step.ensures c.in-Ok.is c.step.auto.stack c.step.auto.exec c.step.auto.memory
 
 pub stuck-requires : goal.stuck-requires
 stuck-requires c = tt
 
-pub shape_of-stack-in-Failed : goal.shape_of-stack-in-Failed
-shape_of-stack-in-Failed c = c.step-stepped.auto.stack ∙ c.loop-st.invariant.ls
+pub shape_of-stack-in-Err : goal.shape_of-stack-in-Err
+shape_of-stack-in-Err c = c.step.auto.stack ∙ c.loop-st.invariant.ls
 
-pub shape_of-exec-in-Failed : goal.shape_of-exec-in-Failed
-shape_of-exec-in-Failed c = c.step-stepped.auto.exec ∙ c.loop-st.invariant.le
+pub shape_of-exec-in-Err : goal.shape_of-exec-in-Err
+shape_of-exec-in-Err c = c.step.auto.exec ∙ c.loop-st.invariant.le
 
-pub shape_of-memory-in-Failed : goal.shape_of-memory-in-Failed
-shape_of-memory-in-Failed c = c.step-stepped.auto.memory ∙ c.loop-st.invariant.lm
+pub shape_of-memory-in-Err : goal.shape_of-memory-in-Err
+shape_of-memory-in-Err c = c.step.auto.memory ∙ c.loop-st.invariant.lm
 
-pub returns-in-Failed : goal.returns-in-Failed
-returns-in-Failed c = end_failed c.loop-st.invariant c.is_finished.ensures c.if-is_finished.false c.if-st-fuel.false c.step-stepped.ensures c.in-Failed.is c.stuck.ensures
+pub returns-in-Err : goal.returns-in-Err
+returns-in-Err c = end_failed c.loop-st.invariant c.is_finished.ensures c.if-is_finished.false c.if-st-fuel.false c.step.ensures c.in-Err.is c.stuck.ensures

@@ -2,7 +2,6 @@
 -- Assumes nothing.
 use Rattle.forf_steps.proofs.Stepping.{pending_frames, place_inside, pending_steps, nothing_steps, moved_rep, item_steps, item_fails, fails_as}
 use Rattle.forf_steps.specs.Stepping.{Acts}
-use Rattle.forf_groups.specs.Reading.{ReadAt}
 use native.Mathlib.Omega.{arith}
 use mathlib.Core.Path.{subst}
 use Rattle.forf_steps.proofs.step.Goals as goal
@@ -30,39 +29,39 @@ skip-start-requires c = let pre = c.requires in
 pub returns-in_default : goal.returns-in_default
 returns-in_default c = let pre = c.requires in
     let args = c.args in
-    nothing_steps (pre) c.is_pending.ensures c.place_of-place.ensures c.if-is_pending.false _ c.skip-start.ensures.value c.skip-start.ensures.upper_bound (subst (ReadAt args.script.now c.skip-start.result) c.in_default.is c.read_item-read.ensures) c.no_item.ensures
+    nothing_steps (pre) c.is_pending.ensures c.place_of-place.ensures c.if-is_pending.false _ c.skip-start.ensures.value c.skip-start.ensures.upper_bound c.in_default.ensures c.no_item.ensures
 
 pub move_on-requires : goal.move_on-requires
 move_on-requires c = let args = c.args in
     let pre = c.requires in
-    let T = subst (ReadAt args.script.now c.skip-start.result) c.in-Item.is c.read_item-read.ensures in
+    let T = c.in-Some.ensures in
     (pre.rep.exec_fits, omega (arith, T.inside, pre.short))
 
-pub act-acted-requires : goal.act-acted-requires
-act-acted-requires c = let args = c.args in
+pub act-requires : goal.act-requires
+act-requires c = let args = c.args in
     let pre = c.requires in
-    let T = subst (ReadAt args.script.now c.skip-start.result) c.in-Item.is c.read_item-read.ensures in
+    let T = c.in-Some.ensures in
     let R = moved_rep (pre) c.is_pending.ensures c.place_of-place.ensures c.if-is_pending.false _ c.skip-start.ensures.value _ T c.move_on.ensures in
     record { held = T.held; lent = record { stack_fits = R.stack_fits; exec_fits = R.exec_fits; memory_slots_lem = R.memory_slots_lem }; short = pre.short }
 
-pub after-requires-in-Went : goal.after-requires-in-Went
-after-requires-in-Went c = let pre = c.requires in
+pub after-requires-in-Ok : goal.after-requires-in-Ok
+after-requires-in-Ok c = let pre = c.requires in
     pre.few
 
 pub failed-requires : goal.failed-requires
 failed-requires c = let pre = c.requires in
     pre.few
 
-pub returns-in-Went : goal.returns-in-Went
-returns-in-Went c = let args = c.args in
+pub returns-in-Ok : goal.returns-in-Ok
+returns-in-Ok c = let args = c.args in
     let pre = c.requires in
-    let T = subst (ReadAt args.script.now c.skip-start.result) c.in-Item.is c.read_item-read.ensures in
-    let A = subst (Acts args.script.now _ _ _ _ _ _ _ _) c.in-Went.is c.act-acted.ensures in
-    item_steps (pre) c.is_pending.ensures c.place_of-place.ensures c.if-is_pending.false _ c.skip-start.ensures.value _ T c.move_on.ensures A c.after-in-Went.ensures
+    let T = c.in-Some.ensures in
+    let A = subst (Acts args.script.now _ _ _ _ _ _ _ _) c.in-Ok.is c.act.ensures in
+    item_steps (pre) c.is_pending.ensures c.place_of-place.ensures c.if-is_pending.false _ c.skip-start.ensures.value _ T c.move_on.ensures A c.after-in-Ok.ensures
 
-pub returns-in-Failed : goal.returns-in-Failed
-returns-in-Failed c = let args = c.args in
+pub returns-in-Err : goal.returns-in-Err
+returns-in-Err c = let args = c.args in
     let pre = c.requires in
-    let T = subst (ReadAt args.script.now c.skip-start.result) c.in-Item.is c.read_item-read.ensures in
-    let A = subst (Acts args.script.now _ _ _ _ _ _ _ _) c.in-Failed.is c.act-acted.ensures in
+    let T = c.in-Some.ensures in
+    let A = subst (Acts args.script.now _ _ _ _ _ _ _ _) c.in-Err.is c.act.ensures in
     fails_as c.command_of.ensures (item_fails (pre) c.is_pending.ensures c.place_of-place.ensures c.if-is_pending.false _ c.skip-start.ensures.value _ T c.move_on.ensures A c.failed.ensures)

@@ -6,8 +6,8 @@ use Prim.Native.Nat.{◌+◌, ◌-◌, ◌≤◌}
 use mathlib.Core.Path.{◌≡◌}
 use Rattle.forf_token.proofs.skip.Given as goal
 
-abbrev pub invariant-loop-i : goal.invariant-loop-i
-invariant-loop-i l = (l.i ≤ length l.script) × (l.at + blanks (drop l.at l.script) ≡ l.i + blanks (drop l.i l.script))
+abbrev pub invariant-loop-after : goal.invariant-loop-after
+invariant-loop-after l = (l.i ≤ length l.script) × (l.at + blanks (drop l.at l.script) ≡ l.i + blanks (drop l.i l.script))
 
-abbrev pub decreases-loop-i : goal.decreases-loop-i
-decreases-loop-i l = length l.script - l.i
+abbrev pub decreases-loop-after : goal.decreases-loop-after
+decreases-loop-after l = length l.script - l.i

@@ -1,20 +1,17 @@
--- `frames::pend_body` meets its contract: the place above the topmost slot takes a copy of its value.
+-- `frames::pend_body` meets its contract: the topmost slot's words are its value, a copy of which becomes pending.
 -- Assumes nothing.
-use Rattle.frames.proofs.Slots.{put_three}
-use Rattle.frames.proofs.Pending.{body_placed, body_rep}
-use lib.ListN.{length-set}
+use Rattle.frames.specs.Moves.{body_pended}
+use Rattle.frames.proofs.Pending.{body_is}
 use native.Mathlib.Omega.{arith}
-use mathlib.Core.Path.{refl}
 use Rattle.frames.proofs.pend_body.Goals as goal
 
-pub recount-counted-requires : goal.recount-counted-requires
-recount-counted-requires c = let R = c.requires.2.4 in body_placed R _ (omega (arith, c.requires.0)) c.requires.1
-
-pub bounds-exec-n-2 : goal.bounds-exec-n-2
-bounds-exec-n-2 c = simp length-set (omega (arith, c.requires.1))
-
-pub bounds-exec-n-3 : goal.bounds-exec-n-3
-bounds-exec-n-3 c = simp length-set (omega (arith, c.requires.1))
+pub pend-requires : goal.pend-requires
+pend-requires c = let R = c.requires.2.4 in
+    (c.requires.1, (_, _, _, _, R, _, body_is R _ (omega (arith, c.requires.0)) c.frame_value-value.ensures.0 c.frame_value-value.ensures.1))
 
 pub returns : goal.returns
-returns c = record { moves_frames = record { moves = λ s d l μ R. body_rep R _ (omega (arith, c.requires.0)) c.requires.1 c.recount-counted.ensures (put_three _ _ c.requires.1 _ _ _) }; depth_value = (refl, refl) }
+unfolding body_pended
+returns c = record {
+  moves_frames = record { moves = λ s d l μ R. c.pend.ensures.pends.moves s d l μ R _ (body_is R _ (omega (arith, c.requires.0)) c.frame_value-value.ensures.0 c.frame_value-value.ensures.1) };
+  depth_value = c.pend.ensures.depth_value;
+}

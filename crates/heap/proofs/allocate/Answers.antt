@@ -1,10 +1,7 @@
 -- `allocate` meets its contract: the loop keeps a heap in which the header has i body cells, each turn one more (`grows_trans`); n - i goes down.
 -- Assumes nothing.
-use Prim.Native.Nat.{◌+◌, ◌-◌, ◌≤◌}
 use mathlib.Core.Path.{◌≡◌, refl, ◌∙◌}
 use native.Mathlib.Omega.{arith}
-use lib.ListN.{length}
-use Rattle.heap.specs.Grow.{FineLive, Grew}
 use Rattle.heap.proofs.Growing.{grows_trans, grows_refl}
 use Rattle.heap.proofs.allocate.Goals as goal
 
@@ -27,12 +24,6 @@ prepend-r-requires c = (
     c.new_header-t.auto.m,
   ),
 )
-
-pub overflow_add-i : goal.overflow_add-i
-overflow_add-i c = omega (arith, c.ranges.n)
-
-pub loop-i-smaller : goal.loop-i-smaller
-loop-i-smaller c = omega arith
 
 pub loop-i-preserved : goal.loop-i-preserved
 loop-i-preserved c = let I = c.loop-i.invariant in

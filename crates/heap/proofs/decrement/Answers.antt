@@ -5,7 +5,6 @@ use native.Mathlib.Omega.{arith}
 use Rattle.heap.proofs.Shapes.{room, list_lt}
 use Rattle.heap.proofs.Falls.{is_same}
 use Rattle.heap.proofs.Parts.{lives, dies}
-use borrow.Author.Rules.{rules}
 use Rattle.heap.proofs.decrement.Goals as goal
 
 pub get-count-requires : goal.get-count-requires

@@ -5,7 +5,6 @@ use mathlib.Core.Path.{refl, ◌∙◌}
 use native.Mathlib.Omega.{arith}
 use Rattle.heap.proofs.Shapes.{room, header_of}
 use Rattle.heap.proofs.Parts.{first_dead, sheds, strips, object, no_object, no_array}
-use borrow.Author.Rules.{rules}
 use Rattle.heap.proofs.free_body_cell.Goals as goal
 
 pub pop_body-b-requires : goal.pop_body-b-requires

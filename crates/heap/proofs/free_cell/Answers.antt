@@ -1,6 +1,5 @@
 -- `free_cell` meets its contract: the cell goes on the list of free cells (`push_shape`).
 -- Assumes nothing.
-use borrow.Author.Rules.{rules}
 use Prim.Native.Nat.{suc}
 use mathlib.Core.Path.{refl, ◌∙◌}
 use native.Mathlib.Omega.{arith}

@@ -4,7 +4,6 @@ use mathlib.Core.Path.{refl}
 use native.Mathlib.Omega.{arith}
 use Rattle.heap.proofs.Shapes.{room}
 use Rattle.heap.proofs.Parts.{gives, clears, first_dead, buries}
-use borrow.Author.Rules.{rules}
 use Rattle.heap.proofs.free_header.Goals as goal
 
 pub get-next-requires : goal.get-next-requires

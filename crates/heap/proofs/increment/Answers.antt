@@ -5,7 +5,6 @@ use native.Mathlib.Omega.{arith}
 use Rattle.heap.proofs.Shapes.{room}
 use Rattle.heap.proofs.Parts.{object, no_object}
 use Rattle.heap.proofs.Assigning.{rises, count_le}
-use borrow.Author.Rules.{rules}
 use Rattle.heap.proofs.increment.Goals as goal
 
 pub get-n-requires : goal.get-n-requires

@@ -1,6 +1,5 @@
 -- `is_sealed` meets its contract: the bit that it reads is the one that `is_sealed` reads.
 -- Assumes nothing.
-use borrow.Author.Rules.{rules}
 use Prim.Native.Nat.{◌/◌, ◌%◌}
 use mathlib.Core.Path.{ap}
 use lib.Dec.{eqb}

@@ -4,7 +4,6 @@ use mathlib.Core.Path.{refl}
 use native.Mathlib.Omega.{arith}
 use Rattle.heap.proofs.Shapes.{room}
 use Rattle.heap.proofs.Bodies.{headed}
-use borrow.Author.Rules.{rules}
 use Rattle.heap.proofs.new_header.Goals as goal
 
 pub put-requires : goal.put-requires

@@ -3,7 +3,6 @@
 use Prim.Native.Nat.{◌-◌, ◌%◌}
 use mathlib.Core.Path.{◌≡◌, ap}
 use native.Mathlib.Omega.{arith}
-use borrow.Author.Rules.{rules}
 use Rattle.heap.specs.Shape.{first_unit}
 use Rattle.heap.proofs.pop_body.Goals as goal
 

@@ -3,7 +3,6 @@
 use Prim.Native.Nat.{◌+◌, ◌%◌}
 use mathlib.Core.Path.{refl, sym, ap, ◌∙◌}
 use native.Mathlib.Omega.{arith}
-use borrow.Author.Rules.{rules}
 use Rattle.heap.proofs.Bodies.{grown}
 use Rattle.heap.specs.Shape.{first_unit, size_unit}
 use Rattle.heap.proofs.Walks.{first_is}

@@ -1,6 +1,5 @@
 -- `put` meets its contract: one store to the slice is one store to a word (`put_set`).
 -- Assumes nothing.
-use borrow.Author.Rules.{rules}
 use Rattle.heap.proofs.Words.{put_set}
 use Rattle.heap.proofs.put.Goals as goal
 

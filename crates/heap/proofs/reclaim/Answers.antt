@@ -3,7 +3,6 @@
 use mathlib.Core.Path.{refl}
 use Rattle.heap.proofs.Shapes.{room}
 use Rattle.heap.proofs.Parts.{first_dead}
-use borrow.Author.Rules.{rules}
 use Rattle.heap.proofs.reclaim.Goals as goal
 
 pub size-n-requires : goal.size-n-requires

@@ -1,11 +1,7 @@
 -- `release` meets its contract: each turn of the loop frees one cell and keeps what `Goes` says; the cells that are not free go down.
 -- Assumes nothing.
-use Prim.Native.Nat.{◌-◌}
-use mathlib.Core.Path.{◌≡◌, refl, ◌∙◌}
+use mathlib.Core.Path.{refl, ◌∙◌}
 use native.Mathlib.Omega.{arith}
-use Rattle.heap.specs.Shape.{cells}
-use Rattle.heap.specs.Gone.{Goes, Sound}
-use lib.ListN.{length}
 use Rattle.heap.proofs.Shapes.{list_le}
 use Rattle.heap.proofs.release.Goals as goal
 

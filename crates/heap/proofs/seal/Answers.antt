@@ -1,7 +1,5 @@
 -- `seal` meets its contract: the bit is set where it is 0, and nothing carries into the bits above it (`seals`); else nothing is written.
 -- Assumes nothing.
-use borrow.Author.Rules.{rules}
-use native.Mathlib.Omega.{arith}
 use Rattle.heap.proofs.Sealings.{seals, seals_again}
 use Rattle.heap.proofs.seal.Goals as goal
 

@@ -3,7 +3,6 @@
 use Prim.Native.Nat.{◌-◌}
 use mathlib.Core.Path.{refl}
 use native.Mathlib.Omega.{arith}
-use borrow.Author.Rules.{rules}
 use Rattle.heap.proofs.Walks.{first_of, skip_of, skip_first, skip_over}
 use Rattle.heap.proofs.Shapes.{room, inside, list_le}
 use Rattle.heap.proofs.skip_word.Goals as goal

@@ -4,7 +4,6 @@ use mathlib.Core.Path.{refl}
 use native.Mathlib.Omega.{arith}
 use Rattle.heap.proofs.Shapes.{room}
 use Rattle.heap.proofs.Growing.{picks, edges}
-use borrow.Author.Rules.{rules}
 use Rattle.heap.proofs.take.Goals as goal
 
 pub get-next-requires : goal.get-next-requires

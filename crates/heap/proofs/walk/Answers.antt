@@ -1,10 +1,8 @@
 -- `walk` meets its contract: the cell has the rank that the loop counts, by the skip word or by the next word; the rank goes down.
 -- Assumes nothing.
-use Prim.Native.Nat.{ℕ, suc, ◌+◌, ◌-◌, ◌≤◌, ◌<◌}
+use Prim.Native.Nat.{suc, ◌-◌, ◌<◌}
 use mathlib.Core.Path.{◌≡◌, refl}
 use native.Mathlib.Omega.{arith}
-use Rattle.heap.specs.Shape.{Ghost, Shape}
-use Rattle.heap.specs.Chain.{live, on}
 use Rattle.heap.proofs.Walks.{first_cell, next_cell, skip_of}
 use Rattle.heap.proofs.Shapes.{room, header_of}
 use Rattle.heap.proofs.walk.Goals as goal

@@ -1,12 +1,9 @@
 -- `walk` meets its contract: the cell has the rank that the loop counts, by the skip word or by the next word; the rank goes down.
 -- Assumes nothing.
-use Prim.Native.Nat.{ℕ, suc, ◌+◌, ◌-◌, ◌≤◌, ◌<◌}
-use mathlib.Core.Path.{◌≡◌, refl}
-use native.Mathlib.Omega.{arith}
+use Prim.Native.Nat.{ℕ, ◌+◌, ◌-◌, ◌≤◌}
+use mathlib.Core.Path.{◌≡◌}
 use Rattle.heap.specs.Shape.{Ghost, Shape}
 use Rattle.heap.specs.Chain.{live, on}
-use Rattle.heap.proofs.Walks.{first_cell, next_cell, skip_of}
-use Rattle.heap.proofs.Shapes.{room, header_of}
 use Rattle.heap.proofs.walk.Given as goal
 
 abbrev pub invariant-loop-j : goal.invariant-loop-j

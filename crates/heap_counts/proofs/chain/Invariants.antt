@@ -3,8 +3,5 @@
 use Rattle.heap_counts.specs.Slots.{Slots}
 use Rattle.heap_counts.proofs.chain.Given as goal
 
-abbrev pub invariant-loop-left : goal.invariant-loop-left
-invariant-loop-left l = Slots l.r l.slots l.m
-
-abbrev pub decreases-loop-left : goal.decreases-loop-left
-decreases-loop-left l = l.left
+abbrev pub invariant-loop : goal.invariant-loop
+invariant-loop l = Slots l.r l.slots l.m

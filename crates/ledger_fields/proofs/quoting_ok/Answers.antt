@@ -1,5 +1,6 @@
 -- `quoting_ok` meets its contract. The loop's invariant: the quoting from `at` on, in the mode there, decides.
 -- Assumes nothing.
+use Rattle.std.proofs.Math.Logic.{inl, inr}
 use Rattle.ledger_fields.proofs.Passing.{passing_starts, comma_less, line_less, passing_comma, passing_line, passing_end, passing_over, passing_wrong}
 use Rattle.ledger_fields.proofs.quoting_ok.Goals as goal
 
@@ -22,10 +23,8 @@ pub loop-mode-preserved : goal.loop-mode-preserved
 loop-mode-preserved c = passing_line c.loop-mode.invariant c.field_at-f.ensures c.in-Line.is
 
 pub returns-in-End : goal.returns-in-End
-returns-in-End c = passing_end c.loop-mode.invariant c.field_at-f.ensures c.in-End.is
-
-pub returns-in-Over : goal.returns-in-Over
-returns-in-Over c = passing_over c.loop-mode.invariant c.field_at-f.ensures c.in-Over.is
+returns-in-End c =
+    elim c.in-End.is [ inl is ↦ passing_end c.loop-mode.invariant c.field_at-f.ensures is | inr is ↦ passing_over c.loop-mode.invariant c.field_at-f.ensures is ]
 
 pub returns-in-Wrong : goal.returns-in-Wrong
 returns-in-Wrong c = passing_wrong c.loop-mode.invariant c.field_at-f.ensures c.in-Wrong.is

@@ -1,47 +1,31 @@
--- `is_once` meets its contract. The loop's invariant: no number is twice in the text if none is among those that are left, and none of these is kept. The measure is what is left of the text.
+-- `is_once` meets its contract: the numbers that are kept are compared with all that follow (Resting).
 -- Assumes nothing.
-use native.Mathlib.Omega.{arith}
-use Rattle.ledger_reader.proofs.Resting.{alone_starts, alone_all, alone_not, alone_next, alone_met, alone_again, alone_less}
+use Rattle.std.proofs.Common.{arith}
+use Rattle.ledger_reader.proofs.Resting.{alone_starts, alone_all, not_flawed, alone_not, alone_met, alone_next, alone_again, alone_less}
 use Rattle.ledger_reader.proofs.is_once.Goals as goal
+use Rattle.ledger_reader.proofs.is_once.Goals.{then-n-eq-RECORDS_MOST+else-meets, else-n-eq-RECORDS_MOST}
 
-pub loop-kept-init : goal.loop-kept-init
-loop-kept-init c = alone_starts c.requires
+pub loop-line-init : goal.loop-line-init
+loop-line-init c = alone_starts c.requires
 
-pub line_at-line-requires : goal.line_at-line-requires
-line_at-line-requires c = c.loop-kept.invariant.left.inside
-
-pub returns-then-line : goal.returns-then-line
-returns-then-line c = alone_all c.loop-kept.invariant c.line_at-line.ensures c.if-line.true
-
-pub slice_bounds-kept-end : goal.slice_bounds-kept-end
-slice_bounds-kept-end c = omega (arith, c.loop-kept.invariant.few, c.loop-kept.invariant.long)
+pub returns-in_default-entry : goal.returns-in_default-entry
+returns-in_default-entry c = absurd (not_flawed c.in-Some.ensures c.loop-line.invariant.left c.in_default-entry.is)
 
 pub returns-then-is_among : goal.returns-then-is_among
-returns-then-is_among c = alone_not c.loop-kept.invariant c.line_at-line.ensures c.if-line.false c.is_among.ensures c.if-is_among.true
-
-pub offset_bounds-kept-n : goal.offset_bounds-kept-n
-offset_bounds-kept-n c = omega (arith, c.if-n-lt-RECORDS_MOST.true)
-
-pub bounds-kept-n : goal.bounds-kept-n
-bounds-kept-n c = omega (arith, c.if-n-lt-RECORDS_MOST.true)
-
-pub overflow_add-n : goal.overflow_add-n
-overflow_add-n c = omega (arith, c.if-n-lt-RECORDS_MOST.true)
-
-pub loop-kept-smaller-then-n-lt-RECORDS_MOST : goal.loop-kept-smaller-then-n-lt-RECORDS_MOST
-loop-kept-smaller-then-n-lt-RECORDS_MOST c = alone_less c.loop-kept.invariant c.line_at-line.ensures c.if-line.false
-
-pub loop-kept-preserved-then-n-lt-RECORDS_MOST : goal.loop-kept-preserved-then-n-lt-RECORDS_MOST
-loop-kept-preserved-then-n-lt-RECORDS_MOST c = alone_next c.loop-kept.invariant c.line_at-line.ensures c.if-line.false c.is_among.ensures c.if-is_among.false c.if-n-lt-RECORDS_MOST.true
-
-pub meets-requires : goal.meets-requires
-meets-requires c = (c.loop-kept.invariant.rest, c.loop-kept.invariant.left)
+returns-then-is_among c = alone_not c.loop-line.invariant c.in-Some.ensures c.in-Ok.is c.is_among.ensures c.if-is_among.true
 
 pub returns-then-meets : goal.returns-then-meets
-returns-then-meets c = alone_met c.loop-kept.invariant c.line_at-line.ensures c.if-line.false c.if-n-lt-RECORDS_MOST.false c.meets.ensures c.if-meets.true
+returns-then-meets c = alone_met c.loop-line.invariant c.in-Some.ensures c.in-Ok.is (omega (arith, c.if-n-eq-RECORDS_MOST.true)) c.meets.ensures c.if-meets.true
 
-pub loop-kept-smaller : goal.loop-kept-smaller
-loop-kept-smaller c = alone_less c.loop-kept.invariant c.line_at-line.ensures c.if-line.false
+pub loop-line-smaller : goal.loop-line-smaller
+loop-line-smaller c = alone_less c.loop-line.invariant c.in-Some.ensures c.in-Ok.is
 
-pub loop-kept-preserved : goal.loop-kept-preserved
-loop-kept-preserved c = alone_again c.loop-kept.invariant c.line_at-line.ensures c.if-line.false c.if-n-lt-RECORDS_MOST.false c.meets.ensures c.if-meets.false
+pub loop-line-preserved : goal.loop-line-preserved
+loop-line-preserved c =
+    elim c.if-n-eq-RECORDS_MOST.branch [
+      | then-n-eq-RECORDS_MOST+else-meets w ↦ rw w.n-is (alone_again c.loop-line.invariant c.in-Some.ensures c.in-Ok.is (omega (arith, w.if-n-eq-RECORDS_MOST.true)) w.meets.ensures w.if-meets.false)
+      | else-n-eq-RECORDS_MOST w ↦ rw w.n-is (alone_next c.loop-line.invariant c.in-Some.ensures c.in-Ok.is c.is_among.ensures c.if-is_among.false (omega (arith, c.loop-line.invariant.few, w.if-n-eq-RECORDS_MOST.false)))
+    ]
+
+pub returns : goal.returns
+returns c = alone_all c.loop-line.invariant c.in_default.ensures

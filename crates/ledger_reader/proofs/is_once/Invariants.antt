@@ -5,8 +5,8 @@ use lib.ListN.{length}
 use Rattle.ledger_reader.proofs.Resting.{Alone}
 use Rattle.ledger_reader.proofs.is_once.Given as goal
 
-abbrev pub invariant-loop-kept : goal.invariant-loop-kept
-invariant-loop-kept l = Alone l.text l.start l.at l.kept l.n
+abbrev pub invariant-loop-line : goal.invariant-loop-line
+invariant-loop-line l = Alone l.text l.start l.at l.kept l.n
 
-abbrev pub decreases-loop-kept : goal.decreases-loop-kept
-decreases-loop-kept l = length l.text - l.at
+abbrev pub decreases-loop-line : goal.decreases-loop-line
+decreases-loop-line l = length l.text - l.at

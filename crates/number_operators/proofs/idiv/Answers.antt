@@ -1,24 +1,11 @@
--- `number_operators::idiv` meets its contract: the shape of two integers, with the word's division and its error.
+-- `number_operators::idiv` meets its contract: the step of two integers, with the word's division and its error.
 -- Assumes nothing.
-use Rattle.number_operators.proofs.Divisions.{undefined, divided}
-use Rattle.number_operators.proofs.Named.{idiv_is}
-use Rattle.number_operators.proofs.Shapes.{two_bad, two_good, two_low_lem, two_fails, computing}
-use Rattle.machine.specs.Operands.{an_integer}
-use Rattle.semantics.specs.Operators.{perform}
+use Rattle.std.proofs.Common.{rules}
 use Rattle.semantics.specs.NumberOperators.{division}
-use Rattle.semantics.specs.Text.{bytes}
 use lib.Signed.{quot_z}
-use borrow.Author.Rules.{rules}
+use Rattle.number_operators.proofs.Named.{idiv_is}
+use Rattle.number_operators.proofs.Shapes.{named, computing, divided}
 use Rattle.number_operators.proofs.idiv.Goals as goal
 
-pub replace-requires : goal.replace-requires
-replace-requires c = (search rules, search rules, two_low_lem c.in-Got.is c.two_ints.ensures.result_bound)
-
-pub returns-in-Bad : goal.returns-in-Bad
-returns-in-Bad c = two_bad (computing (division quot_z)) c.two_ints.ensures.fetches_two c.in-Bad.is (perform (bytes "idiv")) idiv_is
-
-pub returns-in-ZeroDivisor : goal.returns-in-ZeroDivisor
-returns-in-ZeroDivisor c = two_fails (computing (division quot_z)) c.two_ints.ensures.fetches_two c.in-Got.is (perform (bytes "idiv")) idiv_is (undefined quot_z c.in-Got.a c.in-Got.b c.idiv.ensures c.in-ZeroDivisor.is)
-
-pub returns-in-Value : goal.returns-in-Value
-returns-in-Value c = two_good (computing (division quot_z)) c.two_ints.ensures.fetches_two c.in-Got.is c.replace.ensures an_integer (perform (bytes "idiv")) idiv_is (divided quot_z c.in-Got.a c.in-Got.b c.idiv.ensures c.in-Value.is)
+pub returns : goal.returns
+returns c = named idiv_is (c.two.ensures.does (computing (division quot_z)) (λ a b w la lb p. divided quot_z a b (search rules)))

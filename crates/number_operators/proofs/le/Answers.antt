@@ -1,21 +1,10 @@
--- `number_operators::le` meets its contract: the shape of two integers, with the word's comparison.
+-- `number_operators::le` meets its contract: the step of two integers, with the word's comparison.
 -- Assumes nothing.
-use Rattle.number_operators.proofs.Named.{le_is}
-use Rattle.number_operators.proofs.Shapes.{two_bad, two_good, two_low_lem, comparing, compared}
-use Rattle.semantics.specs.Operators.{perform}
-use Rattle.semantics.specs.Text.{bytes}
-use Rattle.machine.specs.Operands.{Scalar, a_boolean}
-use Rattle.semantics.specs.Values.{boolean}
-use mathlib.Core.Path.{sym, subst}
+use Rattle.std.proofs.Common.{rules}
 use lib.Signed.{le_z}
-use borrow.Author.Rules.{rules}
+use Rattle.number_operators.proofs.Named.{le_is}
+use Rattle.number_operators.proofs.Shapes.{named, comparing, compared}
 use Rattle.number_operators.proofs.le.Goals as goal
 
-pub replace-requires : goal.replace-requires
-replace-requires c = (search rules, search rules, two_low_lem c.in-Got.is c.two_ints.ensures.result_bound)
-
-pub returns-in-Bad : goal.returns-in-Bad
-returns-in-Bad c = two_bad (comparing le_z) c.two_ints.ensures.fetches_two c.in-Bad.is (perform (bytes "le")) le_is
-
-pub returns-in-Got : goal.returns-in-Got
-returns-in-Got c = two_good (comparing le_z) c.two_ints.ensures.fetches_two c.in-Got.is c.replace.ensures (subst (Scalar (boolean _) 2) (sym c.bit.ensures) a_boolean) (perform (bytes "le")) le_is (compared le_z c.in-Got.a c.in-Got.b c.le.ensures)
+pub returns : goal.returns
+returns c = named le_is (c.two.ensures.does (comparing le_z) (λ a b w la lb p. compared le_z a b (search rules)))

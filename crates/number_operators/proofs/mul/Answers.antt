@@ -1,21 +1,11 @@
--- `number_operators::mul` meets its contract: the shape of two integers, with the word's operation.
+-- `number_operators::mul` meets its contract: the step of two integers, with the word's operation.
 -- Assumes nothing.
-use Rattle.number_operators.proofs.Named.{mul_is}
-use Rattle.number_operators.proofs.Shapes.{two_bad, two_good, two_low_lem, computing, computed}
-use Rattle.machine.specs.Operands.{an_integer}
-use Rattle.semantics.specs.Operators.{perform}
-use Rattle.semantics.specs.Text.{bytes}
-use mathlib.Core.Path.{refl}
+use Rattle.std.proofs.Common.{rules}
 use Rattle.semantics.specs.Values.{ok}
 use lib.IntN.{◌*ℤ◌}
-use borrow.Author.Rules.{rules}
+use Rattle.number_operators.proofs.Named.{mul_is}
+use Rattle.number_operators.proofs.Shapes.{named, computing, computed}
 use Rattle.number_operators.proofs.mul.Goals as goal
 
-pub replace-requires : goal.replace-requires
-replace-requires c = (search rules, search rules, two_low_lem c.in-Got.is c.two_ints.ensures.result_bound)
-
-pub returns-in-Bad : goal.returns-in-Bad
-returns-in-Bad c = two_bad (computing (λ x y. ok (x *ℤ y))) c.two_ints.ensures.fetches_two c.in-Bad.is (perform (bytes "mul")) mul_is
-
-pub returns-in-Got : goal.returns-in-Got
-returns-in-Got c = two_good (computing (λ x y. ok (x *ℤ y))) c.two_ints.ensures.fetches_two c.in-Got.is c.replace.ensures an_integer (perform (bytes "mul")) mul_is (computed (λ x y. ok (x *ℤ y)) c.in-Got.a c.in-Got.b refl c.mul.ensures)
+pub returns : goal.returns
+returns c = named mul_is (c.two.ensures.does (computing (λ x y. ok (x *ℤ y))) (λ a b w la lb p. computed ◌*ℤ◌ a b (search rules)))

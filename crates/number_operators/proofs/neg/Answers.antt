@@ -1,19 +1,10 @@
--- `number_operators::neg` meets its contract: the shape of one integer, with the word's operation.
+-- `number_operators::neg` meets its contract: the step of one integer, with the word's operation.
 -- Assumes nothing.
-use Rattle.number_operators.proofs.Named.{neg_is}
-use Rattle.number_operators.proofs.Shapes.{one_bad, one_good, one_low_lem, computing1, computed1}
-use Rattle.machine.specs.Operands.{an_integer}
-use Rattle.semantics.specs.Operators.{perform}
-use Rattle.semantics.specs.Text.{bytes}
+use Rattle.std.proofs.Common.{rules}
 use lib.IntN.{neg_ℤ}
-use borrow.Author.Rules.{rules}
+use Rattle.number_operators.proofs.Named.{neg_is}
+use Rattle.number_operators.proofs.Shapes.{named, computing1, computed1}
 use Rattle.number_operators.proofs.neg.Goals as goal
 
-pub replace-requires : goal.replace-requires
-replace-requires c = (search rules, search rules, one_low_lem c.in-Got.is c.one_int.ensures.result_bound)
-
-pub returns-in-Bad : goal.returns-in-Bad
-returns-in-Bad c = one_bad (computing1 neg_ℤ) c.one_int.ensures.fetches_one c.in-Bad.is (perform (bytes "neg")) neg_is
-
-pub returns-in-Got : goal.returns-in-Got
-returns-in-Got c = one_good (computing1 neg_ℤ) c.one_int.ensures.fetches_one c.in-Got.is c.replace.ensures an_integer (perform (bytes "neg")) neg_is (computed1 neg_ℤ c.in-Got.a c.neg.ensures)
+pub returns : goal.returns
+returns c = named neg_is (c.one.ensures.does (computing1 neg_ℤ) (λ a w la p. computed1 neg_ℤ a (search rules)))

@@ -1,4 +1,4 @@
--- `write_items` meets its contract: the items from place i on are written. The measure is i.
+-- `write_items` meets its contract: the items from place i on are written.
 -- Assumes nothing.
 use native.Mathlib.Omega.{arith}
 use Rattle.outcome.proofs.Lining.{listed_begin, listed_ends, item_room_lem, listed_again}
@@ -7,14 +7,8 @@ use Rattle.outcome.proofs.write_items.Goals as goal
 pub loop-i-init : goal.loop-i-init
 loop-i-init c = (omega arith, listed_begin)
 
-pub overflow_sub-i : goal.overflow_sub-i
-overflow_sub-i c = omega (arith, c.loop-i-test.true)
-
 pub write_item-next-requires : goal.write_item-next-requires
 write_item-next-requires c = item_room_lem c.requires c.loop-i.invariant.1 c.loop-i-test.true c.loop-i.invariant.0
-
-pub loop-i-smaller : goal.loop-i-smaller
-loop-i-smaller c = omega (arith, c.loop-i-test.true)
 
 pub loop-i-preserved : goal.loop-i-preserved
 loop-i-preserved c = (omega (arith, c.loop-i.invariant.0), listed_again c.requires c.loop-i.invariant.1 c.loop-i-test.true c.loop-i.invariant.0 c.write_item-next.ensures c.write_item-next.auto.out)

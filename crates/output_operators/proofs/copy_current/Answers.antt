@@ -1,4 +1,4 @@
--- `copy_current` meets its contract: the first q current bytes are written. The measure is what is left of them.
+-- `copy_current` meets its contract: the first q current bytes are written.
 -- Assumes nothing.
 use Rattle.output_operators.proofs.Copying.{copied_begin, has_byte, copied_again, copied_ends}
 use native.Mathlib.Omega.{arith}
@@ -18,12 +18,6 @@ overflow_add-log c = omega (arith, c.requires.3, c.loop-q-test.true)
 
 pub bounds-log-at : goal.bounds-log-at
 bounds-log-at c = omega (arith, c.requires.3, c.loop-q-test.true, c.loop-q.invariant.1.long)
-
-pub overflow_add-q : goal.overflow_add-q
-overflow_add-q c = omega (arith, c.loop-q-test.true)
-
-pub loop-q-smaller : goal.loop-q-smaller
-loop-q-smaller c = omega (arith, c.loop-q-test.true)
 
 pub loop-q-preserved : goal.loop-q-preserved
 loop-q-preserved c = (omega (arith, c.loop-q-test.true), copied_again c.requires.2 c.loop-q.invariant.1 c.requires.3 c.loop-q-test.true c.get_byte-b.ensures)

@@ -1,4 +1,4 @@
--- `stack_fits` meets its contract: the sum is the length of the text of the first i items, each with the byte after it. The measure is what is left of them.
+-- `stack_fits` meets its contract: the sum is the length of the text of the first i items, each with the byte after it.
 -- Assumes nothing.
 use Rattle.output_operators.proofs.Lines.{item_known, summed_begin, summed_ends, summed_over, summed_again}
 use Rattle.output_operators.proofs.Returns.{stack_room}
@@ -43,12 +43,6 @@ overflow_add-sum c = omega (arith, c.loop-i.invariant.1, c.if-left-k.false, c.ra
 
 pub overflow_add-sum-in-loop-i : goal.overflow_add-sum-in-loop-i
 overflow_add-sum-in-loop-i c = omega (arith, c.loop-i.invariant.1, c.if-left-k.false, c.ranges.room)
-
-pub overflow_add-i : goal.overflow_add-i
-overflow_add-i c = omega (arith, c.loop-i-test.true, stack_room c.requires.1.1, c.well_formed.1.0.0)
-
-pub loop-i-smaller : goal.loop-i-smaller
-loop-i-smaller c = omega (arith, c.loop-i-test.true)
 
 pub loop-i-preserved : goal.loop-i-preserved
 loop-i-preserved c = (omega (arith, c.loop-i-test.true), omega (arith, c.loop-i.invariant.1, c.if-left-k.false), summed_again c.requires.0 c.loop-i.invariant.1 c.loop-i.invariant.2 c.loop-i-test.true c.measure-k.ensures c.if-left-k.false)

@@ -1,11 +1,8 @@
--- `stack_fits` meets its contract: the sum is the length of the text of the first i items, each with the byte after it. The measure is what is left of them.
+-- `stack_fits` meets its contract: the sum is the length of the text of the first i items, each with the byte after it.
 -- Assumes nothing.
 use Rattle.output_operators.proofs.Lines.{Summed}
-use Prim.Native.Nat.{◌-◌, ◌≤◌}
+use Prim.Native.Nat.{◌≤◌}
 use Rattle.output_operators.proofs.stack_fits.Given as goal
 
 abbrev pub invariant-loop-i : goal.invariant-loop-i
-invariant-loop-i l = (l.i ≤ l.m.depth) × (l.sum ≤ l.room) × Summed l.m l.stack l.dict l.cells l.i l.sum
-
-abbrev pub decreases-loop-i : goal.decreases-loop-i
-decreases-loop-i l = l.m.depth - l.i
+invariant-loop-i l = (l.i ≤ l.fn.m.depth) × (l.sum ≤ l.room) × Summed l.fn.m l.stack l.dict l.cells l.i l.sum

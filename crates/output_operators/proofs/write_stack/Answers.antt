@@ -1,4 +1,4 @@
--- `write_stack` meets its contract: the first i items are written, each with the byte after it. The measure is what is left of them.
+-- `write_stack` meets its contract: the first i items are written, each with the byte after it.
 -- Assumes nothing.
 use Rattle.output_operators.proofs.Lines.{lined_begin, lined_ends, item_fits, feed_fits, lined_again}
 use Rattle.output_operators.proofs.Returns.{stack_room}
@@ -32,9 +32,6 @@ bounds-stack-i-in-loop-i c = omega (arith, c.loop-i-test.true, stack_room c.requ
 pub write-next-requires : goal.write-next-requires
 write-next-requires c = item_fits c.requires.0 c.requires.1 c.loop-i.invariant.1 c.loop-i-test.true
 
-pub overflow_add-i : goal.overflow_add-i
-overflow_add-i c = omega (arith, c.loop-i-test.true, stack_room c.requires.1.somewhere, c.well_formed.1.0.0)
-
 pub overflow_sub-m : goal.overflow_sub-m
 overflow_sub-m c = omega (arith, c.loop-i-test.true)
 
@@ -46,9 +43,6 @@ bounds-log-next c = feed_fits c.requires.0 c.requires.1 c.loop-i.invariant.1 c.l
 
 pub overflow_add-next : goal.overflow_add-next
 overflow_add-next c = omega (arith, feed_fits c.requires.0 c.requires.1 c.loop-i.invariant.1 c.loop-i-test.true c.write-next.ensures c.write-next.auto.log, c.write-next.auto.log, c.loop-i.invariant.1.long, c.well_formed.1.1.1.1.0.0)
-
-pub loop-i-smaller : goal.loop-i-smaller
-loop-i-smaller c = omega (arith, c.loop-i-test.true)
 
 pub loop-i-preserved : goal.loop-i-preserved
 loop-i-preserved c = (omega (arith, c.loop-i-test.true), lined_again c.requires.0 c.requires.1 c.loop-i.invariant.1 c.loop-i-test.true c.write-next.ensures c.write-next.auto.log c.feed.ensures)

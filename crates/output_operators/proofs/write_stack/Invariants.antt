@@ -1,11 +1,8 @@
--- `write_stack` meets its contract: the first i items are written, each with the byte after it. The measure is what is left of them.
+-- `write_stack` meets its contract: the first i items are written, each with the byte after it.
 -- Assumes nothing.
 use Rattle.output_operators.proofs.Lines.{Lined}
-use Prim.Native.Nat.{◌-◌, ◌≤◌}
+use Prim.Native.Nat.{◌≤◌}
 use Rattle.output_operators.proofs.write_stack.Given as goal
 
 abbrev pub invariant-loop-i : goal.invariant-loop-i
-invariant-loop-i l = (l.i ≤ l.m.depth) × Lined l.m l.stack l.dict l.cells l.i l.initial.log l.log l.next
-
-abbrev pub decreases-loop-i : goal.decreases-loop-i
-decreases-loop-i l = l.m.depth - l.i
+invariant-loop-i l = (l.i ≤ l.fn.m.depth) × Lined l.fn.m l.stack l.dict l.cells l.i l.initial.log l.log l.next

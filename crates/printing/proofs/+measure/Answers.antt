@@ -1,4 +1,4 @@
--- `measure` meets its contract, by recursion on the depth. The loop keeps that the sum is the length of the opening bracket and the first i elements, each with the byte after it; its measure is what is left of them.
+-- `measure` meets its contract, by recursion on the depth. The loop keeps that the sum is the length of the opening bracket and the first i elements, each with the byte after it.
 -- Assumes nothing.
 use Rattle.printing.proofs.Nesting.{plain_measures, deep_measures, none_measures, low_measures, size_room, first_sought, element_room, element_known, summed_begin, summed_over, summed_again, summed_ends}
 use Rattle.printing.proofs.Headers.{found_after}
@@ -65,12 +65,6 @@ overflow_add-sum-in-loop-i t c = omega (arith, c.if-left-k.false, c.loop-i.invar
 
 pub next-c-requires : goal.next-c-requires
 next-c-requires t c = element_room c.if-tag-lt-TAG_ARRAY.false c.requires c.loop-i.i (omega (arith, c.loop-i-test.true, c.size-n.ensures)) _ c.loop-i.invariant.2
-
-pub overflow_add-i : goal.overflow_add-i
-overflow_add-i t c = omega (arith, c.loop-i-test.true)
-
-pub loop-i-smaller : goal.loop-i-smaller
-loop-i-smaller t c = omega (arith, c.loop-i-test.true)
 
 pub loop-i-preserved : goal.loop-i-preserved
 loop-i-preserved t c = (

@@ -1,4 +1,4 @@
--- `write` meets its contract, by recursion on the depth. The loop keeps that the first i elements are written, each with the byte after it; its measure is what is left of them.
+-- `write` meets its contract, by recursion on the depth. The loop keeps that the first i elements are written, each with the byte after it.
 -- Assumes nothing.
 use Rattle.printing.proofs.Nesting.{plain_room, plain_writes, deep_room, deep_writes, none_room, none_writes, list_room, size_room, first_sought, element_room, listed_begin, element_fits, after_fits, listed_again, listed_ends}
 use Rattle.printing.proofs.Headers.{found_after}
@@ -64,9 +64,6 @@ overflow_sub-depth t c = omega (arith, c.if-depth-eq0.false)
 pub write-next-requires : goal.write-next-requires
 write-next-requires t c = (omega (arith, c.decreases, c.if-depth-eq0.false), element_fits c.if-tag-lt-TAG_ARRAY.false c.requires c.if-depth-eq0.false (omega (arith, c.size-n.ensures, c.if-n-eq0.false)) (length-set c.args.log.now c.args.at c.opening.result) c.loop-i.invariant.2 (omega (arith, c.loop-i-test.true, c.size-n.ensures)) _ c.loop-i.invariant.1 c.get-t.ensures c.get-p.ensures)
 
-pub overflow_add-i : goal.overflow_add-i
-overflow_add-i t c = omega (arith, c.loop-i-test.true)
-
 pub overflow_sub-n : goal.overflow_sub-n
 overflow_sub-n t c = omega (arith, c.loop-i-test.true)
 
@@ -89,9 +86,6 @@ overflow_add-next-in-loop-i t c = omega (
 
 pub next-c-requires : goal.next-c-requires
 next-c-requires t c = element_room c.if-tag-lt-TAG_ARRAY.false c.requires.known c.loop-i.i (omega (arith, c.loop-i-test.true, c.size-n.ensures)) _ c.loop-i.invariant.1
-
-pub loop-i-smaller : goal.loop-i-smaller
-loop-i-smaller t c = omega (arith, c.loop-i-test.true)
 
 pub loop-i-preserved : goal.loop-i-preserved
 loop-i-preserved t c = (

@@ -1,5 +1,7 @@
--- `current_size` meets its contract: the loop keeps `Scanned`, that no byte before byte q is zero. The measure is what is left of the maximum.
+-- `current_size` meets its contract: the loop keeps `Scanned`, that no byte before byte q is zero.
 -- Assumes nothing.
+use Rattle.printing.specs.Shown.{CurrentSize}
+use mathlib.Core.Path.{subst}
 use Rattle.printing.proofs.Bytes.{scan_begin, scan_ends, scan_stops, scan_again}
 use Rattle.printing.proofs.Headers.{string_room, most_is}
 use native.Mathlib.Omega.{arith}
@@ -20,14 +22,11 @@ string_byte-requires c = (omega (arith, c.loop-q-test.true, c.kind-most.ensures)
 pub returns-then-string_byte-eq0 : goal.returns-then-string_byte-eq0
 returns-then-string_byte-eq0 c = record { current_size = scan_stops c.loop-q.invariant (omega (arith, c.loop-q-test.true, c.kind-most.ensures)) c.string_byte.ensures c.if-string_byte-eq0.true; upper_bound = c.loop-q.invariant.within }
 
-pub overflow_add-q : goal.overflow_add-q
-overflow_add-q c = omega arith
-
-pub loop-q-smaller : goal.loop-q-smaller
-loop-q-smaller c = omega (arith, c.loop-q-test.true)
-
 pub loop-q-preserved : goal.loop-q-preserved
 loop-q-preserved c = scan_again c.loop-q.invariant (omega (arith, c.loop-q-test.true, c.kind-most.ensures)) c.string_byte.ensures c.if-string_byte-eq0.false
 
 pub returns : goal.returns
-returns c = record { current_size = scan_ends c.loop-q.invariant (omega (arith, c.loop-q-test.false, c.kind-most.ensures)); upper_bound = c.loop-q.invariant.within }
+returns c = record {
+  current_size = subst (CurrentSize _ _) (omega (arith, c.loop-q-test.false, c.loop-q.auto.q-end)) (scan_ends c.loop-q.invariant (omega (arith, c.loop-q-test.false, c.kind-most.ensures)));
+  upper_bound = omega (arith, c.loop-q.invariant.within, c.loop-q-test.false, c.loop-q.auto.q-end);
+}

@@ -1,11 +1,7 @@
--- `current_size` meets its contract: the loop keeps `Scanned`, that no byte before byte q is zero. The measure is what is left of the maximum.
+-- `current_size` meets its contract: the loop keeps `Scanned`, that no byte before byte q is zero.
 -- Assumes nothing.
 use Rattle.printing.proofs.Bytes.{Scanned}
-use Prim.Native.Nat.{◌-◌}
 use Rattle.printing.proofs.current_size.Given as goal
 
 abbrev pub invariant-loop-q : goal.invariant-loop-q
 invariant-loop-q l = Scanned l.cells l.h l.q
-
-abbrev pub decreases-loop-q : goal.decreases-loop-q
-decreases-loop-q l = l.most - l.q

@@ -1,4 +1,4 @@
--- `measure_name` meets its contract: the sum is the length of the text of the first j bytes. The measure is what is left of them.
+-- `measure_name` meets its contract: the sum is the length of the text of the first j bytes.
 -- Assumes nothing.
 use Rattle.printing.proofs.Spelling.{sum_begin, name_few, sum_again, sum_ends}
 use Rattle.names.proofs.Spelling.{named_inside}
@@ -19,12 +19,6 @@ name_byte_length-sum-requires c = tt
 
 pub overflow_add-sum : goal.overflow_add-sum
 overflow_add-sum c = omega (arith, c.loop-j.invariant.short, c.loop-j-test.true, name_few c.name_size-n.ensures c.requires, (sum_again c.name_size-n.ensures c.loop-j-test.true c.name_byte-b.ensures c.loop-j.invariant c.name_byte_length-sum.ensures).short)
-
-pub overflow_add-j : goal.overflow_add-j
-overflow_add-j c = omega arith
-
-pub loop-j-smaller : goal.loop-j-smaller
-loop-j-smaller c = omega (arith, c.loop-j-test.true)
 
 pub loop-j-preserved : goal.loop-j-preserved
 loop-j-preserved c = sum_again c.name_size-n.ensures c.loop-j-test.true c.name_byte-b.ensures c.loop-j.invariant c.name_byte_length-sum.ensures

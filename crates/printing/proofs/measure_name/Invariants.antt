@@ -1,11 +1,7 @@
--- `measure_name` meets its contract: the sum is the length of the text of the first j bytes. The measure is what is left of them.
+-- `measure_name` meets its contract: the sum is the length of the text of the first j bytes.
 -- Assumes nothing.
 use Rattle.printing.proofs.Spelling.{NameSum}
-use Prim.Native.Nat.{◌-◌}
 use Rattle.printing.proofs.measure_name.Given as goal
 
 abbrev pub invariant-loop-j : goal.invariant-loop-j
 invariant-loop-j l = NameSum l.slot l.dict l.j l.sum
-
-abbrev pub decreases-loop-j : goal.decreases-loop-j
-decreases-loop-j l = l.n - l.j

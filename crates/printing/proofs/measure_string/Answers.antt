@@ -1,4 +1,4 @@
--- `measure_string` meets its contract: the sum is the length of the text of the first q current bytes. The measure is what is left of them.
+-- `measure_string` meets its contract: the sum is the length of the text of the first q current bytes.
 -- Assumes nothing.
 use Rattle.printing.proofs.Bytes.{sum_begin, sum_again, sum_ends}
 use native.Mathlib.Omega.{arith}
@@ -18,12 +18,6 @@ string_byte_length-sum-requires c = tt
 
 pub overflow_add-sum : goal.overflow_add-sum
 overflow_add-sum c = omega (arith, c.loop-q.invariant.short, c.loop-q-test.true, (sum_again c.current_size-n.ensures.current_size c.loop-q-test.true c.string_byte-b.ensures c.loop-q.invariant c.string_byte_length-sum.ensures).short)
-
-pub overflow_add-q : goal.overflow_add-q
-overflow_add-q c = omega arith
-
-pub loop-q-smaller : goal.loop-q-smaller
-loop-q-smaller c = omega (arith, c.loop-q-test.true)
 
 pub loop-q-preserved : goal.loop-q-preserved
 loop-q-preserved c = sum_again c.current_size-n.ensures.current_size c.loop-q-test.true c.string_byte-b.ensures c.loop-q.invariant c.string_byte_length-sum.ensures

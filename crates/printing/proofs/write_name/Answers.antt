@@ -1,4 +1,4 @@
--- `write_name` meets its contract: the text of the first j bytes is written. The measure is what is left of them.
+-- `write_name` meets its contract: the text of the first j bytes is written.
 -- Assumes nothing.
 use Rattle.printing.proofs.Spelling.{text_begin, name_few, text_room, text_again, text_ends}
 use Rattle.names.proofs.Spelling.{named_inside}
@@ -16,12 +16,6 @@ name_byte-b-requires c = (named_inside c.requires.named, omega (arith, c.loop-j-
 
 pub write_name_byte-next-requires : goal.write_name_byte-next-requires
 write_name_byte-next-requires c = text_room c.name_size-n.ensures c.requires c.loop-j-test.true c.name_byte-b.ensures c.loop-j.invariant
-
-pub overflow_add-j : goal.overflow_add-j
-overflow_add-j c = omega arith
-
-pub loop-j-smaller : goal.loop-j-smaller
-loop-j-smaller c = omega (arith, c.loop-j-test.true)
 
 pub loop-j-preserved : goal.loop-j-preserved
 loop-j-preserved c = text_again c.name_size-n.ensures c.requires c.loop-j-test.true c.name_byte-b.ensures c.loop-j.invariant c.write_name_byte-next.ensures c.write_name_byte-next.auto.out

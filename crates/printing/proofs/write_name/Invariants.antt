@@ -1,11 +1,7 @@
--- `write_name` meets its contract: the text of the first j bytes is written. The measure is what is left of them.
+-- `write_name` meets its contract: the text of the first j bytes is written.
 -- Assumes nothing.
 use Rattle.printing.proofs.Spelling.{NameText}
-use Prim.Native.Nat.{◌-◌}
 use Rattle.printing.proofs.write_name.Given as goal
 
 abbrev pub invariant-loop-j : goal.invariant-loop-j
 invariant-loop-j l = NameText l.slot l.dict l.j l.at l.initial.log l.log l.next
-
-abbrev pub decreases-loop-j : goal.decreases-loop-j
-decreases-loop-j l = l.n - l.j

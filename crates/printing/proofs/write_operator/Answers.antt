@@ -1,4 +1,4 @@
--- `write_operator` meets its contract: the first j bytes of the name are written. The measure is what is left of them.
+-- `write_operator` meets its contract: the first j bytes of the name are written.
 -- Assumes nothing.
 use Rattle.printing.proofs.Spelling.{title_begin, name_few, title_fits, title_again, title_ends}
 use Rattle.names.proofs.Spelling.{named_inside}
@@ -25,12 +25,6 @@ overflow_add-log c = omega (arith, title_fits c.name_size-n.ensures c.requires, 
 
 pub bounds-log-start : goal.bounds-log-start
 bounds-log-start c = omega (arith, title_fits c.name_size-n.ensures c.requires, c.copy-start.ensures.end, c.loop-j-test.true, c.copy-start.auto.out, c.loop-j.invariant.1.long)
-
-pub overflow_add-j : goal.overflow_add-j
-overflow_add-j c = omega arith
-
-pub loop-j-smaller : goal.loop-j-smaller
-loop-j-smaller c = omega (arith, c.loop-j-test.true)
 
 pub loop-j-preserved : goal.loop-j-preserved
 loop-j-preserved c = (omega (arith, c.loop-j-test.true), title_again c.name_size-n.ensures c.requires c.loop-j-test.true (omega (arith, title_fits c.name_size-n.ensures c.requires, c.copy-start.ensures.end, c.copy-start.auto.out)) c.name_byte-b.ensures c.loop-j.invariant.1)

@@ -1,4 +1,4 @@
--- `write_string` meets its contract: after the quote the text of the first q current bytes is written. The measure is what is left of them.
+-- `write_string` meets its contract: after the quote the text of the first q current bytes is written.
 -- Assumes nothing.
 use Rattle.printing.proofs.Bytes.{text_begin, quoted_fits, text_room, text_again, text_past, text_ends}
 use lib.ListN.{length-set}
@@ -23,12 +23,6 @@ string_byte-b-requires c = (omega (arith, c.loop-q-test.true, c.current_size-n.e
 
 pub write_string_byte-next-requires : goal.write_string_byte-next-requires
 write_string_byte-next-requires c = text_room c.requires c.current_size-n.ensures.current_size (length-set c.args.log.now c.args.at 34) c.loop-q.invariant c.loop-q-test.true c.string_byte-b.ensures
-
-pub overflow_add-q : goal.overflow_add-q
-overflow_add-q c = omega arith
-
-pub loop-q-smaller : goal.loop-q-smaller
-loop-q-smaller c = omega (arith, c.loop-q-test.true)
 
 pub loop-q-preserved : goal.loop-q-preserved
 loop-q-preserved c = text_again c.requires c.current_size-n.ensures.current_size (length-set c.args.log.now c.args.at 34) c.loop-q.invariant c.loop-q-test.true c.string_byte-b.ensures c.write_string_byte-next.ensures c.write_string_byte-next.auto.out

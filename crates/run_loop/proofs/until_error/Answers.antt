@@ -1,11 +1,13 @@
 -- `until_error` meets its contract: the loop keeps `Going`, and each way out is a law of it. The measure is the steps that are left.
 -- Assumes nothing.
+use Rattle.run_loop.specs.Halting.{MayHalt}
 use Rattle.run_loop.proofs.Running.{Attempt, tried_by, going, may_from, halts_from, one_run, ready, halts_finished, halts_spent, halts_stopped, halts_failed, halts_misread, steps_left, steps_less, going_on}
 use Rattle.step.proofs.FrameSteps.{token_tries}
 use native.Mathlib.Omega.{arith}
 use mathlib.Core.Path.{refl}
+use Prim.Native.Nat.{◌-◌, ◌<◌}
 use Rattle.run_loop.proofs.until_error.Goals as goal
-use Rattle.run_loop.proofs.until_error.Goals.{then-m-eq0, else-m-eq0}
+use Rattle.run_loop.proofs.until_error.Goals.{Joined-m-eq0, then-m-eq0, else-m-eq0}
 
 pub loop-st-init : goal.loop-st-init
 loop-st-init c = going
@@ -58,14 +60,17 @@ pub resume-stepped-requires : goal.resume-stepped-requires
 resume-stepped-requires c = let pre = c.requires in
     (omega (arith, c.if-m-eq0.false), (_, ready (one_run c.loop-st.invariant (may_from c.by_fields-st.ensures (pre))) (omega (arith, steps_left c.loop-st.invariant (may_from c.by_fields-st.ensures (pre)), c.if-st-limit.false))))
 
-pub returns-then-now : goal.returns-then-now
-returns-then-now c =
-    let may = may_from c.by_fields-st.ensures c.requires in
-    let run = one_run c.loop-st.invariant may in
-    let at = c.loop-st in
-    let now = c.if-m-eq0 in
-    let went : Attempt c.args.script.now at.st at.stack now.stack at.exec now.exec at.dict now.dict at.cells now.cells at.log now.log now.stepped =
-    elim now.branch [
+-- What the step was, of either kind, and that there was one to make.
+may : (c : Joined-m-eq0) → MayHalt c.args.script.now c.args.limit c.by_fields-st.result c.args.stack.now c.args.exec.now c.args.dict.now c.args.cells.now c.args.log.now
+may c = may_from c.by_fields-st.ensures c.requires
+
+some_left : (c : Joined-m-eq0) → 0 < c.args.limit - c.loop-st.st.steps
+some_left c = omega (arith, steps_left c.loop-st.invariant (may c), c.if-st-limit.false)
+
+went : (c : Joined-m-eq0) → Attempt c.args.script.now c.loop-st.st c.loop-st.stack c.if-m-eq0.stack c.loop-st.exec c.if-m-eq0.exec c.loop-st.dict c.if-m-eq0.dict c.loop-st.cells c.if-m-eq0.cells c.loop-st.log c.if-m-eq0.log c.if-m-eq0.stepped
+went c =
+    let run = one_run c.loop-st.invariant (may c) in
+    elim c.if-m-eq0.branch [
       | then-m-eq0 w ↦ let t = w.take-stepped in
           tried_by
           (record { tries = token_tries _ _ t.ensures; ls = t.auto.stack; le = t.auto.exec; ld = t.auto.dict; lc = t.auto.cells; ll = refl })
@@ -74,81 +79,24 @@ returns-then-now c =
           tried_by
           (record { tries = r.ensures.tries _ run.inside run.within; ls = r.auto.stack; le = r.auto.exec; ld = r.auto.dict; lc = r.auto.cells; ll = r.auto.log })
           w.stack-is w.exec-is w.dict-is w.cells-is w.log-is w.stepped-is
-    ] in
-    halts_from c.by_fields-st.ensures (halts_stopped c.loop-st.invariant c.is_finished.ensures c.if-is_finished.false (omega (arith, steps_left c.loop-st.invariant may, c.if-st-limit.false)) went c.in-Goes.is c.if-now.true)
+    ]
+
+pub returns-then-now : goal.returns-then-now
+returns-then-now c = let j = (goal.at.returns-then-now c).Joined-m-eq0 in
+    halts_from c.by_fields-st.ensures (halts_stopped c.loop-st.invariant c.is_finished.ensures c.if-is_finished.false (some_left j) (went j) c.in-Goes.is c.if-now.true)
 
 pub loop-st-smaller : goal.loop-st-smaller
-loop-st-smaller c =
-    let may = may_from c.by_fields-st.ensures c.requires in
-    let run = one_run c.loop-st.invariant may in
-    let at = c.loop-st in
-    let now = c.if-m-eq0 in
-    let went : Attempt c.args.script.now at.st at.stack now.stack at.exec now.exec at.dict now.dict at.cells now.cells at.log now.log now.stepped =
-    elim now.branch [
-      | then-m-eq0 w ↦ let t = w.take-stepped in
-          tried_by
-          (record { tries = token_tries _ _ t.ensures; ls = t.auto.stack; le = t.auto.exec; ld = t.auto.dict; lc = t.auto.cells; ll = refl })
-          w.stack-is w.exec-is w.dict-is w.cells-is w.log-is w.stepped-is
-      | else-m-eq0 w ↦ let r = w.resume-stepped in
-          tried_by
-          (record { tries = r.ensures.tries _ run.inside run.within; ls = r.auto.stack; le = r.auto.exec; ld = r.auto.dict; lc = r.auto.cells; ll = r.auto.log })
-          w.stack-is w.exec-is w.dict-is w.cells-is w.log-is w.stepped-is
-    ] in
-    steps_less c.loop-st.invariant c.is_finished.ensures c.if-is_finished.false (omega (arith, steps_left c.loop-st.invariant may, c.if-st-limit.false)) went c.in-Goes.is c.by_fields-st-in-Goes.ensures may
+loop-st-smaller c = let j = (goal.at.loop-st-smaller c).Joined-m-eq0 in
+    steps_less c.loop-st.invariant c.is_finished.ensures c.if-is_finished.false (some_left j) (went j) c.in-Goes.is c.by_fields-st-in-Goes.ensures (may j)
 
 pub loop-st-preserved : goal.loop-st-preserved
-loop-st-preserved c =
-    let may = may_from c.by_fields-st.ensures c.requires in
-    let run = one_run c.loop-st.invariant may in
-    let at = c.loop-st in
-    let now = c.if-m-eq0 in
-    let went : Attempt c.args.script.now at.st at.stack now.stack at.exec now.exec at.dict now.dict at.cells now.cells at.log now.log now.stepped =
-    elim now.branch [
-      | then-m-eq0 w ↦ let t = w.take-stepped in
-          tried_by
-          (record { tries = token_tries _ _ t.ensures; ls = t.auto.stack; le = t.auto.exec; ld = t.auto.dict; lc = t.auto.cells; ll = refl })
-          w.stack-is w.exec-is w.dict-is w.cells-is w.log-is w.stepped-is
-      | else-m-eq0 w ↦ let r = w.resume-stepped in
-          tried_by
-          (record { tries = r.ensures.tries _ run.inside run.within; ls = r.auto.stack; le = r.auto.exec; ld = r.auto.dict; lc = r.auto.cells; ll = r.auto.log })
-          w.stack-is w.exec-is w.dict-is w.cells-is w.log-is w.stepped-is
-    ] in
-    going_on c.loop-st.invariant c.is_finished.ensures c.if-is_finished.false (omega (arith, steps_left c.loop-st.invariant may, c.if-st-limit.false)) went c.in-Goes.is c.by_fields-st-in-Goes.ensures may c.if-now.false
+loop-st-preserved c = let j = (goal.at.loop-st-preserved c).Joined-m-eq0 in
+    going_on c.loop-st.invariant c.is_finished.ensures c.if-is_finished.false (some_left j) (went j) c.in-Goes.is c.by_fields-st-in-Goes.ensures (may j) c.if-now.false
 
 pub returns-in-Fails : goal.returns-in-Fails
-returns-in-Fails c =
-    let may = may_from c.by_fields-st.ensures c.requires in
-    let run = one_run c.loop-st.invariant may in
-    let at = c.loop-st in
-    let now = c.if-m-eq0 in
-    let went : Attempt c.args.script.now at.st at.stack now.stack at.exec now.exec at.dict now.dict at.cells now.cells at.log now.log now.stepped =
-    elim now.branch [
-      | then-m-eq0 w ↦ let t = w.take-stepped in
-          tried_by
-          (record { tries = token_tries _ _ t.ensures; ls = t.auto.stack; le = t.auto.exec; ld = t.auto.dict; lc = t.auto.cells; ll = refl })
-          w.stack-is w.exec-is w.dict-is w.cells-is w.log-is w.stepped-is
-      | else-m-eq0 w ↦ let r = w.resume-stepped in
-          tried_by
-          (record { tries = r.ensures.tries _ run.inside run.within; ls = r.auto.stack; le = r.auto.exec; ld = r.auto.dict; lc = r.auto.cells; ll = r.auto.log })
-          w.stack-is w.exec-is w.dict-is w.cells-is w.log-is w.stepped-is
-    ] in
-    halts_from c.by_fields-st.ensures (halts_failed c.loop-st.invariant c.is_finished.ensures c.if-is_finished.false (omega (arith, steps_left c.loop-st.invariant may, c.if-st-limit.false)) went c.in-Fails.is)
+returns-in-Fails c = let j = (goal.at.returns-in-Fails c).Joined-m-eq0 in
+    halts_from c.by_fields-st.ensures (halts_failed c.loop-st.invariant c.is_finished.ensures c.if-is_finished.false (some_left j) (went j) c.in-Fails.is)
 
 pub returns-in-Misreads : goal.returns-in-Misreads
-returns-in-Misreads c =
-    let may = may_from c.by_fields-st.ensures c.requires in
-    let run = one_run c.loop-st.invariant may in
-    let at = c.loop-st in
-    let now = c.if-m-eq0 in
-    let went : Attempt c.args.script.now at.st at.stack now.stack at.exec now.exec at.dict now.dict at.cells now.cells at.log now.log now.stepped =
-    elim now.branch [
-      | then-m-eq0 w ↦ let t = w.take-stepped in
-          tried_by
-          (record { tries = token_tries _ _ t.ensures; ls = t.auto.stack; le = t.auto.exec; ld = t.auto.dict; lc = t.auto.cells; ll = refl })
-          w.stack-is w.exec-is w.dict-is w.cells-is w.log-is w.stepped-is
-      | else-m-eq0 w ↦ let r = w.resume-stepped in
-          tried_by
-          (record { tries = r.ensures.tries _ run.inside run.within; ls = r.auto.stack; le = r.auto.exec; ld = r.auto.dict; lc = r.auto.cells; ll = r.auto.log })
-          w.stack-is w.exec-is w.dict-is w.cells-is w.log-is w.stepped-is
-    ] in
-    halts_from c.by_fields-st.ensures (halts_misread c.loop-st.invariant c.is_finished.ensures c.if-is_finished.false (omega (arith, steps_left c.loop-st.invariant may, c.if-st-limit.false)) went c.in-Misreads.is)
+returns-in-Misreads c = let j = (goal.at.returns-in-Misreads c).Joined-m-eq0 in
+    halts_from c.by_fields-st.ensures (halts_misread c.loop-st.invariant c.is_finished.ensures c.if-is_finished.false (some_left j) (went j) c.in-Misreads.is)

@@ -3,11 +3,11 @@
 use mathlib.Core.Path.{sym}
 use lib.Seq.{length-take-le}
 use native.Mathlib.Omega.{arith}
-use Rattle.runner.proofs.Answering.{refused, ready, answered}
+use Rattle.runner.proofs.Answering.{passed_on, ready, answered}
 use Rattle.runner.proofs.run.Goals as goal
 
-pub returns-then-number-gt0 : goal.returns-then-number-gt0
-returns-then-number-gt0 c = refused c.refusal-number.ensures c.if-number-gt0.true
+pub returns-in_err-check : goal.returns-in_err-check
+returns-in_err-check c = passed_on _ _ c.in_err-check.ensures c.from_residual.ensures.1
 
 pub overflow_mul-a : goal.overflow_mul-a
 overflow_mul-a c = omega arith
@@ -46,7 +46,7 @@ pub slice_bounds-carry_out-end-8 : goal.slice_bounds-carry_out-end-8
 slice_bounds-carry_out-end-8 c = sym (length-take-le _ c.args.cells.now (omega arith))
 
 pub carry_out-report-requires : goal.carry_out-report-requires
-carry_out-report-requires c = ready c.args.script.now c.args.fuel c.args.stack.now c.args.exec.now c.args.dict.now c.args.cells.now c.args.log.now c.args.outcome.now c.refusal-number.ensures (λ l. omega (arith, l))
+carry_out-report-requires c = ready c.args.script.now c.args.fuel c.args.stack.now c.args.exec.now c.args.dict.now c.args.cells.now c.args.log.now c.args.outcome.now c.in_ok-check.ensures
 
 pub shape_of-log : goal.shape_of-log
 shape_of-log c = c.carry_out-report.auto.log
@@ -55,4 +55,4 @@ pub shape_of-outcome : goal.shape_of-outcome
 shape_of-outcome c = c.carry_out-report.auto.outcome
 
 pub returns : goal.returns
-returns c = answered c.args.script.now c.args.fuel c.args.stack.now c.args.exec.now c.args.dict.now c.args.cells.now c.args.log.now c.args.outcome.now c.refusal-number.ensures (λ l. omega (arith, l)) c.carry_out-report.auto.stack c.carry_out-report.auto.exec c.carry_out-report.auto.dict c.carry_out-report.auto.cells c.carry_out-report.ensures
+returns c = answered c.args.script.now c.args.fuel c.args.stack.now c.args.exec.now c.args.dict.now c.args.cells.now c.args.log.now c.args.outcome.now c.in_ok-check.ensures c.carry_out-report.auto.stack c.carry_out-report.auto.exec c.carry_out-report.auto.dict c.carry_out-report.auto.cells c.carry_out-report.ensures

@@ -1,11 +1,7 @@
--- `stack_operators::double` meets its contract: the loop keeps `Doubling`, the copies made so far. The measure is what is left of n.
+-- `stack_operators::double` meets its contract: the loop keeps `Doubling`, the copies made so far.
 -- Assumes nothing.
 use Rattle.stack_operators.proofs.Doubling.{Doubling}
-use Prim.Native.Nat.{◌-◌}
 use Rattle.stack_operators.proofs.double.Given as goal
 
-abbrev pub invariant-loop-i : goal.invariant-loop-i
-invariant-loop-i l = Doubling l.n l.initial.r l.initial.stack l.initial.cells l.r l.stack l.cells l.i
-
-abbrev pub decreases-loop-i : goal.decreases-loop-i
-decreases-loop-i l = l.n - l.i
+abbrev pub invariant-loop : goal.invariant-loop
+invariant-loop l = Doubling l.n l.initial.r l.initial.stack l.initial.cells l.r l.stack l.cells l.counter

@@ -1,23 +1,25 @@
--- `stack_operators::dup` meets its contract: the sizes that it compares decide between the definition's errors and what `push_copy` does.
+-- `stack_operators::dup` meets its contract: the tests of depth and room decide between the definition's errors and what `push_copy` does.
 -- Assumes nothing.
 use Rattle.stack_operators.proofs.Returns.{dup_short, dup_over, dup_good}
-use borrow.Author.Rules.{rules}
+use native.Mathlib.Omega.{arith}
+use Rattle.std.proofs.lemmas.Result.{err_from_is_err_and}
 use Rattle.stack_operators.proofs.dup.Goals as goal
 
-pub returns-then-m-lt1 : goal.returns-then-m-lt1
-returns-then-m-lt1 c = dup_short c.if-m-lt1.true
+pub returns-in_err-needs : goal.returns-in_err-needs
+returns-in_err-needs c =
+    let p = err_from_is_err_and c.from_residual.result c.from_residual.ensures.1 in
+    rw (p.1, p.2, c.in_err-needs.ensures.1) (dup_short c.in_err-needs.ensures.0)
 
-pub returns-then-stack-m : goal.returns-then-stack-m
-returns-then-stack-m c = dup_over c.if-m-lt1.false c.if-stack-m.true
+pub has_room-requires : goal.has_room-requires
+has_room-requires c = c.requires.4.rooms.stack_fits
+
+pub returns-in_err-has_room : goal.returns-in_err-has_room
+returns-in_err-has_room c =
+    let p = err_from_is_err_and c.from_residual-in_err-has_room.result c.from_residual-in_err-has_room.ensures.1 in
+    rw (p.1, p.2, c.in_err-has_room.ensures.1) (dup_over c.in_ok-needs.ensures (omega (arith, c.in_err-has_room.ensures.0)))
 
 pub push_copy-requires : goal.push_copy-requires
-push_copy-requires c = (c.if-m-lt1.false, search rules, c.requires)
-
-pub shape_of-stack : goal.shape_of-stack
-shape_of-stack c = c.push_copy.auto.stack
-
-pub shape_of-cells : goal.shape_of-cells
-shape_of-cells c = c.push_copy.auto.cells
+push_copy-requires c = (c.in_ok-needs.ensures, omega (arith, c.in_ok-has_room.ensures), c.requires)
 
 pub returns : goal.returns
-returns c = dup_good c.if-m-lt1.false c.push_copy.ensures.moves_heap c.push_copy.auto.stack
+returns c = dup_good c.in_ok-needs.ensures c.push_copy.ensures.moves_heap c.push_copy.auto.stack

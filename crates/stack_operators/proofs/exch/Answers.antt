@@ -1,13 +1,13 @@
--- `stack_operators::exch` meets its contract: the depth that it tests decides between stackunderflow and what `swap` does.
+-- `stack_operators::exch` meets its contract: the test of depth decides between stackunderflow and what `swap` does.
 -- Assumes nothing.
 use Rattle.stack_operators.proofs.Returns.{exch_short, exch_good}
+use Rattle.std.proofs.lemmas.Result.{err_from_is_err_and}
 use Rattle.stack_operators.proofs.exch.Goals as goal
 
-pub returns-then-m-lt2 : goal.returns-then-m-lt2
-returns-then-m-lt2 c = exch_short c.if-m-lt2.true
-
-pub shape_of-stack : goal.shape_of-stack
-shape_of-stack c = c.swap.auto.stack
+pub returns-in_err-needs : goal.returns-in_err-needs
+returns-in_err-needs c =
+    let p = err_from_is_err_and c.from_residual.result c.from_residual.ensures.1 in
+    rw (p.1, p.2, c.in_err-needs.ensures.1) (exch_short c.in_err-needs.ensures.0)
 
 pub returns : goal.returns
-returns c = exch_good c.if-m-lt2.false c.swap.ensures.moves_stack c.swap.auto.stack
+returns c = exch_good c.in_ok-needs.ensures c.swap.ensures.moves_stack c.swap.auto.stack

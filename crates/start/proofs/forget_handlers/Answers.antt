@@ -11,9 +11,6 @@ loop-j-init c = clear_begin
 pub bounds-dict-j : goal.bounds-dict-j
 bounds-dict-j c = omega (arith, c.loop-j.invariant.long, c.loop-j-test.true, c.requires.0)
 
-pub loop-j-smaller : goal.loop-j-smaller
-loop-j-smaller c = omega (arith, c.loop-j-test.true)
-
 pub loop-j-preserved : goal.loop-j-preserved
 loop-j-preserved c = clear_again c.requires.0 c.loop-j.invariant c.loop-j-test.true
 

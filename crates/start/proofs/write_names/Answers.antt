@@ -23,9 +23,6 @@ bounds-dict-k-in-loop-k c = simp length-set (omega (arith, c.spell.auto.dict, c.
 pub overflow_add-at : goal.overflow_add-at
 overflow_add-at c = omega (arith, fill_inside c.loop-k.invariant c.loop-k-test.true c.blank_from-end.ensures)
 
-pub loop-k-smaller : goal.loop-k-smaller
-loop-k-smaller c = omega (arith, c.loop-k-test.true)
-
 pub loop-k-preserved : goal.loop-k-preserved
 loop-k-preserved c = fill_again c.loop-k.invariant c.loop-k-test.true c.blank_from-end.ensures c.spell.ensures c.spell.auto.dict c.requires.1 c.binding_tag.ensures c.binding_payload.ensures
 

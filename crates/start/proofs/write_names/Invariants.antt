@@ -1,12 +1,7 @@
 -- `write_names` meets its contract: the loop keeps `Filling`, that the first k slots are right and the rest of the list has the other names.
 -- Assumes nothing.
-use Rattle.semantics.specs.Sizes.{name_count}
 use Rattle.start.proofs.Filling.{Filling}
-use Prim.Native.Nat.{◌-◌}
 use Rattle.start.proofs.write_names.Given as goal
 
 abbrev pub invariant-loop-k : goal.invariant-loop-k
 invariant-loop-k l = Filling l.list l.initial.dict l.dict l.at l.k
-
-abbrev pub decreases-loop-k : goal.decreases-loop-k
-decreases-loop-k l = name_count - l.k

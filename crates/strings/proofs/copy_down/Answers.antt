@@ -1,4 +1,4 @@
--- `copy_down` meets its contract: the loop keeps `Copied`, that the bytes from byte j on are copied. The measure is j.
+-- `copy_down` meets its contract: the loop keeps `Copied`, that the bytes from byte j on are copied.
 -- Assumes nothing.
 use Rattle.strings.proofs.Copying.{small_target, small_source, begin_down, source_byte, target_byte, again_down, finish_down}
 use native.Mathlib.Omega.{arith}
@@ -6,9 +6,6 @@ use Rattle.strings.proofs.copy_down.Goals as goal
 
 pub loop-j-init : goal.loop-j-init
 loop-j-init c = (omega arith, begin_down c.requires.1 c.requires.2 c.requires.3)
-
-pub overflow_sub-j : goal.overflow_sub-j
-overflow_sub-j c = omega (arith, c.loop-j-test.true)
 
 pub overflow_add-start : goal.overflow_add-start
 overflow_add-start c = omega (arith, c.loop-j.invariant.0, small_source c.requires.1 c.requires.2 c.requires.3)
@@ -21,9 +18,6 @@ overflow_add-at c = omega (arith, c.loop-j.invariant.0, small_target c.requires.
 
 pub put_byte-requires : goal.put_byte-requires
 put_byte-requires c = (c.requires.1, target_byte c.requires.1 c.requires.2 c.requires.3 c.loop-j.invariant.1 (omega (arith, c.loop-j.invariant.0)) (omega (arith, c.loop-j.invariant.0)) _ (omega (arith, c.loop-j.invariant.0, c.loop-j-test.true)))
-
-pub loop-j-smaller : goal.loop-j-smaller
-loop-j-smaller c = omega (arith, c.loop-j-test.true)
 
 pub loop-j-preserved : goal.loop-j-preserved
 loop-j-preserved c = (omega (arith, c.loop-j.invariant.0), again_down c.requires.1 c.requires.2 c.requires.3 c.loop-j.invariant.1 c.requires.0 c.loop-j-test.true c.loop-j.invariant.0 c.get_byte-b.ensures c.put_byte.ensures c.put_byte.auto.cells)

@@ -1,4 +1,4 @@
--- `copy_up` meets its contract: the loop keeps `Copied`, that the first j bytes are copied. The measure is what is left of n.
+-- `copy_up` meets its contract: the loop keeps `Copied`, that the first j bytes are copied.
 -- Assumes nothing.
 use Rattle.strings.proofs.Copying.{small_target, small_source, begin_up, source_byte, target_byte, again_up, finish_up}
 use native.Mathlib.Omega.{arith}
@@ -18,12 +18,6 @@ overflow_add-at c = omega (arith, c.loop-j-test.true, small_target c.requires.1 
 
 pub put_byte-requires : goal.put_byte-requires
 put_byte-requires c = (c.requires.1, target_byte c.requires.1 c.requires.2 c.requires.3 c.loop-j.invariant.1 (omega (arith, c.loop-j.invariant.0)) (omega (arith, c.loop-j.invariant.0)) _ (omega (arith, c.loop-j-test.true)))
-
-pub overflow_add-j : goal.overflow_add-j
-overflow_add-j c = omega (arith, c.loop-j-test.true, small_target c.requires.1 c.requires.2 c.requires.3)
-
-pub loop-j-smaller : goal.loop-j-smaller
-loop-j-smaller c = omega (arith, c.loop-j-test.true)
 
 pub loop-j-preserved : goal.loop-j-preserved
 loop-j-preserved c = (omega (arith, c.loop-j-test.true), again_up c.requires.1 c.requires.2 c.requires.3 c.loop-j.invariant.1 c.requires.0 c.loop-j-test.true c.get_byte-b.ensures c.put_byte.ensures c.put_byte.auto.cells)

@@ -1,4 +1,4 @@
--- `read_bytes` meets its contract: the loop keeps `Reads`, that the bytes before byte q are read. The measure is what is left of them.
+-- `read_bytes` meets its contract: the loop keeps `Reads`, that the bytes before byte q are read.
 -- Assumes nothing.
 use Rattle.strings.proofs.Reading.{begin, has_byte, again, finish}
 use native.Mathlib.Omega.{arith}
@@ -12,9 +12,6 @@ get_byte-requires c = (c.requires.0, has_byte c.requires.2 c.loop-q-test.true)
 
 pub bounds-out-q : goal.bounds-out-q
 bounds-out-q c = omega (arith, c.requires.1, c.loop-q-test.true, c.loop-q.invariant.long)
-
-pub loop-q-smaller : goal.loop-q-smaller
-loop-q-smaller c = omega (arith, c.loop-q-test.true)
 
 pub loop-q-preserved : goal.loop-q-preserved
 loop-q-preserved c = again c.loop-q.invariant c.loop-q-test.true (omega (arith, c.requires.1, c.loop-q-test.true)) c.get_byte.ensures

@@ -1,4 +1,4 @@
--- `write_at` meets its contract: the loop keeps `Writing`, that the first q bytes stand in front. The measure is what is left of them.
+-- `write_at` meets its contract: the loop keeps `Writing`, that the first q bytes stand in front.
 -- Assumes nothing.
 use native.Mathlib.Omega.{arith}
 use Rattle.strings.proofs.Filling.{room_few, room_next}
@@ -15,9 +15,6 @@ overflow_cast-q c = omega (arith, room_few c.requires, c.loop-q-test.true)
 pub put_byte_at-requires : goal.put_byte_at-requires
 put_byte_at-requires c = let less = c.loop-q-test.true in
     room_next c.requires c.loop-q.invariant.fills (length-take-le _ _ c.loop-q.invariant.low) less
-
-pub loop-q-smaller : goal.loop-q-smaller
-loop-q-smaller c = omega (arith, c.loop-q-test.true)
 
 pub loop-q-preserved : goal.loop-q-preserved
 loop-q-preserved c = again c.loop-q.invariant c.loop-q-test.true c.put_byte_at.ensures c.put_byte_at.auto.cells

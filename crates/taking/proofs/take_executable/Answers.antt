@@ -3,11 +3,11 @@
 use Rattle.taking.proofs.Executing.{name_there, name_taken, name_missing}
 use Rattle.taking.proofs.take_executable.Goals as goal
 
-pub take_name-requires : goal.take_name-requires
-take_name-requires c = name_there c.find-slot.ensures.finds c.if-slot-m.true c.requires.1
+pub returns-in_default : goal.returns-in_default
+returns-in_default c = name_missing c.in_default.ensures.finds
 
-pub returns-then-slot-m : goal.returns-then-slot-m
-returns-then-slot-m c = name_taken c.find-slot.ensures.finds c.if-slot-m.true c.take_name.ensures
+pub take_name-requires : goal.take_name-requires
+take_name-requires c = name_there c.in-Some.ensures.finds c.in-Some.ensures.upper_bound c.requires.1
 
 pub returns : goal.returns
-returns c = name_missing c.find-slot.ensures.finds c.if-slot-m.false c.find-slot.ensures.upper_bound
+returns c = name_taken c.in-Some.ensures.finds c.in-Some.ensures.upper_bound c.take_name.ensures

@@ -1,24 +1,27 @@
 -- `take_literal` meets its contract: by whether the name has a slot, and each test of room in the definition's order.
 -- Assumes nothing.
-use Rattle.taking.proofs.Interning.{names_room, known_over, known_done, new_full, new_over, new_done}
+use Rattle.std.proofs.lemmas.Result.{err_from_is_err_and}
+use Rattle.taking.proofs.Interning.{known_over, known_done, new_full, new_over, new_done}
 use native.Mathlib.Omega.{arith}
 use Rattle.taking.proofs.take_literal.Goals as goal
 
-pub returns-then-stack-m : goal.returns-then-stack-m
-returns-then-stack-m c = known_over c.find-slot.ensures.finds c.if-slot-m.true c.if-stack-m.true
+pub returns-in_err-has_room : goal.returns-in_err-has_room
+returns-in_err-has_room c =
+    let p = err_from_is_err_and c.from_residual.result c.from_residual.ensures.1 in
+    rw (p.1, p.2, c.in_err-has_room.ensures.1) (known_over c.in-Some.ensures.finds c.in-Some.ensures.upper_bound (omega (arith, c.in_err-has_room.ensures.0)))
 
-pub returns-then-slot-m : goal.returns-then-slot-m
-returns-then-slot-m c = known_done c.find-slot.ensures.finds c.if-slot-m.true c.push_name.ensures.pushes_name c.push_name.auto.stack
+pub returns-in-Some : goal.returns-in-Some
+returns-in-Some c = known_done c.in-Some.ensures.finds c.in-Some.ensures.upper_bound c.push_name.ensures.pushes_name c.push_name.auto.stack
 
-pub returns-then-dict-m : goal.returns-then-dict-m
-returns-then-dict-m c = new_full c.find-slot.ensures.finds c.if-slot-m.false c.find-slot.ensures.upper_bound c.if-dict-m.true
+pub returns-in_err-has_free_name : goal.returns-in_err-has_free_name
+returns-in_err-has_free_name c =
+    let p = err_from_is_err_and c.from_residual-in_err-has_free_name.result c.from_residual-in_err-has_free_name.ensures.1 in
+    rw (p.1, p.2, c.in_err-has_free_name.ensures.1) (new_full c.in_default.ensures.finds c.in_err-has_free_name.ensures.0)
 
-pub returns-then-stack-m-2 : goal.returns-then-stack-m-2
-returns-then-stack-m-2 c = new_over c.find-slot.ensures.finds c.if-slot-m.false c.find-slot.ensures.upper_bound c.if-dict-m.false c.if-stack-m-2.true
-
-pub push_name-requires-2 : goal.push_name-requires-2
-push_name-requires-2 c = let room = names_room c.requires.1 in
-    (omega (arith, c.find-slot.ensures.upper_bound, c.if-dict-m.false, room.3), omega (arith, c.add-added.ensures.names_value.1, c.if-stack-m-2.false), room.1)
+pub returns-in_err-has_room-2 : goal.returns-in_err-has_room-2
+returns-in_err-has_room-2 c =
+    let p = err_from_is_err_and c.from_residual-in_err-has_room-2.result c.from_residual-in_err-has_room-2.ensures.1 in
+    rw (p.1, p.2, c.in_err-has_room-2.ensures.1) (new_over c.in_default.ensures.finds c.in_ok-has_free_name.ensures (omega (arith, c.in_err-has_room-2.ensures.0)))
 
 pub returns : goal.returns
-returns c = new_done c.find-slot.ensures.finds c.if-slot-m.false c.find-slot.ensures.upper_bound c.if-dict-m.false c.add-added.ensures.adds c.push_name-2.ensures.pushes_name c.push_name-2.auto.stack
+returns c = new_done c.in_default.ensures.finds c.in_ok-has_free_name.ensures c.add-added.ensures.adds c.push_name-2.ensures.pushes_name c.push_name-2.auto.stack

@@ -1,5 +1,6 @@
 -- `take_name` meets its contract: the tag of the slot's binding says whether the name is bound, and what is bound becomes pending.
 -- Assumes nothing.
+use Rattle.std.proofs.lemmas.Result.{err_from_is_err_and}
 use Rattle.taking.proofs.Executing.{name_room, name_unbound, name_full, name_bound, name_done}
 use native.Mathlib.Omega.{arith}
 use Rattle.taking.proofs.take_name.Goals as goal
@@ -19,17 +20,13 @@ bounds-dict-slot c = omega (arith, name_room c.requires)
 pub returns-then-dict-slot-eq-TAG_UNBOUND : goal.returns-then-dict-slot-eq-TAG_UNBOUND
 returns-then-dict-slot-eq-TAG_UNBOUND c = name_unbound c.if-dict-slot-eq-TAG_UNBOUND.true
 
-pub overflow_mul-m : goal.overflow_mul-m
-overflow_mul-m c = omega (arith, name_room c.requires)
-
-pub overflow_add-m : goal.overflow_add-m
-overflow_add-m c = omega (arith, name_room c.requires)
-
-pub returns-then-exec-m : goal.returns-then-exec-m
-returns-then-exec-m c = name_full c.if-dict-slot-eq-TAG_UNBOUND.false c.if-exec-m.true
+pub returns-in_err-has_slot : goal.returns-in_err-has_slot
+returns-in_err-has_slot c =
+    let p = err_from_is_err_and c.from_residual.result c.from_residual.ensures.1 in
+    rw (p.1, p.2, c.in_err-has_slot.ensures.1) (name_full c.if-dict-slot-eq-TAG_UNBOUND.false c.in_err-has_slot.ensures.0)
 
 pub pend_binding-requires : goal.pend_binding-requires
-pend_binding-requires c = (c.if-exec-m.false, name_bound c.if-dict-slot-eq-TAG_UNBOUND.false c.requires)
+pend_binding-requires c = (c.in_ok-has_slot.ensures, name_bound c.if-dict-slot-eq-TAG_UNBOUND.false c.requires)
 
 pub returns : goal.returns
 returns c = name_done c.if-dict-slot-eq-TAG_UNBOUND.false c.pend_binding.ensures.pends_binding c.pend_binding.auto.exec

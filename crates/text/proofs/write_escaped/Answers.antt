@@ -1,38 +1,24 @@
--- `text::write_escaped` meets its contract. The loop's invariant: the text of the first i bytes is written, and the buffer is as long as it was. The measure is what is left of the bytes.
+-- `text::write_escaped` meets its contract. The text of one byte more is what was written and that byte's text after it, within the whole text.
 -- Assumes nothing.
-use mathlib.Core.Path.{refl, ◌∙◌}
-use Prim.Native.Nat.{◌+◌}
-use native.Mathlib.Omega.{arith}
-use lib.Seq.{take_all}
+use Rattle.std.proofs.Common.{refl, ◌∙◌, ◌+◌, arith}
 use Rattle.semantics.specs.Printing.{escaped}
-use Rattle.text.specs.Writing.{byte_text}
 use Rattle.text.proofs.Pasting.{nothing}
 use Rattle.text.proofs.Escapes.{escaped_longer, escaped_part, escaped_next}
 use Rattle.text.proofs.write_escaped.Goals as goal
 
-pub loop-i-init : goal.loop-i-init
+pub loop-b-init : goal.loop-b-init
 unfolding escaped
-loop-i-init c = (omega arith, nothing _ _, refl)
+loop-b-init g c = record { written = nothing _ _; same_length = refl }
 
-pub bounds-s-i : goal.bounds-s-i
-bounds-s-i c = omega arith
-
-pub write_byte-next-requires : goal.write_byte-next-requires
-write_byte-next-requires c = let text = byte_text c.args.in_string in
+pub write-next-requires : goal.write-next-requires
+write-next-requires g c =
+    let text = g.E.Escape.text in
     let s = c.args.s.now in
-    omega (arith, escaped_longer text s c.loop-i.i c.loop-i-test.true, escaped_part text s (c.loop-i.i + 1), c.requires)
+    omega (arith, escaped_longer text s c.loop-b.b-index c.loop-b-test.true, escaped_part text s (c.loop-b.b-index + 1), c.requires, c.loop-b.invariant.written.end, c.loop-b.invariant.same_length)
 
-pub overflow_add-i : goal.overflow_add-i
-overflow_add-i c = omega arith
-
-pub loop-i-smaller : goal.loop-i-smaller
-loop-i-smaller c = omega arith
-
-pub loop-i-preserved : goal.loop-i-preserved
-loop-i-preserved c = (omega arith, escaped_next _ _ _ c.loop-i-test.true (omega (arith, c.requires)) c.loop-i.invariant.1 c.write_byte-next.ensures, c.write_byte-next.auto.out ∙ c.loop-i.invariant.2)
-
-pub shape_of-out : goal.shape_of-out
-shape_of-out c = c.loop-i.invariant.2
-
-pub returns : goal.returns
-returns c = rw (take_all _ _ c.loop-i-test.false) at c.loop-i.invariant.1
+pub loop-b-preserved : goal.loop-b-preserved
+loop-b-preserved g c =
+    record {
+      written = escaped_next _ _ _ c.loop-b-test.true (omega (arith, c.requires)) c.loop-b.invariant.written c.write-next.ensures;
+      same_length = c.write-next.auto.out ∙ c.loop-b.invariant.same_length;
+    }

@@ -1,14 +1,9 @@
--- `text::write_escaped` meets its contract. The loop's invariant: the text of the first i bytes is written, and the buffer is as long as it was. The measure is what is left of the bytes.
+-- `text::write_escaped` meets its contract. The loop's invariant: the text of the bytes so far is written, and the buffer is as long as it was.
 -- Assumes nothing.
-use mathlib.Core.Path.{◌≡◌}
-use Prim.Native.Nat.{◌-◌, ◌≤◌}
-use lib.ListN.{length, take}
+use Rattle.std.proofs.Common.{◌≡◌, length, take}
 use Rattle.semantics.specs.Printing.{escaped}
-use Rattle.text.specs.Writing.{Written, byte_text}
+use Rattle.text.specs.Writing.{Written}
 use Rattle.text.proofs.write_escaped.Given as goal
 
-abbrev pub invariant-loop-i : goal.invariant-loop-i
-invariant-loop-i l = (l.i ≤ length l.s) × Written l.at (escaped (byte_text l.in_string) (take l.i l.s)) l.initial.out l.out l.next × (length l.out ≡ length l.initial.out)
-
-abbrev pub decreases-loop-i : goal.decreases-loop-i
-decreases-loop-i l = length l.s - l.i
+abbrev pub invariant-loop-b : goal.invariant-loop-b
+invariant-loop-b g l = record { written : Written l.at (escaped g.E.Escape.text (take l.b-index l.s)) l.initial.out l.out l.next; same_length : length l.out ≡ length l.initial.out }

@@ -1,5 +1,6 @@
 -- `turns::for_turn` meets its contract: the loop goes where its number is beyond the final one or has left 32 bits, else the number is pushed, the slot reset and the body pending.
 -- Assumes nothing.
+use Rattle.std.proofs.lemmas.Result.{err_from_is_err_and}
 use Rattle.turns.proofs.Looping.{pushed_slots, for_stands, for_ends, for_full, for_over, for_goes, counted}
 use Prim.Native.Nat.{◌+◌, ◌-◌, ◌*◌}
 use native.Mathlib.Omega.{arith}
@@ -15,23 +16,29 @@ pub returns-then-is_over : goal.returns-then-is_over
 returns-then-is_over c = let pre = c.requires in
     for_ends pre.0 pre.1 (sym c.is_over.ensures ∙ c.if-is_over.true) c.drop_frame.ensures.moves_frames
 
-pub returns-then-exec-m : goal.returns-then-exec-m
-returns-then-exec-m c = let pre = c.requires in
-    for_full pre.0 pre.1 (c.type_inv.exec (8 * (c.args.m.frames - 1) + 3)).fits (sym c.is_over.ensures ∙ c.if-is_over.false) c.if-exec-m.true
+pub returns-in_err-has_slot : goal.returns-in_err-has_slot
+returns-in_err-has_slot c =
+    let pre = c.requires in
+    let fits : (i : ℕ) → Fits w32 (get_or c.args.exec.now i 0) = search rules in
+    let p = err_from_is_err_and c.from_residual.result c.from_residual.ensures.1 in
+    rw (p.1, p.2, c.in_err-has_slot.ensures.1) (for_full pre.0 pre.1 (fits (8 * (c.args.m.frames - 1) + 3)).fits (sym c.is_over.ensures ∙ c.if-is_over.false) c.in_err-has_slot.ensures.0)
 
-pub returns-then-stack-m : goal.returns-then-stack-m
-returns-then-stack-m c = let pre = c.requires in
-    for_over pre.0 pre.1 (c.type_inv.exec (8 * (c.args.m.frames - 1) + 3)).fits (sym c.is_over.ensures ∙ c.if-is_over.false) c.if-exec-m.false c.if-stack-m.true
+pub returns-in_err-has_room : goal.returns-in_err-has_room
+returns-in_err-has_room c =
+    let pre = c.requires in
+    let fits : (i : ℕ) → Fits w32 (get_or c.args.exec.now i 0) = search rules in
+    let p = err_from_is_err_and c.from_residual-in_err-has_room.result c.from_residual-in_err-has_room.ensures.1 in
+    rw (p.1, p.2, c.in_err-has_room.ensures.1) (for_over pre.0 pre.1 (fits (8 * (c.args.m.frames - 1) + 3)).fits (sym c.is_over.ensures ∙ c.if-is_over.false) c.in_ok-has_slot.ensures (omega (arith, c.in_err-has_room.ensures.0)))
 
 pub reset_top-requires : goal.reset_top-requires
 reset_top-requires c = let pre = c.requires in
-    let same = pushed_slots c.push_scalar-pushed.ensures.pushes pre.2 in (omega (arith, same, pre.0), omega (arith, same, c.if-exec-m.false))
+    let same = pushed_slots c.push_scalar-pushed.ensures.pushes pre.2 in (omega (arith, same, pre.0), omega (arith, same, c.in_ok-has_slot.ensures))
 
 pub pend_body-requires : goal.pend_body-requires
 pend_body-requires c = let pre = c.requires in
     let fits : (i : ℕ) → Fits w32 (get_or c.args.exec.now i 0) = search rules in
     let same = pushed_slots c.push_scalar-pushed.ensures.pushes pre.2 in
-    (omega (arith, same, pre.0), omega (arith, same, c.if-exec-m.false, c.reset_top.auto.exec), for_stands pre.0 c.push_scalar-pushed.ensures.pushes (counted c.args.exec.now (c.args.m.frames - 1) fits c.kind_after-kind.ensures c.add.ensures) c.reset_top.ensures.resets pre.2)
+    (omega (arith, same, pre.0), omega (arith, same, c.in_ok-has_slot.ensures, c.reset_top.auto.exec), for_stands pre.0 c.push_scalar-pushed.ensures.pushes (counted c.args.exec.now (c.args.m.frames - 1) fits c.kind_after-kind.ensures c.add.ensures) c.reset_top.ensures.resets pre.2)
 
 pub shape_of-stack : goal.shape_of-stack
 shape_of-stack c = c.push_scalar-pushed.auto.stack

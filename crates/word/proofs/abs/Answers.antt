@@ -1,11 +1,11 @@
--- `word::abs` meets its contract: below the sign bit the word is its integer, from there on its opposite is the absolute value.
+-- `word::abs` meets its contract: the machine's absolute value is at most 2 ^ 31, so that it is its own word.
 -- Assumes nothing.
-use Rattle.std.proofs.Common.{◌∙◌}
-use Rattle.word.proofs.Words.{abs_low, abs_high}
+use Rattle.std.proofs.Common.{nat_abs, ap, ◌∙◌}
+use Rattle.semantics.specs.Words.{signed}
+use Rattle.word.proofs.Signed.{reread}
+use Rattle.word.proofs.Words.{abs_is}
 use Rattle.word.proofs.abs.Goals as goal
 
-pub returns-then-a-lt-SIGN : goal.returns-then-a-lt-SIGN
-returns-then-a-lt-SIGN c = abs_low _ c.if-a-lt-SIGN.true
-
-pub returns-else-a-lt-SIGN : goal.returns-else-a-lt-SIGN
-returns-else-a-lt-SIGN c = c.neg.ensures ∙ abs_high _ c.if-a-lt-SIGN.false c.ranges.a.fits
+pub returns : goal.returns
+unfolding signed
+returns c = abs_is _ _ (c.unsigned_abs.ensures.value ∙ ap nat_abs (reread _ _ c.ranges.a c.cast_signed.ensures)) c.unsigned_abs.ensures.bound

@@ -1,8 +1,8 @@
 -- `word::add` meets its contract: the wrapping sum of two words is the word of the sum of their integers.
 -- Assumes nothing.
-use Rattle.std.proofs.Common.{sym, ◌∙◌}
+use Rattle.std.proofs.Common.{sym}
 use Rattle.word.proofs.Words.{word_add}
 use Rattle.word.proofs.add.Goals as goal
 
 pub returns : goal.returns
-returns c = c.wrapping_add_u32.ensures.value ∙ sym (word_add _ _ c.ranges.a.fits c.ranges.b.fits)
+returns c = sym (word_add _ _ c.ranges.a.fits c.ranges.b.fits)

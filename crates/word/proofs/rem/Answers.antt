@@ -1,21 +1,13 @@
--- `word::rem` meets its contract: by zero, at the corner, and elsewhere, where the machine's signed remainder is defined and fits.
+-- `word::rem` meets its contract: by zero there is none, and elsewhere the machine's wrapping remainder is the definition's.
 -- Assumes nothing.
 use lib.Signed.{rem_z}
-use Rattle.semantics.specs.Words.{word}
-use Rattle.word.proofs.Division.{by_zero, at_corner, operands, defined, rem_fits, divided}
+use Rattle.semantics.specs.Words.{signed}
+use Rattle.word.proofs.Division.{by_zero, remainder}
 use Rattle.word.proofs.rem.Goals as goal
-
-pub nonzero_rem-to_signed : goal.nonzero_rem-to_signed
-nonzero_rem-to_signed c = defined (operands c.ranges.a c.ranges.b c.to_signed.ensures c.to_signed-2.ensures c.if-b-eq0.false c.is_corner.ensures c.if-is_corner.false)
 
 pub returns-then-b-eq0 : goal.returns-then-b-eq0
 returns-then-b-eq0 c = by_zero rem_z _ _ c.if-b-eq0.true
 
-pub returns-then-is_corner : goal.returns-then-is_corner
-unfolding word
-returns-then-is_corner c = at_corner rem_z _ _ _ c.is_corner.ensures c.if-is_corner.true
-
 pub returns : goal.returns
-returns c =
-    let O = operands c.ranges.a c.ranges.b c.to_signed.ensures c.to_signed-2.ensures c.if-b-eq0.false c.is_corner.ensures c.if-is_corner.false in
-    divided O rem_z (rem_fits O) _ c.to_word.ensures
+unfolding signed
+returns c = remainder c.ranges.a c.ranges.b c.cast_signed.ensures c.cast_signed-2.ensures c.if-b-eq0.false c.wrapping_rem-remainder.ensures c.cast_unsigned.ensures

@@ -1,10 +1,8 @@
--- `word::shift_left` meets its contract: each way to an answer by its law.
+-- `word::shift_left` meets its contract: the machine's shift by less than 32, or 0.
 -- Assumes nothing.
-use Rattle.word.proofs.Shifts.{left_in, left_out}
+use Rattle.std.proofs.Common.{◌∙◌}
+use Rattle.word.proofs.Shifts.{left}
 use Rattle.word.proofs.shift_left.Goals as goal
 
-pub returns-then-s-gt-TOP : goal.returns-then-s-gt-TOP
-returns-then-s-gt-TOP c = left_out _ _ c.if-s-gt-TOP.true
-
 pub returns : goal.returns
-returns c = left_in _ _ c.if-s-gt-TOP.false
+returns c = c.unwrap_or.ensures ∙ left _ _ _ c.checked_shl.ensures

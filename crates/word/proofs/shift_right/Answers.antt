@@ -1,11 +1,9 @@
--- `word::shift_right` meets its contract: each way to an answer by its law.
+-- `word::shift_right` meets its contract: the machine's shift by the count, or by 31 where it is more.
 -- Assumes nothing.
-use Rattle.std.proofs.Common.{◌∙◌}
-use Rattle.word.proofs.Shifts.{right_in, right_out}
+use Rattle.semantics.specs.Words.{signed}
+use Rattle.word.proofs.Shifts.{right}
 use Rattle.word.proofs.shift_right.Goals as goal
 
-pub returns-then-s-gt-TOP : goal.returns-then-s-gt-TOP
-returns-then-s-gt-TOP c = c.to_word.ensures ∙ right_out _ _ _ c.ranges.a c.to_signed.ensures c.if-s-gt-TOP.true
-
 pub returns : goal.returns
-returns c = c.to_word-2.ensures ∙ right_in _ _ _ c.ranges.a c.to_signed-2.ensures c.if-s-gt-TOP.false
+unfolding signed
+returns c = right _ _ c.ranges.a c.cast_signed.ensures c.min.ensures c.cast_unsigned.ensures

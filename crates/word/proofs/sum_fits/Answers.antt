@@ -1,15 +1,11 @@
--- `word::sum_fits` meets its contract: the sum of two words is exact among the integers of 64 bits, and there it is tested.
+-- `word::sum_fits` meets its contract: the checked sum of the two integers is one exactly where it has 32 bits.
 -- Assumes nothing.
-use Rattle.std.proofs.Common.{◌+ℤ◌, ◌∙◌}
-use Rattle.word.proofs.Ranges.{Pair, roomy_add, op_fits, op_range}
+use Rattle.std.proofs.Common.{◌+ℤ◌, ap, ◌∙◌}
+use Rattle.semantics.specs.Words.{signed, in_range}
+use Rattle.word.proofs.Ranges.{range_is}
+use Rattle.word.proofs.Signed.{on_signed}
 use Rattle.word.proofs.sum_fits.Goals as goal
 
-pub overflow_add-wide : goal.overflow_add-wide
-overflow_add-wide c =
-    let P : Pair c.args.a c.args.b c.wide.result c.wide-2.result = record { a_fits = c.ranges.a; b_fits = c.ranges.b; x_is = c.wide.ensures; y_is = c.wide-2.ensures } in
-    op_fits P (λ x y. x +ℤ y) roomy_add
-
 pub returns : goal.returns
-returns c =
-    let P : Pair c.args.a c.args.b c.wide.result c.wide-2.result = record { a_fits = c.ranges.a; b_fits = c.ranges.b; x_is = c.wide.ensures; y_is = c.wide-2.ensures } in
-    c.has_32_bits.ensures ∙ op_range P (λ x y. x +ℤ y) roomy_add
+unfolding signed
+returns c = c.is_some.ensures ∙ range_is _ _ c.checked_add.ensures ∙ ap in_range (on_signed (λ x y. x +ℤ y) _ _ _ _ c.ranges.a c.ranges.b c.cast_signed.ensures c.cast_signed-2.ensures)

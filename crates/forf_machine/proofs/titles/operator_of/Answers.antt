@@ -9,4 +9,4 @@ pub returns-then-word-gt-LONGEST : goal.returns-then-word-gt-LONGEST
 returns-then-word-gt-LONGEST c = long_place _ c.if-word-gt-LONGEST.true
 
 pub returns : goal.returns
-returns c = c.number_of.ensures ∙ ap (key_place keys) c.key_of.ensures ∙ short_place _ c.if-word-gt-LONGEST.false (λ i. (c.type_inv.word i).fits)
+returns c = c.word_of.ensures ∙ ap (key_place keys) c.key_of.ensures ∙ short_place _ c.if-word-gt-LONGEST.false (λ i. (c.type_inv.word i).fits)

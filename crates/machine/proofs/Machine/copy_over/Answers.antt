@@ -1,16 +1,17 @@
--- `machine::Machine::copy_over` meets its contract: the item's place takes the copy's value, and its words are stored there.
+-- `machine::Machine::copy_over` meets its contract: item j's words are its value, to which item i gives way.
 -- Assumes nothing.
-use Rattle.machine.proofs.Copying.{over_placed, over_rep}
-use lib.ListN.{length-set}
+use Rattle.machine.specs.Moves.{copied_over}
+use Rattle.machine.proofs.Copying.{words_of}
 use native.Mathlib.Omega.{arith}
-use mathlib.Core.Path.{refl}
 use Rattle.machine.proofs.Machine.copy_over.Goals as goal
 
-pub recount-left-requires : goal.recount-left-requires
-recount-left-requires c = let R = c.requires.2.4 in over_placed R c.args.i _ c.args.j _ (omega (arith, c.requires.0)) (omega (arith, c.requires.1))
-
-pub bounds-stack-k-4 : goal.bounds-stack-k-4
-bounds-stack-k-4 c = simp length-set (omega (arith, c.requires.0, c.requires.2.4.rooms.stack_fits))
+pub put_value-requires : goal.put_value-requires
+put_value-requires c = let R = c.requires.2.4 in
+    (c.requires.0, (_, _, _, _, R, _, words_of R c.args.j _ (omega (arith, c.requires.1)) c.item-new.ensures.0 c.item-new.ensures.1))
 
 pub returns : goal.returns
-returns c = record { moves_heap = record { moves = λ e d l μ R. over_rep R c.args.i _ c.args.j _ (omega (arith, c.requires.0)) (omega (arith, c.requires.1)) c.recount-left.ensures }; depth_value = refl }
+unfolding copied_over
+returns c = record {
+  moves_heap = record { moves = λ e d l μ R. c.put_value.ensures.puts_value.moves e d l μ R _ (words_of R c.args.j _ (omega (arith, c.requires.1)) c.item-new.ensures.0 c.item-new.ensures.1) };
+  depth_value = c.put_value.ensures.depth_value;
+}

@@ -1,16 +1,18 @@
--- `machine::Machine::push_copy` meets its contract: the place above the topmost item takes the copy's value.
+-- `machine::Machine::push_copy` meets its contract: the item's words are its value, which is pushed.
 -- Assumes nothing.
-use Rattle.machine.proofs.Copying.{copy_placed, copy_rep}
-use lib.ListN.{length-set}
+use Rattle.machine.specs.Moves.{copied}
+use Rattle.semantics.specs.Machine.{push}
+use Rattle.machine.proofs.Copying.{words_of}
 use native.Mathlib.Omega.{arith}
-use mathlib.Core.Path.{refl}
 use Rattle.machine.proofs.Machine.push_copy.Goals as goal
 
-pub recount-left-requires : goal.recount-left-requires
-recount-left-requires c = let R = c.requires.2.4 in copy_placed R c.args.i _ (omega (arith, c.requires.0)) c.requires.1
-
-pub bounds-stack-n-2 : goal.bounds-stack-n-2
-bounds-stack-n-2 c = simp length-set (omega (arith, c.requires.1))
+pub push_value-requires : goal.push_value-requires
+push_value-requires c = let R = c.requires.2.4 in
+    (c.requires.1, (_, _, _, _, R, _, words_of R c.args.i _ (omega (arith, c.requires.0)) c.item-new.ensures.0 c.item-new.ensures.1))
 
 pub returns : goal.returns
-returns c = record { moves_heap = record { moves = λ e d l μ R. copy_rep R c.args.i _ (omega (arith, c.requires.0)) c.requires.1 c.recount-left.ensures }; depth_value = refl }
+unfolding copied push
+returns c = record {
+  moves_heap = record { moves = λ e d l μ R. c.push_value.ensures.pushes_value.moves e d l μ R _ (words_of R c.args.i _ (omega (arith, c.requires.0)) c.item-new.ensures.0 c.item-new.ensures.1) };
+  depth_value = c.push_value.ensures.depth_value.0;
+}

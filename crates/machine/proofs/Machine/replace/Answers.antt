@@ -2,12 +2,8 @@
 -- Assumes nothing.
 use Prim.Native.Nat.{◌-◌}
 use Rattle.machine.proofs.Operands.{replaced}
-use lib.ListN.{length-set}
 use native.Mathlib.Omega.{arith}
 use Rattle.machine.proofs.Machine.replace.Goals as goal
 
-pub bounds-stack-i-2 : goal.bounds-stack-i-2
-bounds-stack-i-2 c = simp length-set (omega arith)
-
 pub returns : goal.returns
-returns c = record { does = λ sc old rest len a e d k l μ s R. replaced R (c.args.self.depth - c.args.n) _ _ _ (omega (arith, c.requires.2)) c.requires.1 sc old rest len a s }
+returns c = record { does = λ sc old rest len a e d k l μ s R. rw c.set_item.ensures (replaced R (c.args.self.depth - c.args.n) _ _ _ (omega (arith, c.requires.2)) c.requires.1 sc old rest len a s) }

@@ -6,4 +6,4 @@ use mathlib.Core.Path.{ap}
 use Rattle.step.proofs.State.by_fields.Goals as goal
 
 pub returns : goal.returns
-returns c = ap {B = State} (λ (m : Machine). record { machine = m; next = c.args.self.next; at = c.args.self.at; steps = c.args.self.steps }) c.fields-m.ensures
+returns c = ap {B = State} (λ (m : Machine). record { machine = m; next = c.args.self.next; at = c.args.self.at; steps = c.args.self.steps }) c.fields.ensures

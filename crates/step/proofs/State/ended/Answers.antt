@@ -8,11 +8,11 @@ use Rattle.step.proofs.State.ended.Goals as goal
 pub overflow_add-result : goal.overflow_add-result
 overflow_add-result c = omega (arith, c.requires)
 
-pub overflow_add-result-in-Fail : goal.overflow_add-result-in-Fail
-overflow_add-result-in-Fail c = omega (arith, c.requires)
+pub overflow_add-result-in-Err : goal.overflow_add-result-in-Err
+overflow_add-result-in-Err c = omega (arith, c.requires)
 
 pub returns-in-Ok : goal.returns-in-Ok
 returns-in-Ok c = sym (ap (ended_by c.args.self c.args.at c.args.next c.args.command) c.in-Ok.is)
 
-pub returns-in-Fail : goal.returns-in-Fail
-returns-in-Fail c = sym (ap (ended_by c.args.self c.args.at c.args.next c.args.command) c.in-Fail.is)
+pub returns-in-Err : goal.returns-in-Err
+returns-in-Err c = sym (ap (ended_by c.args.self c.args.at c.args.next c.args.command) c.in-Err.is)

@@ -5,25 +5,19 @@ use mathlib.Core.Path.{sym, ap, ◌∙◌}
 use Rattle.step.proofs.State.grouped.Goals as goal
 
 pub ended-requires : goal.ended-requires
-ended-requires c = let pre = c.requires in
-    pre
+ended-requires c = c.requires
 
-pub ended-requires-in-Fail : goal.ended-requires-in-Fail
-ended-requires-in-Fail c = let pre = c.requires in
-    pre
+pub ended-requires-in-Err-Failed : goal.ended-requires-in-Err-Failed
+ended-requires-in-Err-Failed c = c.requires
 
 pub misread-requires : goal.misread-requires
-misread-requires c = let pre = c.requires in
-    pre
+misread-requires c = c.requires
 
-pub returns-in-Done : goal.returns-in-Done
-returns-in-Done c = let args = c.args in
-    c.ended.ensures ∙ sym (ap (grouped_by args.self args.at) c.in-Done.is)
+pub returns-in-Ok : goal.returns-in-Ok
+returns-in-Ok c = c.ended.ensures ∙ sym (ap (grouped_by c.args.self c.args.at) c.in-Ok.is)
 
-pub returns-in-Fail : goal.returns-in-Fail
-returns-in-Fail c = let args = c.args in
-    c.ended-in-Fail.ensures ∙ sym (ap (grouped_by args.self args.at) c.in-Fail.is)
+pub returns-in-Err-Failed : goal.returns-in-Err-Failed
+returns-in-Err-Failed c = let q = rw c.in-Err-Failed.is at c.in-Err-Failed.field-0-is in rw (c.in-Err-Failed.is, q) c.ended-in-Err-Failed.ensures
 
-pub returns-in-Misread : goal.returns-in-Misread
-returns-in-Misread c = let args = c.args in
-    c.misread.ensures ∙ sym (ap (grouped_by args.self args.at) c.in-Misread.is)
+pub returns-in-Err-Misread : goal.returns-in-Err-Misread
+returns-in-Err-Misread c = let q = rw c.in-Err-Misread.is at c.in-Err-Misread.field-0-is in rw (c.in-Err-Misread.is, q) c.misread.ensures

@@ -11,15 +11,15 @@ ended-requires c = c.requires.1.1.few
 
 pub command-failed-requires : goal.command-failed-requires
 command-failed-requires c = let pre = c.requires in
-    (pre.0, command_there c.in-Fail.is c.act.ensures pre.1.1.machine.0 pre.1.1.machine.1)
+    (pre.0, command_there c.in-Err.is c.act.ensures pre.1.1.machine.0 pre.1.1.machine.1)
 
-pub ended-requires-in-Fail : goal.ended-requires-in-Fail
-ended-requires-in-Fail c = c.requires.1.1.few
+pub ended-requires-in-Err : goal.ended-requires-in-Err
+ended-requires-in-Err c = c.requires.1.1.few
 
 pub returns-in-Ok : goal.returns-in-Ok
 returns-in-Ok c = let pre = c.requires in
     record { tries = λ script inside within. acted pre.0 inside within c.act.ensures c.in-Ok.is c.ended.ensures }
 
-pub returns-in-Fail : goal.returns-in-Fail
-returns-in-Fail c = let pre = c.requires in
-    record { tries = λ script inside within. failing pre.0 inside within c.act.ensures c.in-Fail.is pre.1.1.machine.0 pre.1.1.machine.1 c.command-failed.ensures c.ended-in-Fail.ensures }
+pub returns-in-Err : goal.returns-in-Err
+returns-in-Err c = let pre = c.requires in
+    record { tries = λ script inside within. failing pre.0 inside within c.act.ensures c.in-Err.is pre.1.1.machine.0 pre.1.1.machine.1 c.command-failed.ensures c.ended-in-Err.ensures }

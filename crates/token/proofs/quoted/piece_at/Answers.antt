@@ -7,32 +7,20 @@ use Rattle.token.proofs.quoted.piece_at.Goals as goal
 pub loop-i-init : goal.loop-i-init
 loop-i-init c = reading_starts _ _ c.requires
 
-pub act_on-act-requires : goal.act_on-act-requires
-act_on-act-requires c = c.loop-i.invariant.small
-
-pub overflow_add-i : goal.overflow_add-i
-overflow_add-i c = omega arith
-
 pub returns-in-Byte : goal.returns-in-Byte
-returns-in-Byte c = reading_byte c.loop-i.invariant c.loop-i-test.true c.act_on-act.ensures c.in-Byte.is
-
-pub loop-i-smaller : goal.loop-i-smaller
-loop-i-smaller c = omega arith
+returns-in-Byte c = reading_byte c.loop-i.invariant (omega arith) c.act_on.ensures c.in-Byte.is
 
 pub loop-i-preserved : goal.loop-i-preserved
-loop-i-preserved c = reading_go c.loop-i.invariant c.loop-i-test.true c.act_on-act.ensures c.in-Go.is
+loop-i-preserved c = reading_go c.loop-i.invariant (omega arith) c.act_on.ensures c.in-Go.is
 
 pub returns-in-Close : goal.returns-in-Close
-returns-in-Close c = reading_close c.loop-i.invariant c.loop-i-test.true c.act_on-act.ensures c.in-Close.is
+returns-in-Close c = reading_close c.loop-i.invariant (omega arith) c.act_on.ensures c.in-Close.is
 
 pub returns-in-Cut : goal.returns-in-Cut
-returns-in-Cut c = reading_cut c.loop-i.invariant c.loop-i-test.true c.act_on-act.ensures c.in-Cut.is
-
-pub overflow_sub-result : goal.overflow_sub-result
-overflow_sub-result c = omega arith
+returns-in-Cut c = reading_cut c.loop-i.invariant (omega arith) c.act_on.ensures c.in-Cut.is
 
 pub returns-in-Bad : goal.returns-in-Bad
-returns-in-Bad c = reading_bad c.loop-i.invariant c.loop-i-test.true c.act_on-act.ensures c.in-Bad.is
+returns-in-Bad c = reading_bad c.loop-i.invariant (omega arith) c.act_on.ensures c.in-Bad.is
 
 pub returns : goal.returns
-returns c = reading_ends c.loop-i.invariant c.loop-i-test.false
+returns c = reading_ends c.loop-i.invariant (omega arith)

@@ -1,12 +1,7 @@
 -- `token::quoted::piece_at` meets its contract. The loop's invariant: up to i the string gave no byte, and the machine is in the state.
 -- Assumes nothing.
-use Prim.Native.Nat.{◌-◌}
-use lib.ListN.{length}
 use Rattle.token.proofs.Escapes.{Reading}
 use Rattle.token.proofs.quoted.piece_at.Given as goal
 
 abbrev pub invariant-loop-i : goal.invariant-loop-i
 invariant-loop-i l = Reading l.script l.at l.i l.met
-
-abbrev pub decreases-loop-i : goal.decreases-loop-i
-decreases-loop-i l = length l.script - l.i
