@@ -107,6 +107,15 @@ module _ (b : List Record) (n : ℕ) (r : Record) (few : n ≤ room_of (length b
         refl,
       )
 
+  -- the same by the time at the place, as `time_at` promises it
+  pub judged_at : {p room k : ℕ} {f : Fate} → position (λ (s : Record). eqb s.number r.number) (take n b) ≡ Some p → room ≡ room_of (length b)
+      → k ≡ cond (ltb p n) (get_or b p blank).time 0 → f ≡ fate_of true k r.time n room
+      → (f ≡ fate_in b n r) × (p ≡ its) × (n ≡ n)
+  judged_at {p} {room} e m u h =
+      let at = found_some b n r.number all e in
+      let l : p < n = omega (arith, at.0, at.1) in
+      judged_some blank e m (h ∙ ap (λ (q : ℕ). fate_of true q r.time n room) (u ∙ ap (λ (c : Bool). cond c (get_or b p blank).time 0) (lt-ltb p n l)))
+
   pub judged_none : {room : ℕ} {f : Fate} → position (λ (s : Record). eqb s.number r.number) (take n b) ≡ None → room ≡ room_of (length b) → f ≡ fate_of false 0 r.time n room
       → (f ≡ fate_in b n r) × (n ≡ its) × (n ≡ n)
   unfolding fate_in fate_of

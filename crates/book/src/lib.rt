@@ -1,7 +1,7 @@
 // The lent book of records, one for each socket: whether it is sound, and what an entry does to it (02, W3).
 #![tactic(auto)]
 
-ghost use Rattle.std.specs.Prelude.{◌≡◌, ◌==◌, ◌&&◌, ◌+◌, ◌≤◌, ◌<◌, length, get_or, set, eqb, is_some, unwrap_or, position};
+ghost use Rattle.std.specs.Prelude.{◌≡◌, ◌==◌, ◌&&◌, cond, ◌+◌, ◌≤◌, ◌<◌, length, get_or, set, ltb, eqb, is_some, unwrap_or, position};
 ghost use Rattle.std.specs.Option.{ForSome};
 ghost use Rattle.book.specs.Books.{blank, room_of, in_range, is_sound, place_of};
 ghost use Rattle.book.specs.Fates.{fate_of, fate_in, Enters};
@@ -55,6 +55,18 @@ pub fn find(book: &[Record], number: u32) -> Option<usize>
     ensures { result ≡ position (λ r. r.number == number) book.now }
 {
     book.iter().position(|r| r.number == number)
+}
+
+// The time of one of the first `count` records; 0 past them.
+// Ruled out: the time of a neighbour; a read past the records that count.
+pub fn time_at(book: &[Record], count: usize, at: usize) -> u32
+    requires { count ≤ length book.now }
+    ensures { result ≡ cond (ltb at count) (get_or book.now at blank).time 0 }
+{
+    if at < count {
+        return book[at].time;
+    }
+    0
 }
 
 // A record takes the place of another.
@@ -152,7 +164,7 @@ fn judge(book: &[Record], count: usize, entry: Record) -> Entered
     let room = room_of(book.len());
     match find(&book[..count], entry.number) {
         Some(at) => Entered {
-            fate: decide(Some(book[at].time), entry.time, count, room),
+            fate: decide(Some(time_at(book, count, at)), entry.time, count, room),
             at,
             count,
         },
