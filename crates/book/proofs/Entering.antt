@@ -27,16 +27,16 @@ module _ (b : List Record) (e : Record) (n : ℕ) (o : Option Record) (r : Enter
   pub replaced_at : r.fate ≡ Replaces → r.at < length b
   replaced_at f = omega (arith, j.1, (replaces_fate b n e (ap is_replacing (sym j.0 ∙ f))).0, few, (room_within (length b)).0)
 
-  pub replaced : r.fate ≡ Replaces → Enters o n b (set b r.at e) (Some r)
+  pub replaced : {b' : List Record} → r.fate ≡ Replaces → b' ≡ set b r.at e → Enters o n b b' (Some r)
   unfolding book_with
-  replaced f = entered Replaces f j.2 refl
+  replaced f k = entered Replaces f j.2 k
 
   pub added_at : r.fate ≡ Adds → n < length b
   added_at f = omega (arith, (adds_fate b n e (ap is_adding (sym j.0 ∙ f))).1, (room_within (length b)).0)
 
-  pub added : r.fate ≡ Adds → Enters o n b (set b n e) (Some (record { fate = r.fate; at = r.at; count = n + 1 }))
+  pub added : {b' : List Record} {m : ℕ} → r.fate ≡ Adds → (m ≡ n + 1) × (b' ≡ set b n e) → Enters o n b b' (Some (record { fate = r.fate; at = r.at; count = m }))
   unfolding book_with
-  added f = entered Adds f refl (ap (λ (p : ℕ). set b p e) (sym (adds_fate b n e (ap is_adding (sym j.0 ∙ f))).0 ∙ sym j.1))
+  added f k = entered Adds f k.0 (k.1 ∙ ap (λ (p : ℕ). set b p e) (sym (adds_fate b n e (ap is_adding (sym j.0 ∙ f))).0 ∙ sym j.1))
 
   pub late : r.fate ≡ Late → Enters o n b b (Some r)
   unfolding book_with

@@ -1,6 +1,6 @@
 -- The search of a record by its number, as `find` makes it among the records that count.
 -- Assumes nothing.
-use Rattle.std.proofs.Common.{◌≡◌, ap, sym, ◌∙◌, refl, Bool, true, false, cond, Option, Some, None, List, ℕ, ◌≤◌, ◌<◌, length, get_or, take, is_some, unwrap_or, not, ◌&&◌, ap₂, ltb, eqb, arith, eq-eqb, ltb-true, ltb-false}
+use Rattle.std.proofs.Common.{◌≡◌, ap, sym, ◌∙◌, refl, Bool, true, false, cond, Option, Some, None, List, ℕ, ◌-◌, ◌≤◌, ◌<◌, length, get_or, take, is_some, unwrap_or, not, ◌&&◌, ap₂, ltb, eqb, arith, eq-eqb, ltb-true, ltb-false}
 use Rattle.std.specs.List.{position, position_or_len}
 use Rattle.std.proofs.lemmas.Option.{none-some}
 use Rattle.std.proofs.lemmas.List.{length-take-le, get_or-take, get_or_default}
@@ -13,6 +13,13 @@ use Rattle.book.specs.declared.Fate.{Fate}
 use Rattle.book.specs.SearchLaws.{number_at}
 use Rattle.book.proofs.SearchLaws.{place_finds}
 use Rattle.book.proofs.SoundLaws.{room_within}
+
+-- none is left
+pub found_none : (book : List Record) (i count number : ℕ) → count ≤ i → found_from book i (count - i) number ≡ i
+unfolding found_from
+found_none book i count number l =
+    let none : count - i ≡ 0 = omega (arith, l) in
+    ap (λ n. found_from book i n number) none
 
 module _ (b : List Record) (n k : ℕ) (few : n ≤ length b) where
   abbrev has : Record → Bool
@@ -51,8 +58,8 @@ module _ (b : List Record) (n k : ℕ) (few : n ≤ length b) where
       by true h q = (ap (λ o. unwrap_or o 0) q, ltb-true at n h)
       by false h q = absurd (none-some p q)
 
-  pub found_none : position has (take n b) ≡ None → at ≡ n
-  found_none e = by (ltb at n) refl (sym position_place ∙ e)
+  pub not_found : position has (take n b) ≡ None → at ≡ n
+  not_found e = by (ltb at n) refl (sym position_place ∙ e)
     where
       by : (t : Bool) → ltb at n ≡ t → cond t (Some at) None ≡ None → at ≡ n
       by true h q = absurd (none-some at (sym q))
@@ -100,11 +107,20 @@ module _ (b : List Record) (n : ℕ) (r : Record) (few : n ≤ room_of (length b
         refl,
       )
 
+  -- the same by the time at the place, as `time_at` promises it
+  pub judged_at : {p room k : ℕ} {f : Fate} → position (λ (s : Record). eqb s.number r.number) (take n b) ≡ Some p → room ≡ room_of (length b)
+      → k ≡ cond (ltb p n) (get_or b p blank).time 0 → f ≡ fate_of true k r.time n room
+      → (f ≡ fate_in b n r) × (p ≡ its) × (n ≡ n)
+  judged_at {p} {room} e m u h =
+      let at = found_some b n r.number all e in
+      let l : p < n = omega (arith, at.0, at.1) in
+      judged_some blank e m (h ∙ ap (λ (q : ℕ). fate_of true q r.time n room) (u ∙ ap (λ (c : Bool). cond c (get_or b p blank).time 0) (lt-ltb p n l)))
+
   pub judged_none : {room : ℕ} {f : Fate} → position (λ (s : Record). eqb s.number r.number) (take n b) ≡ None → room ≡ room_of (length b) → f ≡ fate_of false 0 r.time n room
       → (f ≡ fate_in b n r) × (n ≡ its) × (n ≡ n)
   unfolding fate_in fate_of
   judged_none e m h =
-      let none = found_none b n r.number all e in (
+      let none = not_found b n r.number all e in (
         h ∙ ap (λ (k : ℕ). fate_of false 0 r.time n k) m
             ∙ ap (λ (t : Bool). fate_of t (get_or b its blank).time r.time n (room_of (length b))) (sym (le-ltb its n (omega (arith, none)))),
         sym none,

@@ -1,5 +1,5 @@
 pub mod SearchLaws
 pub mod SoundLaws
-mod Finding
+pub mod Finding
 pub mod BookLaws
 mod Entering

@@ -1,7 +1,7 @@
 // The lent book of records, one for each socket: whether it is sound, and what an entry does to it (02, W3).
 #![tactic(auto)]
 
-ghost use Rattle.std.specs.Prelude.{◌≡◌, ◌==◌, ◌&&◌, ◌≤◌, ◌<◌, length, get_or, eqb, is_some, unwrap_or, position};
+ghost use Rattle.std.specs.Prelude.{◌≡◌, ◌==◌, ◌&&◌, cond, ◌+◌, ◌≤◌, ◌<◌, length, get_or, set, ltb, eqb, is_some, unwrap_or, position};
 ghost use Rattle.std.specs.Option.{ForSome};
 ghost use Rattle.book.specs.Books.{blank, room_of, in_range, is_sound, place_of};
 ghost use Rattle.book.specs.Fates.{fate_of, fate_in, Enters};
@@ -57,6 +57,37 @@ pub fn find(book: &[Record], number: u32) -> Option<usize>
     book.iter().position(|r| r.number == number)
 }
 
+// The time of one of the first `count` records; 0 past them.
+// Ruled out: the time of a neighbour; a read past the records that count.
+pub fn time_at(book: &[Record], count: usize, at: usize) -> u32
+    requires { count ≤ length book.now }
+    ensures { result ≡ cond (ltb at count) (get_or book.now at blank).time 0 }
+{
+    if at < count {
+        return book[at].time;
+    }
+    0
+}
+
+// A record takes the place of another.
+// Ruled out: a second record changed; a byte of the place left as it was.
+pub fn replace(book: &mut [Record], at: usize, entry: Record)
+    requires { at < length book.old }
+    ensures { book.new ≡ set book.old at entry }
+{
+    book[at] = entry;
+}
+
+// A record goes after the last; the new count.
+// Ruled out: the last record overwritten; the count as it was.
+pub fn append(book: &mut [Record], count: usize, entry: Record) -> usize
+    requires { count < length book.old }
+    ensures { (result ≡ count + 1) × (book.new ≡ set book.old count entry) }
+{
+    book[count] = entry;
+    count + 1
+}
+
 // The late decision: the socket's stored time, if it is in the book, the scan's time, how many records there are and how many fit.
 // Ruled out: an equal time that replaces; a full book that refuses a later scan of a socket in it.
 #[tactic(auto, unfolding(crate::specs::Fates::fate_of))]
@@ -97,16 +128,13 @@ pub fn enter(book: &mut [Record], count: usize, entry: Option<Record>) -> Option
     let judged = judge(book, count, entry);
     Some(match judged.fate {
         Fate::Replaces => {
-            book[judged.at] = entry;
+            replace(book, judged.at, entry);
             judged
         }
-        Fate::Adds => {
-            book[count] = entry;
-            Entered {
-                count: count + 1,
-                ..judged
-            }
-        }
+        Fate::Adds => Entered {
+            count: append(book, count, entry),
+            ..judged
+        },
         Fate::Late | Fate::Full => judged,
     })
 }
@@ -136,7 +164,7 @@ fn judge(book: &[Record], count: usize, entry: Record) -> Entered
     let room = room_of(book.len());
     match find(&book[..count], entry.number) {
         Some(at) => Entered {
-            fate: decide(Some(book[at].time), entry.time, count, room),
+            fate: decide(Some(time_at(book, count, at)), entry.time, count, room),
             at,
             count,
         },

@@ -3,8 +3,8 @@
 use mathlib.Core.Path.{◌≡◌, refl, sym, ap, subst, ◌∙◌}
 use mathlib.Core.Bool.{Bool, true, false, cond}
 use mathlib.Core.List.{List, [], ◌∷◌, ◌++◌, map, reverse, reverse-cons, reverse-reverse, append_assoc}
-use Prim.Native.Nat.{ℕ, zero, suc, ◌+◌, ◌-◌, ◌*◌, ◌/◌, ◌%◌, ◌^◌, ◌≤◌, ◌<◌}
-use native.Mathlib.Nat.{pow-suc, pow-le-pow_right}
+use Prim.Native.Nat.{ℕ, zero, suc, ◌+◌, ◌-◌, ◌*◌, ◌/◌, ◌%◌, ◌^◌, ◌≤◌, ◌<◌, min}
+use native.Mathlib.Nat.{pow-suc, pow-le-pow_right, zero-min, suc-min-suc}
 use native.Mathlib.Numerals.{add-one}
 use native.Mathlib.Omega.{arith}
 use lib.ListN.{length, get_or, drop, drop_of_length-le}
@@ -199,6 +199,17 @@ pub key_rest : (key : ℕ) → Without (reverse keys) key → 26 ≡ key_place k
 unfolding keys titles table ◌is◌ key_of key_from textual
 key_rest key w = sym (no_place keys key (subst (All (λ (v : ℕ). key ≡ v → ⊥)) (reverse-reverse keys) (all_reverse (without_all (reverse keys) key w))))
 
+-- ---- a number past the table, as the table's length
+
+clipped : (fs : List Operator) (k : ℕ) → get_or fs (min k (length fs)) undefined ≡ get_or fs k undefined
+clipped [] k = refl
+clipped (f ∷ fs) zero = rw (zero-min (suc (length fs))) refl
+clipped (f ∷ fs) (suc k) = rw (suc-min-suc k (length fs)) (clipped fs k)
+
+same_action : (k : ℕ) {p : ℕ} → p ≡ min k 26 → action_at p ≡ action_at k
+unfolding action_at table ◌is◌
+same_action k q = ap action_at q ∙ clipped (map (λ (e : Entry). e.action) table) k
+
 -- ---- a word of a `match`
 
 module _ (m : Machine) (s e mem : List ℕ) where
@@ -210,3 +221,8 @@ module _ (m : Machine) (s e mem : List ℕ) where
   pub no_word : {o : Option Word} → o ≡ None → Does (action_at (place_of o)) m s s e e mem mem (Err Undefined)
   unfolding action_at table undefined
   no_word p = record { does = λ script R. (failed s e (ap (λ o. action_at (place_of o) (machine_of script m s e mem)) p), refl, refl) }
+
+  -- The word of a number.
+  pub by_number : (k : ℕ) (o : Option Word) {s' e' mem' : List ℕ} {r : Acted}
+      → place_of o ≡ min k 26 → Does (action_at (place_of o)) m s s' e e' mem mem' r → Does (action_at k) m s s' e e' mem mem' r
+  by_number k o {s'} {e'} {mem'} {r} q D = subst (λ (g : Operator). Does g m s s' e e' mem mem' r) (same_action k q) D

@@ -1,4 +1,4 @@
--- The words are all that the definition's table has: whatever number is asked for, an argument of `perform` does what the number does.
+-- The words are all that the definition's table has: whatever number is asked for, an argument of `perform_word` does what the number does.
 -- Assumes nothing.
 use Rattle.std.specs.Prelude.{◌≡◌, refl, List, [], ◌∷◌, map, ℕ, zero, suc, get_or, Option, Some, None}
 use Rattle.forf_semantics.specs.Operators.{◌is◌, table}

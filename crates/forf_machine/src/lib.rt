@@ -15,6 +15,7 @@ use semantics::{EXEC_WIDTH, STACK_WIDTH};
 
 mod titles;
 
+use titles::word_at;
 pub use titles::{Word, operator_of};
 
 // What the first word of a stack slot says that the second is: an integer's 32 bits, or the offset after a substack's brace.
@@ -106,8 +107,23 @@ impl Machine {
 
 // ---- the words
 
-// A word acts; no word is undefined.
+// The word of a number acts: the numbers are the places in the definition's table.
+// Ruled out: another number's word; a word for a number past the table.
 pub fn perform(
+    k: u32,
+    m: Machine,
+    stack: &mut [u32],
+    exec: &mut [u32],
+    memory: &mut [u32],
+) -> Result<Machine, Error>
+    requires { Lent m stack.old exec.old memory.old }
+    ensures { Does (action_at k) m stack.old stack.new exec.old exec.new memory.old memory.new result }
+{
+    perform_word(word_at(k), m, stack, exec, memory)
+}
+
+// A word acts; no word is undefined.
+pub fn perform_word(
     word: Option<Word>,
     m: Machine,
     stack: &mut [u32],

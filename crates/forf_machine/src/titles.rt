@@ -1,5 +1,5 @@
 // The words, in the order of the definition's table, and which one some bytes are, by a key of them.
-ghost use Rattle.std.specs.Prelude.{◌≡◌, ◌≤◌, length};
+ghost use Rattle.std.specs.Prelude.{◌≡◌, ◌≤◌, length, min};
 ghost use Rattle.forf_machine.specs.Titles.{titles, place_of, place_in, key_of, keys, key_place};
 
 // The longest word of the table, ifelse.
@@ -87,6 +87,41 @@ fn word_of(key: u64) -> Option<Word>
         0x1_65_78_63_68 => Some(Word::Exch), // exch
         0x1_6D_73_65_74 => Some(Word::Mset), // mset
         0x1_6D_67_65_74 => Some(Word::Mget), // mget
+        _ => None,
+    }
+}
+
+// The word of this number, if there is one.
+pub fn word_at(k: u32) -> Option<Word>
+    ensures { place_of result ≡ min k 26 }
+{
+    match k {
+        0 => Some(Word::Not),
+        1 => Some(Word::IsZero),
+        2 => Some(Word::Abs),
+        3 => Some(Word::Add),
+        4 => Some(Word::Sub),
+        5 => Some(Word::Mul),
+        6 => Some(Word::Div),
+        7 => Some(Word::Rem),
+        8 => Some(Word::And),
+        9 => Some(Word::Or),
+        10 => Some(Word::Xor),
+        11 => Some(Word::Left),
+        12 => Some(Word::Right),
+        13 => Some(Word::Gt),
+        14 => Some(Word::Ge),
+        15 => Some(Word::Lt),
+        16 => Some(Word::Le),
+        17 => Some(Word::Eq),
+        18 => Some(Word::Ne),
+        19 => Some(Word::If),
+        20 => Some(Word::Ifelse),
+        21 => Some(Word::Pop),
+        22 => Some(Word::Dup),
+        23 => Some(Word::Exch),
+        24 => Some(Word::Mset),
+        25 => Some(Word::Mget),
         _ => None,
     }
 }

@@ -174,7 +174,7 @@ fn act(
         Item::Number(w) => m.push(stack, TAG_INTEGER, w),
         Item::Word(start, size) => {
             let word = forf_machine::operator_of(&script[start..start + size]);
-            forf_machine::perform(word, m, stack, exec, memory)
+            forf_machine::perform_word(word, m, stack, exec, memory)
         }
         Item::Substack(body) => m.push(stack, TAG_SUBSTACK, body as u32),
     }

@@ -29,6 +29,8 @@ impl From<Fault> for GroupError {
 
 // The group whose opening brace is before `from` is pushed: the machine then, and the offset after the group. Braces nest at most 16 deep, so 15 levels are left inside.
 // Ruled out: VMerror where the dictionary is full too; the cells of inner groups and strings left out of the test of room.
+// It stays a call of its own, whose answer stays in memory: `grouped` of step reads it there.
+#[inline(never)]
 pub fn take_group(
     m: Machine,
     stack: &mut [u32],

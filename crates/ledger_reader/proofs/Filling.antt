@@ -49,8 +49,8 @@ module _ {text : List ℕ} {start count : ℕ} {book : List Record} {i at : ℕ}
           ∙ sym (append_assoc (map record_of f.done) (record_of one.entry ∷ []) (drop (i + 1) book))
           ∙ ap (λ b. b ++ drop (i + 1) book) (sym (map-append record_of f.done (one.entry ∷ [])))
 
-      pub filling_next : Filling text start count book (i + 1) r.next (set now i e)
-      filling_next = record {
+      pub filling_next : {after : List Record} → after ≡ set now i e → Filling text start count book (i + 1) r.next after
+      filling_next k = record {
         done = f.done ++ one.entry ∷ [];
         rest = one.rest;
         whole = subst (RestAt text start) (ap (λ es. f.done ++ es) one.records ∙ sym (append_assoc f.done (one.entry ∷ []) one.rest)) f.whole;
@@ -58,7 +58,7 @@ module _ {text : List ℕ} {start count : ℕ} {book : List Record} {i at : ℕ}
         size = omega (arith, length-append f.done (one.entry ∷ []), f.size);
         sum = omega (arith, f.sum, ap length one.records);
         room = f.room;
-        stands = put;
+        stands = k ∙ put;
       }
 
   pub filling_ends : count ≤ i → Fills text start book now

@@ -75,7 +75,7 @@ fn fill(book: &mut [Record], text: &[u8], start: usize, count: usize)
         let Ok(entry) = line.entry else {
             return;
         };
-        book[i] = entry;
+        book::replace(book, i, entry);
         at = line.next;
     }
 }

@@ -85,6 +85,22 @@ pub fn check(script: &[u8], fuel: u32, lent: Lent) -> Result<(), Refusal>
     Ok(())
 }
 
+// `check` by its number alone. It stands in a module, since `Refusal` has the name outside.
+pub mod numbered {
+    use crate::{Lent, check};
+
+    // The number of the refusal, or 0 where the run is made.
+    // Ruled out: a refusal told as a run that is made; a run that is made told as a refusal.
+    pub fn refusal(script: &[u8], fuel: u32, lent: Lent) -> u32
+        ensures { result ≡ setup.refusal script.now fuel (lent_of lent) }
+    {
+        match check(script, fuel, lent) {
+            Ok(()) => 0,
+            Err(told) => told.number(),
+        }
+    }
+}
+
 // Whether the script's first five bytes are `#FLOO`.
 fn begins(script: &[u8]) -> bool
     ensures { result ≡ same (take 5 script.now) (bytes "#FLOO") }

@@ -11,14 +11,15 @@ ghost use Rattle.semantics.specs.Printing.{escaped, string_byte, name_byte, name
 ghost use Rattle.text.specs.Writing.{Written, is_plain, visible, quoted};
 ghost use Rattle.text.specs.Lengths.{string_byte_short, name_byte_short};
 
-// Bytes as they are.
+// Bytes as they are, one by one: `copy_from_slice` would make the archives for C ask for memcpy and memmove from outside.
 pub fn copy(out: &mut [u8], at: usize, text: &[u8]) -> usize
     requires { at + length text.now ≤ length out.old }
     ensures { Written at text.now out.old out.new result }
 {
-    let end = at + text.len();
-    out[at..end].copy_from_slice(text);
-    end
+    for (i, &b) in text.iter().enumerate() {
+        out[at + i] = b;
+    }
+    at + text.len()
 }
 
 // ---- numbers

@@ -1,35 +1,19 @@
 -- `enter` meets its contract: it replaces, adds, or leaves the book as it was (Entering).
-use Rattle.std.proofs.Common.{rules}
 use Rattle.std.proofs.Math.Logic.{inl, inr}
 use Rattle.book.proofs.Entering.{replaced_at, replaced, added_at, added, late, full}
 use Rattle.book.proofs.enter.Goals as goal
 
-pub bounds-book-judged : goal.bounds-book-judged
-bounds-book-judged c = replaced_at c.args.book.now c.in_ok-entry.entry c.args.count c.args.entry c.judge-judged.result c.in_ok-entry.was (c.requires c.in_ok-entry.entry c.in_ok-entry.was) c.judge-judged.ensures c.in-Replaces.is
+pub replace-requires : goal.replace-requires
+replace-requires c = replaced_at c.args.book.now c.in_ok-entry.entry c.args.count c.args.entry c.judge-judged.result c.in_ok-entry.was (c.requires c.in_ok-entry.entry c.in_ok-entry.was) c.judge-judged.ensures c.in-Replaces.is
 
-pub offset_bounds-book-judged : goal.offset_bounds-book-judged
-offset_bounds-book-judged c =
-    let l = replaced_at c.args.book.now c.in_ok-entry.entry c.args.count c.args.entry c.judge-judged.result c.in_ok-entry.was (c.requires c.in_ok-entry.entry c.in_ok-entry.was) c.judge-judged.ensures c.in-Replaces.is in
-    search (rules, l)
-
-pub bounds-book-count : goal.bounds-book-count
-bounds-book-count c = added_at c.args.book.now c.in_ok-entry.entry c.args.count c.args.entry c.judge-judged.result c.in_ok-entry.was (c.requires c.in_ok-entry.entry c.in_ok-entry.was) c.judge-judged.ensures c.in-Adds.is
-
-pub offset_bounds-book-count : goal.offset_bounds-book-count
-offset_bounds-book-count c =
-    let l = added_at c.args.book.now c.in_ok-entry.entry c.args.count c.args.entry c.judge-judged.result c.in_ok-entry.was (c.requires c.in_ok-entry.entry c.in_ok-entry.was) c.judge-judged.ensures c.in-Adds.is in
-    search (rules, l)
-
-pub overflow_add-result : goal.overflow_add-result
-overflow_add-result c =
-    let l = added_at c.args.book.now c.in_ok-entry.entry c.args.count c.args.entry c.judge-judged.result c.in_ok-entry.was (c.requires c.in_ok-entry.entry c.in_ok-entry.was) c.judge-judged.ensures c.in-Adds.is in
-    search (rules, l)
+pub append-requires : goal.append-requires
+append-requires c = added_at c.args.book.now c.in_ok-entry.entry c.args.count c.args.entry c.judge-judged.result c.in_ok-entry.was (c.requires c.in_ok-entry.entry c.in_ok-entry.was) c.judge-judged.ensures c.in-Adds.is
 
 pub returns-in-Replaces : goal.returns-in-Replaces
-returns-in-Replaces c = replaced c.args.book.now c.in_ok-entry.entry c.args.count c.args.entry c.judge-judged.result c.in_ok-entry.was (c.requires c.in_ok-entry.entry c.in_ok-entry.was) c.judge-judged.ensures c.in-Replaces.is
+returns-in-Replaces c = replaced c.args.book.now c.in_ok-entry.entry c.args.count c.args.entry c.judge-judged.result c.in_ok-entry.was (c.requires c.in_ok-entry.entry c.in_ok-entry.was) c.judge-judged.ensures c.in-Replaces.is c.replace.ensures
 
 pub returns-in-Adds : goal.returns-in-Adds
-returns-in-Adds c = added c.args.book.now c.in_ok-entry.entry c.args.count c.args.entry c.judge-judged.result c.in_ok-entry.was (c.requires c.in_ok-entry.entry c.in_ok-entry.was) c.judge-judged.ensures c.in-Adds.is
+returns-in-Adds c = added c.args.book.now c.in_ok-entry.entry c.args.count c.args.entry c.judge-judged.result c.in_ok-entry.was (c.requires c.in_ok-entry.entry c.in_ok-entry.was) c.judge-judged.ensures c.in-Adds.is c.append.ensures
 
 pub returns-in-Late : goal.returns-in-Late
 returns-in-Late c =

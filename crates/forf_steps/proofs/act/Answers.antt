@@ -14,7 +14,7 @@ pub returns-in-Number : goal.returns-in-Number
 returns-in-Number c = acts_as c.in-Number.is (number_acts _ _ c.push.ensures)
 
 pub returns-in-Word : goal.returns-in-Word
-returns-in-Word c = acts_as c.in-Word.is (word_acts _ _ c.operator_of-word.ensures c.perform.ensures)
+returns-in-Word c = acts_as c.in-Word.is (word_acts _ _ c.operator_of-word.ensures c.perform_word.ensures)
 
 pub returns-in-Substack : goal.returns-in-Substack
 returns-in-Substack c = acts_as c.in-Substack.is (substack_acts _ _ (held_as _ c.in-Substack.is c.requires.held) c.push-in-Substack.ensures)

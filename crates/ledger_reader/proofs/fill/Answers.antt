@@ -13,7 +13,7 @@ pub returns-in_default-entry : goal.returns-in_default-entry
 returns-in_default-entry c = absurd (filling_flaw c.loop-i.invariant c.in-Some.ensures c.in_default-entry.is)
 
 pub loop-i-preserved : goal.loop-i-preserved
-loop-i-preserved c = filling_next c.loop-i.invariant c.in-Some.ensures c.in-Ok.is c.loop-i-test.true
+loop-i-preserved c = filling_next c.loop-i.invariant c.in-Some.ensures c.in-Ok.is c.loop-i-test.true c.replace.ensures
 
 pub returns : goal.returns
 returns c = filling_ends c.loop-i.invariant c.loop-i-test.false
