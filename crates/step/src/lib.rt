@@ -23,7 +23,8 @@ pub struct State {
 }
 
 // A step that could not read its token has the empty command, so that its fault lies where nothing of the other answers does. It is no
-// `Result<State, Stop>`: tried alone, that form took a step of the counted loop from 79.47 machine instructions to 119.56 (docs/DESIGN-PASS.md).
+// `Result<State, Stop>`: on the tree before the design pass that form, with two changes that alone cost nothing, took a step of the counted loop from 79.47 machine
+// instructions to 119.56 (docs/DESIGN-PASS.md).
 #[derive(Clone, Copy)]
 pub enum Stepped {
     Goes(State),

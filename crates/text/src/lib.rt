@@ -24,11 +24,14 @@ pub fn copy(out: &mut [u8], at: usize, text: &[u8]) -> usize
 
 // ---- numbers
 
-// The digits of a number, without leading zeros: 0 has one, as 1 has.
+// The digits of a number, without leading zeros, counted by division: the logarithm of the library has a table of powers of ten.
 pub fn decimal_length(n: u32) -> usize
     ensures { result ≡ length (decimal n) }
 {
-    n.max(1).ilog10() as usize + 1
+    if 10 <= n {
+        return decimal_length(n / 10) + 1;
+    }
+    1
 }
 
 // The number without its last digit, then that digit. The one writer of numbers, for log, cvs and outcome: that it calls itself, ten deep at most, keeps the
